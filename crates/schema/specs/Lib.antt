@@ -1,0 +1,2 @@
+-- What the contracts of `schema` cite.
+pub mod Types

@@ -1,0 +1,4 @@
+-- What the contracts of `words` cite: the words that the row layout is written in.
+pub mod Bytes
+pub mod Bits
+pub mod Signed

@@ -1,0 +1,1 @@
+// Bytes: little-endian numbers, slots, null bits, signed numbers, padding and copies.
