@@ -1,2 +1,3 @@
 -- What the contracts of `schema` cite.
+pub mod Marks
 pub mod Types

@@ -1,6 +1,7 @@
--- The types of document 01. Assumes nothing: these are definitions.
+-- The types of document 01, and what the table says of each. Assumes nothing: these are definitions.
 use mathlib.Core.List.{List, [], _∷_}
 use Prim.Native.Nat.{ℕ, zero, suc}
+use Rattle.schema.specs.Marks.{line, markAt}
 
 -- the types of a fixed width: bool, int8, int16, int32, int64, float32, float64
 pub data Fixed : Type 0 where
@@ -34,3 +35,31 @@ unfoldable pub field : Tys → ℕ → Ty
 field end i = text st
 field (t then ts) zero = t
 field (t then ts) (suc i) = field ts i
+
+-- ---- their lines of the table
+
+unfoldable pub fixedPlace : Fixed → ℕ
+fixedPlace bo = 0
+fixedPlace i1 = 1
+fixedPlace i2 = 2
+fixedPlace i4 = 3
+fixedPlace i8 = 4
+fixedPlace f4 = 5
+fixedPlace f8 = 6
+
+unfoldable pub textPlace : Text → ℕ
+textPlace st = 7
+textPlace bi = 8
+
+unfoldable pub place : Ty → ℕ
+place (fix f) = fixedPlace f
+place (text t) = textPlace t
+place (li t) = 9
+place (ma k v) = 10
+place (ro ts) = 11
+
+unfoldable pub width : Fixed → ℕ
+width f = line (fixedPlace f) .width
+
+unfoldable pub mark : Ty → List ℕ
+mark t = markAt (place t)
