@@ -1,0 +1,278 @@
+-- The laws of struct, list and map, and so of every type: what is laid down is read back, and what is read was laid down.
+-- Assumes nothing.
+use mathlib.Core.Path.{_≡_, refl, sym, ap, _∙_}
+use mathlib.Core.Option.{Option, none, some}
+use mathlib.Core.List.{List, [], _∷_, _++_, append-assoc, map}
+use Prim.Native.Nat.{ℕ, zero, suc, _+_, _*_, _-_, _%_, _^_, _≤_, _<_}
+use native.Mathlib.Omega.{arith}
+use native.Mathlib.Decide.{decLt, ℕ-discrete}
+use lib.ListN.{length, replicate, length-append, length-replicate, length-map}
+use Rattle.words.specs.Bytes.{Bytes, le, num, zeros, fill, pad, padded, bitmap}
+use Rattle.words.proofs.Numbers.{bytes-append, bytes-le, bytes-fill, length-le, num-le, le-num, num-zeros, length-padded, fill-is}
+use Rattle.schema.specs.Types.{width, Ty, fix, text, li, ma, ro, Tys, end, _then_, count}
+use Rattle.schema.proofs.Table.{width-8}
+use Rattle.layout.specs.Reader.{assert, cut}
+use Rattle.layout.specs.Tiles.{Range, total}
+use Rattle.layout.specs.Cells.{Cell, leaf, node, flag, parts, part, clean}
+use Rattle.layout.specs.Layout.{Codec, Kid, kid, kidOf, slotOf, AllFit, flags, slots, tails, AllLay, reads, front, bodyPut, BodyLays, bodyGet, StructFits, StructLays, struct, ListFits, ListLays, array, MapFits, MapLays, pair, limit, list, codec, kids, Fits, content, Lays, decode}
+use Rattle.layout.proofs.Cells.{parts-node, node-here, parts-clean, clean-node, node-clean, part-clean, count-clean}
+use Rattle.layout.proofs.Reader.{When, yields, when-bind, when-then, when-map, when-some, when-assert, assert-yes, Cut, cut-back, cut-forth}
+use Rattle.layout.proofs.Kids.{Lawful, LawfulKid, Cleaned, number-lawful, string-lawful, kid-array, kid-struct}
+use Rattle.layout.proofs.Children.{AllLawful, all-length, all-fit, AllTake, all-take, reads-back, reads-forth, Laid, all-laid, slots-length, slots-proper, tails-proper, all-cleaned, flags-lt, flags-fit}
+
+-- ---- a body: bitmap, slots, data
+
+pub body-length : (h w : ℕ) (ks : List Kid) (cs : List Cell) → AllLawful w ks → AllFit w ks cs
+    → h + length (bodyPut h w ks cs) ≡ front h w (length ks) + length (tails ks cs)
+unfolding bodyPut
+body-length h w ks cs l f =
+    let s = slots (front h w (length ks)) ks cs in
+    rw (length-append, length-append, length-le, length-padded s, slots-length w (front h w (length ks)) ks cs l f) (omega arith)
+
+module _ (h w : ℕ) (ks : List Kid) (l : AllLawful w ks) where
+  pub body-take : (cs : List Cell) (b : List ℕ) (y : BodyLays h w ks cs b) → AllTake w ks cs (y .slots) [] (y .ranges)
+  body-take cs b y = all-take w (front h w (length ks)) (y .variable) ks cs (y .slots) [] (y .ranges) l (y .children)
+
+  -- its data is what there is behind the fixed part
+  pub body-total : (cs : List Cell) (b : List ℕ) (y : BodyLays h w ks cs b) → h + length b ≡ front h w (length ks) + length (y .variable)
+  body-total cs b y = rw (← (y .whole), length-append, length-append, length-le, length-padded (y .slots), body-take cs b y .slots) (omega arith)
+
+  pub body-fit : (cs : List Cell) (b : List ℕ) → BodyLays h w ks cs b → AllFit w ks cs
+  body-fit cs b y = all-fit w (front h w (length ks)) (y .variable) ks cs (y .slots) [] (y .ranges) l (y .children)
+
+  body-size : (cs : List Cell) (b : List ℕ) → BodyLays h w ks cs b → length b ≡ length (bodyPut h w ks cs)
+  unfolding total
+  body-size cs b y = omega (arith, body-take cs b y .adds, y .ends, body-total cs b y, body-length h w ks cs l (body-fit cs b y))
+
+  body-laid : (cs : List Cell) → h % 8 ≡ 0 → AllFit w ks cs → BodyLays h w ks cs (bodyPut h w ks cs)
+  unfolding bodyPut total
+  body-laid cs e f =
+      let at = front h w (length ks) in
+      let o : at + 0 ≡ at = omega arith in
+      let y = rw o at (all-laid w at [] ks cs [] l f tt refl (omega arith)) in
+      record { slots = slots at ks cs; variable = tails ks cs; ranges = y .ranges; whole = refl; children = y .children; ends = y .ends }
+
+  body-back : (cs : List Cell) (b : List ℕ) → BodyLays h w ks cs b → h + length b < 2 ^ 32 → bodyGet h w ks b ≡ some cs
+  unfolding bodyGet fill
+  body-back cs b y lim =
+      let n = length ks in
+      let at = front h w n in
+      let s = y .slots in
+      let d = y .variable in
+      let v = zeros (pad (length s) - length s) in
+      let t = body-take cs b y .slots in
+      let c = all-length w ks cs (body-fit cs b y) in
+      let e : num (le (bitmap n) (flags cs)) ≡ flags cs = num-le (bitmap n) (flags cs) (rw c at (flags-fit cs)) in
+      rw (
+        ← (y .whole),
+        cut-back (bitmap n) (le (bitmap n) (flags cs)) _ (length-le (bitmap n) (flags cs)),
+        append-assoc s v d,
+        cut-back (n * w) s (v ++ d) t,
+        cut-back (pad (n * w) - n * w) v d (length-replicate (pad (length s) - length s) 0 ∙ rw t),
+        e,
+        assert-yes (decLt (flags cs) (2 ^ n)) (rw c at (flags-lt cs)),
+        reads-back w at d ks cs s [] (y .ranges) l (y .children) (omega (arith, body-total cs b y)),
+        assert-yes (ℕ-discrete (num v) 0) (num-zeros (pad (length s) - length s)),
+        assert-yes (ℕ-discrete (total (y .ranges)) (length d)) (y .ends),
+      )
+
+  body-forth : (b : List ℕ) → Bytes b → When (λ cs. BodyLays h w ks cs b) (bodyGet h w ks b)
+  unfolding bodyGet
+  body-forth b hb =
+      let n = length ks in
+      when-bind (cut-forth (bitmap n) hb) λ (m, r) p.
+      when-bind (cut-forth (n * w) (p .rest)) λ (s, r′) q.
+      when-bind (cut-forth (pad (n * w) - n * w) (q .rest)) λ (z, d) t.
+      when-then (when-assert (decLt (num m) (2 ^ n))) λ _ f.
+      when-bind (reads-forth w (front h w n) d ks (num m) s [] l f (q .size) (q .front) (t .rest)) λ (cs, rs) y.
+      when-then (when-assert (ℕ-discrete (num z) 0)) λ _ o.
+      when-then (when-assert (ℕ-discrete (total rs) (length d))) λ _ i.
+      let e : le (bitmap n) (num m) ≡ m = rw (p .size) at (le-num (p .front)) in
+      let k : length s + length z ≡ pad (length s) = omega (arith, q .size, t .size) in
+      let g : padded s ++ d ≡ r = rw (fill-is s z (pad (length s)) o k, append-assoc, t .whole) (q .whole) in
+      yields (record { slots = s; variable = d; ranges = rs; whole = rw (y .0, e, g) (p .whole); children = y .1; ends = i })
+
+  body-proper : (cs : List Cell) → AllFit w ks cs → Bytes (bodyPut h w ks cs)
+  unfolding bodyPut
+  body-proper cs f =
+      let at = front h w (length ks) in
+      bytes-append (bytes-le (bitmap (length ks)) (flags cs)) (bytes-append (bytes-fill _ (slots-proper w at ks cs l f)) (tails-proper w ks cs l f))
+
+  body-cleaned : (cs : List Cell) → AllFit w ks cs → AllFit w ks (map clean cs) × (length (bodyPut h w ks (map clean cs)) ≡ length (bodyPut h w ks cs))
+  body-cleaned cs f =
+      let a = all-cleaned w ks cs l f in
+      (a .fit, omega (arith, a .size, body-length h w ks cs l f, body-length h w ks (map clean cs) l (a .fit)))
+
+-- ---- containers
+
+struct-lawful : (ks : List Kid) → AllLawful 8 ks → Lawful (struct ks)
+unfolding struct
+struct-lawful ks l = record {
+  here = λ x f. node-here x (parts x) (f .plain);
+  sized = tt;
+  proper = λ x f. body-proper 0 8 ks l (parts x) (f .children);
+  cleaned = λ x f.
+      let a = body-cleaned 0 8 ks l (parts x) (f .children) in
+      record { fits = record { plain = node-clean x (f .plain); children = rw parts-clean (a .0) }; size = rw parts-clean (a .1) };
+  fits = λ x b y. record { plain = y .plain; children = body-fit 0 8 ks l (parts x) b (y .body) };
+  size = λ x b y. body-size 0 8 ks l (parts x) b (y .body);
+  laid = λ x f. record { plain = f .plain; body = body-laid 0 8 ks l (parts x) refl (f .children) };
+  back = λ x b y n. rw (body-back 0 8 ks l (parts x) b (y .body) (omega arith)) (ap some (sym (y .plain)));
+  forth = λ b hb. when-bind (body-forth 0 8 ks l b hb) λ cs y. yields {a = node cs} (record { plain = rw parts-node; body = rw parts-node y });
+}
+
+pub repeat : (w n : ℕ) (k : Kid) → LawfulKid w k → AllLawful w (replicate n k)
+repeat w zero k l = tt
+repeat w (suc n) k l = (l, repeat w n k l)
+
+array-lawful : (w : ℕ) (k : Kid) → LawfulKid w k → Lawful (array w k)
+unfolding array
+array-lawful w k l = record {
+  here = λ x f. node-here x (parts x) (f .plain);
+  sized = tt;
+  proper = λ x f. bytes-append (bytes-le 8 (length (parts x))) (body-proper 8 w (replicate (length (parts x)) k) (repeat w (length (parts x)) k l) (parts x) (f .children));
+  cleaned = λ x f.
+      let n = length (parts x) in
+      let a = body-cleaned 8 w (replicate n k) (repeat w n k l) (parts x) (f .children) in
+      record {
+        fits = record { plain = node-clean x (f .plain); children = rw (parts-clean, length-map) (a .0) };
+        size = rw (parts-clean, length-map, length-append, length-append, a .1, length-le);
+      };
+  fits = λ x b y. record { plain = y .plain; children = body-fit 8 w (replicate (length (parts x)) k) (repeat w (length (parts x)) k l) (parts x) (y .rest) (y .body) };
+  size = λ x b y. rw (← (y .whole), length-append, length-append, length-le, body-size 8 w (replicate (length (parts x)) k) (repeat w (length (parts x)) k l) (parts x) (y .rest) (y .body));
+  laid = λ x f. record { rest = _; plain = f .plain; whole = refl; body = body-laid 8 w (replicate (length (parts x)) k) (repeat w (length (parts x)) k l) (parts x) refl (f .children) };
+  back = λ x b y m.
+      let n = length (parts x) in
+      let e = repeat w n k l in
+      let c : 8 + length (y .rest) < 2 ^ 32 = omega (arith, length-append (le 8 n) (y .rest), length-le 8 n, ap length (y .whole)) in
+      let z = body-total 8 w (replicate n k) e (parts x) (y .rest) (y .body) in
+      rw (← (y .whole), cut-back 8 (le 8 n) _ (length-le 8 n), num-le 8 n (omega (arith, length-replicate n k)), body-back 8 w (replicate n k) e (parts x) (y .rest) (y .body) c) (ap some (sym (y .plain)));
+  forth = λ b hb.
+      when-bind (cut-forth 8 hb) λ (h, r) p.
+      when-bind (body-forth 8 w (replicate (num h) k) (repeat w (num h) k l) r (p .rest)) λ cs y.
+      let e : length cs ≡ num h = all-length w (replicate (num h) k) cs (body-fit 8 w (replicate (num h) k) (repeat w (num h) k l) cs r y) ∙ length-replicate (num h) k in
+      let g : le 8 (num h) ≡ h = rw (p .size) at (le-num (p .front)) in
+      yields {a = node cs} (record { rest = r; plain = rw parts-node; whole = rw (parts-node, e, g) (p .whole); body = rw (parts-node, e) y });
+}
+
+pair-lawful : (k v : Codec) → Lawful k → Lawful v → Lawful (pair k v)
+unfolding pair
+pair-lawful k v lk lv = record {
+  here = λ x f. node-here x _ (f .plain);
+  sized = tt;
+  proper = λ x f. bytes-append (bytes-le 8 (length (k .put (part 0 x)))) (bytes-append (lk .proper (part 0 x) (f .keys)) (lv .proper (part 1 x) (f .values)));
+  cleaned = λ x f.
+      let a = lk .cleaned (part 0 x) (f .keys) in
+      let b = lv .cleaned (part 1 x) (f .values) in
+      let e : clean x ≡ node (clean (part 0 x) ∷ clean (part 1 x) ∷ []) = ap clean (f .plain) ∙ clean-node (part 0 x ∷ part 1 x ∷ []) in
+      record {
+        fits = record { plain = simp part-clean e; keys = simp part-clean (a .fits); values = simp part-clean (b .fits); counts = simp (part-clean, count-clean) (f .counts) };
+        size = simp (part-clean, length-append, length-le) (omega (arith, a .size, b .size));
+      };
+  fits = λ x b y. record { plain = y .plain; keys = lk .fits (part 0 x) (y .keysArray) (y .keys); values = lv .fits (part 1 x) (y .valuesArray) (y .values); counts = y .counts };
+  size = λ x b y.
+      let a = lk .size (part 0 x) (y .keysArray) (y .keys) in
+      let c = lv .size (part 1 x) (y .valuesArray) (y .values) in
+      rw (← (y .whole)) (simp (length-append, length-le) (omega arith));
+  laid = λ x f. record {
+    keysArray = k .put (part 0 x);
+    valuesArray = v .put (part 1 x);
+    plain = f .plain;
+    whole = refl;
+    keys = lk .laid (part 0 x) (f .keys);
+    values = lv .laid (part 1 x) (f .values);
+    counts = f .counts;
+  };
+  back = λ x b y m.
+      let p = y .keysArray in
+      let q = y .valuesArray in
+      let n : length p + length q < 2 ^ 32 = omega (arith, length-append (le 8 (length p)) (p ++ q), length-append p q, ap length (y .whole)) in
+      rw (
+        ← (y .whole),
+        cut-back 8 (le 8 (length p)) _ (length-le 8 (length p)),
+        num-le 8 (length p) (omega arith),
+        cut-back (length p) p q refl,
+        lk .back (part 0 x) p (y .keys) (omega arith),
+        lv .back (part 1 x) q (y .values) (omega arith),
+        assert-yes (ℕ-discrete (length (parts (part 0 x))) (length (parts (part 1 x)))) (y .counts),
+      ) (ap some (sym (y .plain)));
+  forth = λ b hb.
+      when-bind (cut-forth 8 hb) λ (h, r) c.
+      when-bind (cut-forth (num h) (c .rest)) λ (p, q) d.
+      when-bind (lk .forth p (d .front)) λ ks s.
+      when-bind (lv .forth q (d .rest)) λ vs t.
+      when-then (when-assert (ℕ-discrete (length (parts ks)) (length (parts vs)))) λ _ e.
+      let g : le 8 (num h) ≡ h = rw (c .size) at (le-num (c .front)) in
+      yields {a = node (ks ∷ vs ∷ [])} (record {
+        keysArray = p;
+        valuesArray = q;
+        plain = rw parts-node refl;
+        whole = rw (d .size, g, d .whole) (c .whole);
+        keys = rw parts-node s;
+        values = rw parts-node t;
+        counts = rw parts-node e;
+      });
+}
+
+-- ---- types
+
+pub list-lawful : (c : Codec) → Lawful c → Lawful (list c)
+list-lawful c l = array-lawful (slotOf (c .wide)) (kid (slotOf (c .wide)) c) (kid-array (c .wide) c l (l .sized))
+
+mutual
+  unfolding codec
+
+  pub codec-lawful : (t : Ty) → Lawful (codec t)
+  codec-lawful (fix f) = number-lawful (width f) (limit f) (width-8 f)
+  codec-lawful (text t) = string-lawful
+  codec-lawful (li t) = list-lawful (codec t) (codec-lawful t)
+  codec-lawful (ma k v) = pair-lawful (list (codec k)) (list (codec v)) (list-lawful (codec k) (codec-lawful k)) (list-lawful (codec v) (codec-lawful v))
+  codec-lawful (ro ts) = struct-lawful (kids ts) (kids-lawful ts)
+
+  pub kids-lawful : (ts : Tys) → AllLawful 8 (kids ts)
+  kids-lawful end = tt
+  kids-lawful (t then ts) = (kid-struct (codec t .wide) (codec t) (codec-lawful t) (codec-lawful t .sized), kids-lawful ts)
+
+-- a type's element is lawful in an array, and its child in a struct
+pub element-lawful : (t : Ty) → LawfulKid (slotOf (codec t .wide)) (kid (slotOf (codec t .wide)) (codec t))
+element-lawful t = kid-array (codec t .wide) (codec t) (codec-lawful t) (codec-lawful t .sized)
+
+pub child-lawful : (t : Ty) → LawfulKid 8 (kid 8 (codec t))
+child-lawful t = kid-struct (codec t .wide) (codec t) (codec-lawful t) (codec-lawful t .sized)
+
+pub kids-count : (ts : Tys) → length (kids ts) ≡ count ts
+unfolding codec count
+kids-count end = refl
+kids-count (t then ts) = ap suc (kids-count ts)
+
+-- what stands for contents is read as them
+pub decode-lays : (t : Ty) (c : Cell) (b : List ℕ) → Lays t c b → length b < 2 ^ 32 → decode t b ≡ some c
+decode-lays t c b y h = codec-lawful t .back c b y h
+
+-- what is read stands for what it is read as
+pub lays-decode : (t : Ty) (b : List ℕ) (c : Cell) → Bytes b → decode t b ≡ some c → Lays t c b
+lays-decode t b c h e = when-some {P = λ x. Lays t x b} (codec-lawful t .forth b h) e
+
+-- what is written stands for what it was written for
+pub lays-content : (t : Ty) (c : Cell) → Fits t c → Lays t c (content t c)
+lays-content t c f = codec-lawful t .laid c f
+
+pub decode-content : (t : Ty) (c : Cell) → Fits t c → length (content t c) < 2 ^ 32 → decode t (content t c) ≡ some c
+decode-content t c f h = decode-lays t c (content t c) (lays-content t c f) h
+
+pub lays-fits : (t : Ty) (c : Cell) (b : List ℕ) → Lays t c b → Fits t c
+lays-fits t c b y = codec-lawful t .fits c b y
+
+pub lays-size : (t : Ty) (c : Cell) (b : List ℕ) → Lays t c b → length b ≡ length (content t c)
+lays-size t c b y = codec-lawful t .size c b y
+
+-- what is written is bytes
+pub bytes-content : (t : Ty) (c : Cell) → Fits t c → Bytes (content t c)
+bytes-content t c f = codec-lawful t .proper c f
+
+-- with zeros under the nulls the contents fit, in as many bytes, and are read back
+pub clean-fits : (t : Ty) (c : Cell) → Fits t c → Cleaned (Fits t) (content t) c
+clean-fits t c f = codec-lawful t .cleaned c f
+
+pub decode-clean : (t : Ty) (c : Cell) → Fits t c → length (content t c) < 2 ^ 32 → decode t (content t (clean c)) ≡ some (clean c)
+decode-clean t c f h = let a = clean-fits t c f in decode-content t (clean c) (a .fits) (omega (arith, a .size))

@@ -1,0 +1,6 @@
+-- The definitions that a reader must believe, in the order in which they build on each other.
+pub mod Cells
+pub mod Reader
+pub mod Tiles
+pub mod Layout
+pub mod Listing
