@@ -6,3 +6,7 @@ pub mod Children
 pub mod Containers
 pub mod Items
 pub mod Listed
+pub mod Exact
+pub mod Rows
+pub mod Cursor
+pub mod Steps
