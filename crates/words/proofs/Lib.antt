@@ -1,1 +1,9 @@
+-- Laws that the proofs of more than one function, and other crates, cite.
 pub mod Numbers
+pub mod Parts
+pub mod Runs
+pub mod NumLaws
+pub mod Turns
+pub mod BitLaws
+pub mod SignedLaws
+mod Examples

@@ -1,1 +1,7 @@
 // Bytes: little-endian numbers, slots, null bits, signed numbers, padding and copies.
+pub mod copies;
+pub mod nulls;
+pub mod nums;
+pub mod signed;
+pub mod sizes;
+pub mod slots;

@@ -1,0 +1,124 @@
+-- Little-endian numbers over the width: sums of parts, bytes of a joined number, the halves of a slot. Assumes nothing.
+use mathlib.Core.Path.{_≡_, refl, sym, ap, ap₂, _∙_}
+use mathlib.Core.List.{List, [], _∷_, _++_}
+use Prim.Native.Nat.{ℕ, zero, suc, _+_, _*_, _/_, _%_, _^_, _≤_, _<_}
+use native.Mathlib.Nat.{pow-suc, mul-comm, mul-assoc, lt-of-lt-of-le, pow-le-pow-right, one-le-pow, div-div-eq-div-mul, div-eq-of-lt, mod-eq-of-lt}
+use native.Mathlib.Omega.{arith}
+use lib.Dec.{lit<}
+use lib.ListN.{length, getD}
+use lib.Arith.{digits-div, digits-mod, mod-mul}
+use lib.Pow.{pow-add}
+use Rattle.words.specs.Bytes.{Bytes, le, num, part, zeros}
+use Rattle.words.proofs.Numbers.{num-lt, length-le, bytes-le, le-num}
+use Rattle.words.proofs.Parts.{length-part, bytes-part, part-add, part-cons, part-snoc}
+
+pub pow256 : (k : ℕ) → 256 ^ k ≡ 2 ^ (8 * k)
+pow256 zero = refl
+pow256 (suc k) =
+    let e : 8 * suc k ≡ 8 * k + 8 = omega arith in
+    rw (pow-suc, pow256 k, e, pow-add 2 (8 * k) 8)
+
+-- ---- the number of bytes side by side
+
+pub num-append : (a b : List ℕ) → num (a ++ b) ≡ num a + 256 ^ length a * num b
+unfolding num
+num-append [] b = omega arith
+num-append (x ∷ a) b =
+    let e : 256 ^ suc (length a) * num b ≡ 256 * (256 ^ length a * num b) = ap (λ (n : ℕ). n * num b) (pow-suc 256 (length a) ∙ mul-comm (256 ^ length a) 256) ∙ mul-assoc 256 (256 ^ length a) (num b) in
+    rw (num-append a b, e) (omega arith)
+
+-- the number of k bytes of a run is below 256 ^ k
+pub part-lt : {b : List ℕ} (at k : ℕ) → Bytes b → at + k ≤ length b → num (part b at k) < 256 ^ k
+part-lt {b} at k h f = rw (length-part b at k f) at (num-lt (bytes-part at k h))
+
+-- the number of j + k bytes, its high part first
+pub num-part : (b : List ℕ) (at j k : ℕ) → at + j ≤ length b → num (part b at (j + k)) ≡ num (part b (at + j) k) * 256 ^ j + num (part b at j)
+num-part b at j k f =
+    let long : length (part b at j) ≡ j = length-part b at j f in
+    rw (part-add b at j k, num-append (part b at j) (part b (at + j) k), long, mul-comm (num (part b (at + j) k)) (256 ^ j)) (omega arith)
+
+-- the halves of a number of j + k bytes, as they stand
+pub num-high : {b : List ℕ} (at j k : ℕ) → Bytes b → at + j ≤ length b → num (part b at (j + k)) / 256 ^ j ≡ num (part b (at + j) k)
+num-high {b} at j k h f = rw (num-part b at j k f) (digits-div (num (part b (at + j) k)) (part-lt at j h f))
+
+pub num-low : {b : List ℕ} (at j k : ℕ) → Bytes b → at + j ≤ length b → num (part b at (j + k)) % 256 ^ j ≡ num (part b at j)
+num-low {b} at j k h f = rw (num-part b at j k f) (digits-mod (num (part b (at + j) k)) (part-lt at j h f))
+
+-- a slot's offset and size are its upper and its lower 4 bytes
+pub slot-high : {b : List ℕ} (at : ℕ) → Bytes b → at + 8 ≤ length b → num (part b at 8) / 2 ^ 32 ≡ num (part b (at + 4) 4)
+slot-high at h f = num-high at 4 4 h (omega arith)
+
+pub slot-low : {b : List ℕ} (at : ℕ) → Bytes b → at + 8 ≤ length b → num (part b at 8) % 2 ^ 32 ≡ num (part b at 4)
+slot-low at h f = num-low at 4 4 h (omega arith)
+
+-- ---- the bytes of a number
+
+-- back and there: what w bytes hold of a number
+pub num-le-mod : (w x : ℕ) → num (le w x) ≡ x % 256 ^ w
+unfolding le num
+num-le-mod zero x = omega arith
+num-le-mod (suc w) x =
+    let e : x % (256 ^ w * 256) ≡ (x / 256 % 256 ^ w) * 256 + x % 256 = mod-mul x (one-le-pow w 256 (lit< tt)) (lit< tt) in
+    rw (num-le-mod w (x / 256), pow-suc, e) (omega arith)
+
+-- two numbers that the same bytes give are one
+pub le-inj : (w x y : ℕ) → x < 256 ^ w → y < 256 ^ w → le w x ≡ le w y → x ≡ y
+le-inj w x y p q e = sym (num-le-mod w x ∙ mod-eq-of-lt p) ∙ ap num e ∙ num-le-mod w y ∙ mod-eq-of-lt q
+
+-- the low bytes see only what they hold
+pub le-mod : (w x : ℕ) → le w (x % 256 ^ w) ≡ le w x
+le-mod w x =
+    ap (le w) (sym (num-le-mod w x)) ∙ ap (λ (j : ℕ). le j (num (le w x))) (sym (length-le w x)) ∙ le-num (bytes-le w x)
+
+-- the first j of j + k bytes, and the k above them
+pub le-add : (j k x : ℕ) → le (j + k) x ≡ le j x ++ le k (x / 256 ^ j)
+unfolding le
+le-add zero k x =
+    let e : 0 + k ≡ k = omega arith in
+    let f : x / 1 ≡ x = omega arith in
+    rw (e, f)
+le-add (suc j) k x =
+    let e : suc j + k ≡ suc (j + k) = omega arith in
+    let f : x / 256 / 256 ^ j ≡ x / 256 ^ suc j = div-div-eq-div-mul x 256 (256 ^ j) ∙ ap (λ (n : ℕ). x / n) (mul-comm 256 (256 ^ j) ∙ sym (pow-suc 256 j)) in
+    rw (e, le-add j k (x / 256), f)
+
+le-one : (x : ℕ) → le 1 x ≡ x % 256 ∷ []
+unfolding le
+le-one x = refl
+
+-- one byte more
+pub le-snoc : (w x : ℕ) → le (suc w) x ≡ le w x ++ (x / 256 ^ w % 256 ∷ [])
+le-snoc w x =
+    let e : suc w ≡ w + 1 = omega arith in
+    ap (λ (n : ℕ). le n x) e ∙ le-add w 1 x ∙ ap (λ (t : List ℕ). le w x ++ t) (le-one (x / 256 ^ w))
+
+-- a number in two parts: its low bytes, then its high ones
+pub le-join : (j k hi lo : ℕ) → lo < 256 ^ j → le (j + k) (hi * 256 ^ j + lo) ≡ le j lo ++ le k hi
+le-join j k hi lo h =
+    le-add j k (hi * 256 ^ j + lo)
+    ∙ ap₂ (λ (a b : List ℕ). a ++ b) (sym (le-mod j (hi * 256 ^ j + lo)) ∙ ap (le j) (digits-mod hi h)) (ap (le k) (digits-div hi h))
+
+-- a slot is its size, then its offset
+pub le-slot : (off size : ℕ) → size < 2 ^ 32 → le 8 (off * 2 ^ 32 + size) ≡ le 4 size ++ le 4 off
+le-slot off size h = le-join 4 4 off size h
+
+pub le-zero : (w : ℕ) → le w 0 ≡ zeros w
+unfolding le
+le-zero zero = refl
+le-zero (suc w) = ap (λ (l : List ℕ). 0 ∷ l) (le-zero w)
+
+-- a number of j bytes in j + k is those bytes and zeros, whatever it stands for: no fill by the sign
+pub le-pad : (j k x : ℕ) → x < 256 ^ j → le (j + k) x ≡ le j x ++ zeros k
+le-pad j k x h = le-add j k x ∙ ap (λ (l : List ℕ). le j x ++ l) (ap (le k) (div-eq-of-lt h) ∙ le-zero k)
+
+-- ---- one byte
+
+pub num-one : (b : List ℕ) (at : ℕ) → at < length b → num (part b at 1) ≡ getD b at 0
+unfolding num
+num-one b at h = rw (part-cons b at 0 h) (omega arith)
+
+-- one byte more above those read
+pub num-snoc : (b : List ℕ) (at k : ℕ) → at + k < length b → num (part b at (suc k)) ≡ getD b (at + k) 0 * 2 ^ (8 * k) + num (part b at k)
+num-snoc b at k h =
+    let e : suc k ≡ k + 1 = omega arith in
+    rw (e, num-part b at k 1 (omega arith), num-one b (at + k) h, pow256 k)
