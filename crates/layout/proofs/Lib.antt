@@ -10,3 +10,4 @@ pub mod Exact
 pub mod Rows
 pub mod Cursor
 pub mod Steps
+pub mod Cases

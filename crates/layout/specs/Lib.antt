@@ -4,3 +4,6 @@ pub mod Reader
 pub mod Tiles
 pub mod Layout
 pub mod Listing
+pub mod Walk
+pub mod Reading
+pub mod Setting

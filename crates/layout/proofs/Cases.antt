@@ -1,0 +1,171 @@
+-- The cases of document 01 that the layout's definitions decide, computed: one statement. Assumes nothing.
+use mathlib.Core.Path.{_≡_, refl}
+use mathlib.Core.Bool.{true, false}
+use mathlib.Core.Option.{Option, none, some}
+use mathlib.Core.List.{List, [], _∷_, _++_}
+use Prim.Native.Nat.{ℕ, zero, suc, _+_, _*_, _^_}
+use native.Mathlib.Decide.{decLe, decLt, ℕ-discrete}
+use lib.IntN.{pos, negsuc}
+use lib.ListN.{length, getD, replicate, set, take, drop}
+use Rattle.words.specs.Bytes.{le, num, fill, zeros, part}
+use Rattle.schema.specs.Marks.{types, markAt}
+use Rattle.schema.specs.Types.{Fixed, bo, i1, i2, i4, i8, f4, f8, Text, st, bi, Ty, fix, text, li, ma, ro, Tys, end, _then_, count, field, fixedPlace, textPlace, place, width, mark}
+use Rattle.layout.specs.Reader.{assert, cut}
+use Rattle.layout.specs.Tiles.{total, both?, change?, stands?}
+use Rattle.layout.specs.Cells.{Cell, null, leaf, node, fromCells, toCells, onNull, bytes, parts, clean}
+use Rattle.layout.specs.Layout.{number, string, inside, outside, kidOf, slotOf, kidGet, flags, slots, tails, reads, front, bodyPut, bodyGet, struct, array, pair, limit, codec, content, decode}
+use Rattle.layout.specs.Listing.{nu, numberScript, textScript, marked, nullOr, item, runPut, runGet, structScript, listScript, mapScript, script, listing, parse}
+use Rattle.layout.specs.Walk.{must, mustStep, own, bySlot, byFlag, child, stepIn, goOn, walk}
+use Rattle.layout.specs.Reading as R
+use Rattle.layout.specs.Reading.{typeAt, placed, valueOf, answerOf, found, readIn}
+use Rattle.layout.specs.Setting as S
+use Rattle.layout.specs.Setting.{boolBytes, signedBytes, float32Bytes, float64Bytes, inBytes, suits, keepsText, keeps, refusalIn, judgeAt, writeFixed, write, writeAt, Outcome, refuses, becomes, outcome, setIn}
+
+-- to unfold this is to unfold the definitions
+computes : Unit {0}
+unfolding le num fill types markAt fixedPlace textPlace place width mark count field assert cut total both? change? stands? fromCells toCells onNull bytes parts clean
+    number string inside outside kidOf slotOf kidGet flags slots tails reads bodyPut bodyGet struct array pair limit codec
+    numberScript textScript marked nullOr item runPut runGet structScript listScript mapScript script listing parse
+    must mustStep own bySlot byFlag child stepIn goOn walk typeAt placed valueOf answerOf found readIn
+    boolBytes signedBytes float32Bytes float64Bytes inBytes suits keepsText keeps refusalIn judgeAt writeFixed write writeAt outcome setIn decLe decLt ℕ-discrete
+computes = tt
+
+-- ---- schemas
+
+abbrev two : Tys
+two = fix i4 then fix i8 then end
+
+abbrev one : Tys
+one = text st then end
+
+abbrev lists : Tys
+lists = li (fix i1) then end
+
+abbrev maps : Tys
+maps = ma (fix i8) (fix i8) then end
+
+abbrev inner : Tys
+inner = ro (fix i8 then fix f8 then end) then end
+
+abbrev texts : Tys
+texts = text st then text st then end
+
+-- ---- contents
+
+abbrev STK : List ℕ
+STK = 0x53 ∷ 0x54 ∷ 0x4b ∷ []
+
+abbrev PWR : List ℕ
+PWR = 0x50 ∷ 0x57 ∷ 0x52 ∷ []
+
+abbrev TPH : List ℕ
+TPH = 0x54 ∷ 0x50 ∷ 0x48 ∷ []
+
+-- -2 in four bytes
+abbrev minus2 : List ℕ
+minus2 = 0xfe ∷ 0xff ∷ 0xff ∷ 0xff ∷ []
+
+abbrev ofA : Cell
+ofA = node (leaf minus2 ∷ leaf (1 ∷ zeros 7) ∷ [])
+
+abbrev ofB : Cell
+ofB = node (leaf minus2 ∷ null (zeros 8) ∷ [])
+
+abbrev ten : Cell
+ten = node (node (replicate 10 (leaf (7 ∷ []))) ∷ [])
+
+abbrev nine : Cell
+nine = leaf (9 ∷ zeros 7)
+
+abbrev three : Cell
+three = node (node (node (nine ∷ nine ∷ nine ∷ []) ∷ node (nine ∷ null (zeros 8) ∷ nine ∷ []) ∷ []) ∷ [])
+
+-- ---- rows
+
+abbrev A : List ℕ
+A = zeros 8 ++ (0xfe ∷ 0xff ∷ 0xff ∷ 0xff ∷ zeros 4) ++ (1 ∷ zeros 7)
+
+abbrev B : List ℕ
+B = (2 ∷ zeros 7) ++ (0xfe ∷ 0xff ∷ 0xff ∷ 0xff ∷ zeros 4) ++ zeros 8
+
+abbrev C : List ℕ
+C = zeros 8 ++ (3 ∷ 0 ∷ 0 ∷ 0 ∷ 0x10 ∷ 0 ∷ 0 ∷ 0 ∷ []) ++ (0x53 ∷ 0x54 ∷ 0x4b ∷ zeros 5)
+
+abbrev D : List ℕ
+D = zeros 8 ++ (0 ∷ 0 ∷ 0 ∷ 0 ∷ 0x10 ∷ 0 ∷ 0 ∷ 0 ∷ [])
+
+abbrev F : List ℕ
+F = content (ro maps) three
+
+-- "STK" and "PWR"
+abbrev both : List ℕ
+both = zeros 8 ++ (3 ∷ 0 ∷ 0 ∷ 0 ∷ 24 ∷ 0 ∷ 0 ∷ 0 ∷ []) ++ (3 ∷ 0 ∷ 0 ∷ 0 ∷ 32 ∷ 0 ∷ 0 ∷ 0 ∷ []) ++ (STK ++ zeros 5) ++ (PWR ++ zeros 5)
+
+-- C with offset FFFFFFF8 and size 16
+abbrev J : List ℕ
+J = zeros 8 ++ (16 ∷ 0 ∷ 0 ∷ 0 ∷ 0xf8 ∷ 0xff ∷ 0xff ∷ 0xff ∷ []) ++ (STK ++ zeros 5)
+
+-- C's first slot, or any row's of one field
+abbrev slot0 : List ℕ → List ℕ
+slot0 b = part b 8 8
+
+pub record Cases : Type 0 where
+  a : (content (ro two) ofA ≡ A) × (decode (ro two) A ≡ some ofA) × (length A ≡ 24)
+  b : (content (ro two) ofB ≡ B) × (decode (ro two) B ≡ some ofB)
+  b-reads : (readIn two B (0 ∷ []) ≡ R.signed (negsuc 1)) × (readIn two B (1 ∷ []) ≡ R.null) × (readIn two B [] ≡ R.container 0 24 2)
+  c : (content (ro one) (node (leaf STK ∷ [])) ≡ C) × (decode (ro one) C ≡ some (node (leaf STK ∷ []))) × (readIn one C (0 ∷ []) ≡ R.bytes 16 3)
+  d : (content (ro one) (node (leaf [] ∷ [])) ≡ D) × (decode (ro one) D ≡ some (node (leaf [] ∷ []))) × (readIn one D (0 ∷ []) ≡ R.bytes 16 0)
+  e : (length (content (ro lists) ten) ≡ 48) × (slot0 (content (ro lists) ten) ≡ 32 ∷ 0 ∷ 0 ∷ 0 ∷ 16 ∷ 0 ∷ 0 ∷ 0 ∷ []) × (decode (ro lists) (content (ro lists) ten) ≡ some ten)
+  f : (length F ≡ 104) × (slot0 F ≡ 88 ∷ 0 ∷ 0 ∷ 0 ∷ 16 ∷ 0 ∷ 0 ∷ 0 ∷ []) × (part F 16 8 ≡ 40 ∷ zeros 7) × (decode (ro maps) F ≡ some three)
+  f-reads : (readIn maps F (0 ∷ []) ≡ R.container 16 88 2) × (readIn maps F (0 ∷ 0 ∷ []) ≡ R.container 24 40 3) × (readIn maps F (0 ∷ 1 ∷ []) ≡ R.container 64 40 3)
+      × (readIn maps F (0 ∷ 1 ∷ 2 ∷ []) ≡ R.signed (pos 9)) × (readIn maps F (0 ∷ 1 ∷ 1 ∷ []) ≡ R.null) × (readIn maps F (0 ∷ 1 ∷ 3 ∷ []) ≡ R.refused 5)
+  g : length (content (ro inner) (node (node (nine ∷ nine ∷ []) ∷ []))) ≡ 40
+  h : (content (ro texts) (node (leaf STK ∷ leaf PWR ∷ [])) ≡ both) × (decode (ro texts) (set both 20 24) ≡ none)
+  i : (decode (ro one) (set C 8 8) ≡ some (node (leaf (STK ++ zeros 5) ∷ []))) × (decode (ro one) (set C 8 9) ≡ none)
+  j : readIn one J (0 ∷ []) ≡ R.refused 7
+  k : (front 0 8 64 ≡ 520) × (front 0 8 65 ≡ 536)
+  l : setIn two A (0 ∷ []) S.null ≡ becomes ((1 ∷ zeros 15) ++ (1 ∷ zeros 7))
+  m : (setIn one C (0 ∷ []) (S.bytes TPH) ≡ becomes (take 16 C ++ (TPH ++ zeros 5))) × (setIn one C (0 ∷ []) (S.bytes (take 2 TPH)) ≡ refuses 9) × (setIn one C (0 ∷ []) S.null ≡ refuses 9)
+  n : (length (content (ro lists) (node (node [] ∷ []))) ≡ 24) × (decode (ro lists) (content (ro lists) (node (node [] ∷ []))) ≡ some (node (node [] ∷ [])))
+  -- a bool is 0 or 1
+  bool : (decode (ro (fix bo then end)) (zeros 8 ++ (2 ∷ zeros 7)) ≡ none) × (readIn (fix bo then end) (zeros 8 ++ (2 ∷ zeros 7)) (0 ∷ []) ≡ R.refused 7)
+  -- bits past n are zero
+  past : decode (ro two) (set A 0 4) ≡ none
+  -- 5 by the schema alone comes before 7, and a path of 17 steps is 5
+  order : (readIn two [] (2 ∷ []) ≡ R.refused 5) × (readIn two [] (0 ∷ []) ≡ R.refused 7) × (readIn two [] (replicate 17 0) ≡ R.refused 5) × (readIn one C (0 ∷ 0 ∷ []) ≡ R.refused 5)
+  -- a null before the path's end is 6
+  under : readIn inner (set (content (ro inner) (node (null (zeros 8) ∷ []))) 8 1) (0 ∷ 1 ∷ []) ≡ R.refused 6
+  -- set: 7 before 5; 5 before 8; 8 before 9; a container is 8; what fits another type is 8
+  judged : (setIn one J (1 ∷ []) S.null ≡ refuses 7) × (setIn one C (1 ∷ []) S.null ≡ refuses 5) × (setIn one C (0 ∷ []) (S.signed (pos 1)) ≡ refuses 8)
+      × (setIn one C [] S.null ≡ refuses 8) × (setIn two A (0 ∷ []) (S.float32 0) ≡ refuses 8) × (setIn two B (1 ∷ []) (S.signed (pos 1)) ≡ becomes A)
+      × (setIn two A (0 ∷ []) (S.signed (negsuc 1)) ≡ becomes A)
+  lists-b : (listing (ro two) ofB ≡ 0x72 ∷ 0x6f ∷ 0x69 ∷ 0x34 ∷ 0xfe ∷ 0xff ∷ 0xff ∷ 0xff ∷ 0x6e ∷ 0x75 ∷ []) × (parse (ro two) (listing (ro two) ofB) ≡ some ofB)
+  lists-d : listing (ro one) (node (leaf [] ∷ [])) ≡ 0x72 ∷ 0x6f ∷ 0x73 ∷ 0x74 ∷ 0 ∷ 0 ∷ 0 ∷ 0 ∷ []
+
+pub cases : Cases
+unfolding computes
+cases = record {
+  a = (refl, refl, refl);
+  b = (refl, refl);
+  b-reads = (refl, refl, refl);
+  c = (refl, refl, refl);
+  d = (refl, refl, refl);
+  e = (refl, refl, refl);
+  f = (refl, refl, refl, refl);
+  f-reads = (refl, refl, refl, refl, refl, refl);
+  g = refl;
+  h = (refl, refl);
+  i = (refl, refl);
+  j = refl;
+  k = (refl, refl);
+  l = refl;
+  m = (refl, refl, refl);
+  n = (refl, refl);
+  bool = (refl, refl);
+  past = refl;
+  order = (refl, refl, refl, refl);
+  under = refl;
+  judged = (refl, refl, refl, refl, refl, refl, refl);
+  lists-b = (refl, refl);
+  lists-d = refl;
+}
