@@ -10,4 +10,9 @@ pub mod Exact
 pub mod Rows
 pub mod Cursor
 pub mod Steps
+pub mod Bitmaps
+pub mod Spot
+pub mod Bodies
+pub mod Stepped
+pub mod Walked
 pub mod Cases
