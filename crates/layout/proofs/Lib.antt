@@ -15,4 +15,6 @@ pub mod Spot
 pub mod Bodies
 pub mod Stepped
 pub mod Walked
+pub mod Tree
+pub mod Updated
 pub mod Cases

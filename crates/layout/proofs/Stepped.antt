@@ -52,6 +52,7 @@ pub record Seated (T t : Ty) (c : Cell) (i o : ℕ) (b : List ℕ) (s : Seat) : 
   pub slot : s .slot ≡ o + slot₀
   pub bit-room : bits₀ + i / 8 < length b
   pub slot-room : slot₀ + s .wide ≤ length b
+  pub long : (f : Fixed) → t ≡ fix f → (x : Cell) (v : List ℕ) → FixedSlot (s .wide) f x v → length v ≡ s .wide
   pub fixed : (f : Fixed) → t ≡ fix f → (x : Cell) (v : List ℕ) → FixedSlot (s .wide) f x v → Lays T (node (set (parts c) i x)) (sets (putBit b bits₀ i (nulled x)) slot₀ v)
   pub emptied : codec t .wide ≡ none → flag (partOf i c) ≡ 1 → Lays T (node (set (parts c) i (null (zeros (s .wide))))) (sets b slot₀ (zeros (s .wide)))
 
@@ -189,6 +190,11 @@ module _ (T t : Ty) (c : Cell) (hs r b : List ℕ) (h w : ℕ) (ks : List Kid) (
     flag-part : flag (partOf i c) < 2
     flag-part = flag-bit (partOf i c)
 
+    fixed-here : (f : Fixed) → t ≡ fix f → (x : Cell) (v : List ℕ) → FixedSlot w f x v → FixedIn t w at (y .variable) (sp .before) (sp .after) x v
+    fixed-here f ft x v fs =
+        subst (λ (t : Ty). LawfulKid w (kid w (codec t)) → kidLays w (kid w (codec t)) at (y .variable) (sp .before) (partOf i c) (sp .slot) (sp .after)
+        → FixedIn t w at (y .variable) (sp .before) (sp .after) x v) (sym ft) (λ lk z. fixed-in f w at (y .variable) (sp .before) (sp .after) (partOf i c) (sp .slot) x v lk z fs) lk lays-b
+
     seated : Seated T t c i o b (seatOf h w n i o)
     unfolding onNull
     seated = record {
@@ -199,10 +205,8 @@ module _ (T t : Ty) (c : Cell) (hs r b : List ℕ) (h w : ℕ) (ks : List Kid) (
       slot = refl;
       bit-room = omega (arith, size-b, room-b, count-in h w ks (parts c) r l y i k);
       slot-room = omega (arith, size-b, room-b, fit-in h w ks (parts c) r l y i k);
-      fixed = λ f ft x v fs.
-          let g = subst (λ (t : Ty). LawfulKid w (kid w (codec t)) → kidLays w (kid w (codec t)) at (y .variable) (sp .before) (partOf i c) (sp .slot) (sp .after)
-          → FixedIn t w at (y .variable) (sp .before) (sp .after) x v) (sym ft) (λ lk z. fixed-in f w at (y .variable) (sp .before) (sp .after) (partOf i c) (sp .slot) x v lk z fs) lk lays-b in
-          seat-slot x v (g .wide) (g .lays);
+      long = λ f ft x v fs. fixed-here f ft x v fs .wide;
+      fixed = λ f ft x v fs. let g = fixed-here f ft x v fs in seat-slot x v (g .wide) (g .lays);
       emptied = λ _ f. seat-alone (null (zeros w)) (zeros w) (length-replicate w 0) (sym f)
           (record { fits = record { wide = length-replicate w 0; proper = bytes-zeros w }; is = refl; same = null-same w (kid w (codec t)) at (y .variable) (sp .before) (sp .after) (partOf i c) (sp .slot) lays-b f });
     }
