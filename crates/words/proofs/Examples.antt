@@ -1,4 +1,4 @@
--- Worked examples, by computation. Assumes nothing.
+-- Examples of the layout, by computation. Assumes nothing.
 use mathlib.Core.Path.{_≡_, refl}
 use mathlib.Core.Bool.{true, false}
 use mathlib.Core.List.{[], _∷_}
