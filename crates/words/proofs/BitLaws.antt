@@ -4,12 +4,12 @@ use mathlib.Core.Logic.{_⊎_, inl, inr, ⊎-elim}
 use mathlib.Core.Bool.{Bool, true, false, not}
 use mathlib.Core.List.{List, [], _∷_}
 use Prim.Native.Nat.{ℕ, zero, suc, _+_, _-_, _*_, _/_, _%_, _^_, _≤_, _<_, max}
-use native.Mathlib.Nat.{pow-suc, mul-assoc, mod-lt, add-mul-div-right, mod-eq-of-lt, add-assoc, add-zero, add-comm, le-add-left, zero-mul, zero-div, lt-of-lt-of-le, div-div-eq-div-mul}
+use native.Mathlib.Nat.{pow-suc, mul-assoc, mod-lt, add-mul-div-right, mod-eq-of-lt, add-assoc, add-zero, add-comm, le-add-left, zero-mul, zero-add, zero-div, lt-of-lt-of-le, div-div-eq-div-mul}
 use native.Mathlib.Decide.{decLt}
 use native.Mathlib.Omega.{arith}
 use lib.Dec.{eqb, lit<}
 use lib.ListN.{length, getD, set, length-set}
-use lib.Seq.{sets, getD-set-same, getD-set-other, set-getD, set-set, set-comm, getD-drop, getD-take}
+use lib.Seq.{sets, getD-set-same, getD-set-other, set-getD, set-set, set-comm}
 use lib.Arith.{digits-lt}
 use lib.Pow.{pow-pos, pow-add, split, high, low, shr-shr, shr-lt, high-ones, ones-lt, pow-mono}
 use lib.Bits.{bitAnd, bitOr, and-high, and-mask, and-block, or-block, or-step, or-zero-r}
@@ -17,7 +17,7 @@ use borrow.Author.Tests.{ne-eqb}
 use Rattle.words.specs.Bytes.{Bytes, empty, byte, num, part}
 use Rattle.words.specs.Bits.{bitOf, digit, withBit, bit, putBit}
 use Rattle.words.proofs.Numbers.{byte-at}
-use Rattle.words.proofs.Parts.{lt-or-le, getD-part}
+use Rattle.words.proofs.Parts.{lt-or-le, getD-part, bytes-part}
 use Rattle.words.proofs.Runs.{sets-comm, bytes-sets, getD-sets-lo, getD-sets-hi}
 
 -- ---- masks
@@ -243,12 +243,6 @@ module _ (b : List ℕ) (at i : ℕ) (v : Bool) (fits : at + i / 8 < length b) w
           ∙ bit-with-other (getD b (at + i / 8) 0) (i % 8) v (j % 8) (apart (j % 8) (i % 8) (λ q. ne (omega arith)))
           ∙ ap (λ (n : ℕ). bitOf (getD b (at + n) 0) (j % 8)) (sym e)
 
-  pub bytes-put : Bytes b → Bytes (putBit b at i v)
-  bytes-put h =
-      let x = withBit (getD b (at + i / 8) 0) (i % 8) v in
-      let l : x < 256 = with-byte (getD b (at + i / 8) 0) (i % 8) v (mod-lt i (lit< tt)) (byte-at h (at + i / 8)) in
-      bytes-sets b (at + i / 8) (x ∷ []) (omega arith) h (byte l empty)
-
   -- of two stores the last alone counts
   pub put-put : (w : Bool) → putBit (putBit b at i v) at i w ≡ putBit b at i w
   put-put w =
@@ -267,15 +261,20 @@ module _ (b : List ℕ) (at i : ℕ) (v : Bool) (fits : at + i / 8 < length b) w
 pub length-put : (b : List ℕ) (at i : ℕ) (v : Bool) → length (putBit b at i v) ≡ length b
 length-put b at i v = length-set b (at + i / 8) (withBit (getD b (at + i / 8) 0) (i % 8) v)
 
+pub bytes-put : {b : List ℕ} (at i : ℕ) (v : Bool) → Bytes b → Bytes (putBit b at i v)
+bytes-put {b} at i v h =
+    let x = withBit (getD b (at + i / 8) 0) (i % 8) v in
+    let l : x < 256 = with-byte (getD b (at + i / 8) 0) (i % 8) v (mod-lt i (lit< tt)) (byte-at h (at + i / 8)) in
+    bytes-sets {v = x ∷ []} (at + i / 8) h (byte l empty)
+
 -- storing what is there alters nothing
 pub put-same : (b : List ℕ) (at i : ℕ) (v : Bool) → bit b at i ≡ v → putBit b at i v ≡ b
 put-same b at i v e =
     ap (λ (w : Bool). putBit b at i w) (sym e) ∙ ap (set b (at + i / 8)) (with-same (getD b (at + i / 8) 0) (i % 8)) ∙ set-getD b (at + i / 8) 0
 
 -- two different bits, in either order
-pub put-comm : (b : List ℕ) (at i j : ℕ) (v w : Bool) → (i ≡ j → ⊥) → at + i / 8 < length b → at + j / 8 < length b
-    → putBit (putBit b at i v) at j w ≡ putBit (putBit b at j w) at i v
-put-comm b at i j v w ne hi hj =
+pub put-comm : (b : List ℕ) (at i j : ℕ) (v w : Bool) → (i ≡ j → ⊥) → at + i / 8 < length b → putBit (putBit b at i v) at j w ≡ putBit (putBit b at j w) at i v
+put-comm b at i j v w ne hi =
     ⊎-elim (λ o. far (λ e. ⊎-elim (λ l. omega arith) (λ l. omega arith) o)) near (tri (i / 8) (j / 8))
   where
     far : (i / 8 ≡ j / 8 → ⊥) → putBit (putBit b at i v) at j w ≡ putBit (putBit b at j w) at i v
@@ -307,8 +306,8 @@ pub bit-run : (b : List ℕ) (p : ℕ) (u : List ℕ) (at i : ℕ) → p + lengt
 bit-run b p u at i h o = ap (λ (x : ℕ). bitOf x (i % 8)) (⊎-elim (λ lo. getD-sets-lo b p u h (at + i / 8) lo) (λ hi. getD-sets-hi b p u h (at + i / 8) hi) o)
 
 -- a bitmap taken out of the run that holds it has the same bits
-pub bit-part : (b : List ℕ) (at n i : ℕ) → i / 8 < n → bitOf (getD (part b at n) (i / 8) 0) (i % 8) ≡ bit b at i
-bit-part b at n i h = ap (λ (x : ℕ). bitOf x (i % 8)) (getD-part b at n (i / 8) h)
+pub bit-part : (b : List ℕ) (at n i : ℕ) → i / 8 < n → bit (part b at n) 0 i ≡ bit b at i
+bit-part b at n i h = ap (λ (x : ℕ). bitOf x (i % 8)) (ap (λ (k : ℕ). getD (part b at n) k 0) (zero-add (i / 8)) ∙ getD-part b at n (i / 8) h)
 
 -- ---- a bitmap as a number
 
@@ -343,3 +342,7 @@ pub bit-at : {b : List ℕ} (i : ℕ) → Bytes b → num b / 2 ^ i % 2 ≡ getD
 unfolding num
 bit-at i empty = rw (zero-div (2 ^ i), zero-div (2 ^ (i % 8)))
 bit-at i (byte {d} {ds} p h) = bit-step d ds i (decLt i 8) p (λ k. bit-at (i - 8) h)
+
+-- the bits of a bitmap are those of its number
+pub bit-num : {b : List ℕ} (at n i : ℕ) → Bytes b → i / 8 < n → bitOf (num (part b at n)) i ≡ bit b at i
+bit-num {b} at n i h l = ap (λ (x : ℕ). eqb x 1) (bit-at i (bytes-part at n h)) ∙ ap (λ (x : ℕ). bitOf x (i % 8)) (getD-part b at n (i / 8) l)

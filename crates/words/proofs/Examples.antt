@@ -1,11 +1,11 @@
--- Worked examples, by computation. Assumes nothing.
+-- Examples of the layout, by computation. Assumes nothing.
 use mathlib.Core.Path.{_≡_, refl}
 use mathlib.Core.Bool.{true, false}
-use mathlib.Core.List.{List, [], _∷_}
-use Prim.Native.Nat.{ℕ, _+_, _*_, _^_}
-use lib.IntN.{ℤ, negsuc}
+use mathlib.Core.List.{[], _∷_}
+use Prim.Native.Nat.{_+_, _*_, _^_}
+use lib.IntN.{negsuc}
 use lib.Dec.{ltb}
-use Rattle.words.specs.Bytes.{le, num, part, pad, bitmap}
+use Rattle.words.specs.Bytes.{le, num, pad, bitmap}
 use Rattle.words.specs.Bits.{bit, putBit}
 use Rattle.words.specs.Signed.{halfOf, toSigned, ofSigned}
 

@@ -2,7 +2,7 @@
 use mathlib.Core.Path.{_≡_, refl, sym, ap, ap₂, _∙_}
 use mathlib.Core.List.{List, [], _∷_, _++_}
 use Prim.Native.Nat.{ℕ, zero, suc, _+_, _*_, _/_, _%_, _^_, _≤_, _<_}
-use native.Mathlib.Nat.{pow-suc, mul-comm, mul-assoc, lt-of-lt-of-le, pow-le-pow-right, one-le-pow, div-div-eq-div-mul, div-eq-of-lt, mod-eq-of-lt}
+use native.Mathlib.Nat.{pow-suc, mul-comm, mul-assoc, one-le-pow, div-div-eq-div-mul, div-eq-of-lt, mod-eq-of-lt}
 use native.Mathlib.Omega.{arith}
 use lib.Dec.{lit<}
 use lib.ListN.{length, getD}
@@ -10,7 +10,7 @@ use lib.Arith.{digits-div, digits-mod, mod-mul}
 use lib.Pow.{pow-add}
 use Rattle.words.specs.Bytes.{Bytes, le, num, part, zeros}
 use Rattle.words.proofs.Numbers.{num-lt, length-le, bytes-le, le-num}
-use Rattle.words.proofs.Parts.{length-part, bytes-part, part-add, part-cons, part-snoc}
+use Rattle.words.proofs.Parts.{length-part, bytes-part, part-add, part-cons}
 
 pub pow256 : (k : ℕ) → 256 ^ k ≡ 2 ^ (8 * k)
 pow256 zero = refl

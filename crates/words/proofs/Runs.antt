@@ -8,9 +8,8 @@ use native.Mathlib.Nat.{add-zero, add-suc, suc-add, zero-add, not-suc-le-zero}
 use native.Mathlib.Omega.{arith}
 use lib.ListN.{length, take, drop, getD, set, length-append, length-set, length-take, take-append-drop, List·getD-append}
 use lib.Seq.{sets, sets-eq, length-sets, set-comm, set-set, set-append-left, drop-at, drop-length, take-add, ext-getD, length-take-le, getD-append-add, getD-take, getD-drop}
-use Rattle.words.specs.Bytes.{Bytes, part}
-use Rattle.words.proofs.Numbers.{bytes-of, byte-at}
-use Rattle.words.proofs.Parts.{lt-or-le, around, length-part, getD-part}
+use Rattle.words.specs.Bytes.{Bytes, empty, byte, part}
+use Rattle.words.proofs.Parts.{around, length-part, getD-part, part-part}
 
 -- ---- runs in one list: these hold in range or not
 
@@ -54,6 +53,15 @@ sets-last l p us vs e =
     sets-front l p us vs (omega arith)
     ∙ ap (λ (t : List ℕ). sets l p (vs ++ t)) (ap (λ (k : ℕ). drop k us) (sym e) ∙ drop-length us)
     ∙ ap (sets l p) (append-nil vs)
+
+bytes-set : {b : List ℕ} (i : ℕ) {a : ℕ} → Bytes b → a < 256 → Bytes (set b i a)
+bytes-set i empty p = empty
+bytes-set zero (byte d h) p = byte p h
+bytes-set (suc i) (byte d h) p = byte d (bytes-set i h p)
+
+pub bytes-sets : {b v : List ℕ} (at : ℕ) → Bytes b → Bytes v → Bytes (sets b at v)
+bytes-sets at h empty = h
+bytes-sets at h (byte d k) = bytes-sets (suc at) (bytes-set at h d) k
 
 -- ---- lists side by side
 
@@ -124,16 +132,9 @@ module _ (b : List ℕ) (at : ℕ) (v : List ℕ) (fits : at + length v ≤ leng
       ∙ ⊎-elim (λ p. getD-sets-lo (from + i) (omega arith)) (λ p. getD-sets-hi (from + i) (omega arith)) o
       ∙ sym (getD-part b from k i l′))
 
-  pub bytes-sets : Bytes b → Bytes v → Bytes (sets b at v)
-  bytes-sets hb hv =
-      bytes-of (sets b at v)
-      (λ i. ⊎-elim
-      (λ lo. rw (getD-sets-lo i lo) (byte-at hb i))
-      (λ o. ⊎-elim
-      (λ mid. let e : i ≡ at + (i - at) = omega (arith, mid .0) in rw (e, getD-sets-in (i - at) (omega (arith, mid .0, mid .1))) (byte-at hv (i - at)))
-      (λ hi. rw (getD-sets-hi i hi) (byte-at hb i))
-      o)
-      (around i at (length v)))
+  -- and so does a part of what is set
+  pub part-within : (off k : ℕ) → off + k ≤ length v → part (sets b at v) (at + off) k ≡ part v off k
+  part-within off k h = sym (part-part (sets b at v) at (length v) off k h) ∙ ap (λ (l : List ℕ). part l off k) part-sets
 
 -- setting what is there alters nothing
 pub sets-same : (b : List ℕ) (at k : ℕ) → at + k ≤ length b → sets b at (part b at k) ≡ b

@@ -1,18 +1,18 @@
 -- Two's complement over half its range, and the signed operations that the code makes. Assumes nothing.
 use mathlib.Core.Path.{_≡_, refl, sym, ap, _∙_, subst}
-use mathlib.Core.Bool.{Bool, true, false, not, cond}
+use mathlib.Core.Bool.{Bool, true, false, cond}
 use Prim.Native.Nat.{ℕ, zero, suc, _+_, _-_, _*_, _^_, _≤_, _<_}
-use native.Mathlib.Nat.{zero-add, mul-comm}
+use native.Mathlib.Nat.{zero-add}
 use native.Mathlib.Omega.{arith}
-use lib.Dec.{T, ltb, leb·zero, ltb→lt}
+use lib.Dec.{T, leb·zero}
 use lib.IntN.{ℤ, pos, negsuc, natAbs, _-ℤ_}
 use lib.Signed.{mag, leZ, ltZ, nonNeg}
-use lib.Pow.{pow-add, pow-pos, pow-mono}
-use borrow.Author.Tests.{lt-ltb, le-ltb, ltb-true}
+use lib.Pow.{pow-add, pow-mono}
+use borrow.Author.Tests.{lt-ltb, le-ltb}
 use mir.Syntax.{w64}
 use mir.Val.{toZ, ofZ}
 use mir.ValLaws.{toZ-ofZ}
-use Rattle.words.specs.Signed.{halfOf, isNegative, ofMagnitude, toSigned, ofSigned, inRange}
+use Rattle.words.specs.Signed.{halfOf, isNegative, toSigned, ofSigned}
 use mathlib.Core.List.{List}
 use lib.ListN.{length}
 use Rattle.words.specs.Bytes.{Bytes, le, num}

@@ -1,15 +1,15 @@
 -- What one more byte of a read, of a write and of a loop does, over the width, and the tests by one word. Assumes nothing.
 use mathlib.Core.Path.{_≡_, refl, sym, ap, ap₂, _∙_, subst}
-use mathlib.Core.Bool.{Bool, true, false}
+use mathlib.Core.Bool.{true}
 use mathlib.Core.Logic.{⊎-elim}
 use mathlib.Core.List.{List, [], _∷_, _++_}
-use Prim.Native.Nat.{ℕ, zero, suc, _+_, _-_, _*_, _/_, _%_, _^_, _≤_, _<_}
-use native.Mathlib.Nat.{pow-suc, mul-comm, div-div-eq-div-mul, div-eq-of-lt, lt-of-lt-of-le, pow-le-pow-right, mod-lt, mul-le-mul-right}
+use Prim.Native.Nat.{ℕ, suc, _+_, _-_, _*_, _/_, _%_, _^_, _≤_, _<_}
+use native.Mathlib.Nat.{pow-suc, div-div-eq-div-mul, div-eq-of-lt, lt-of-lt-of-le, pow-le-pow-right, mod-lt, mul-le-mul-right}
 use native.Mathlib.Numerals.{add-one}
 use native.Mathlib.Omega.{arith}
 use lib.Dec.{eqb, ltb, lit<, lit≤}
-use lib.ListN.{length, getD, set, take, drop, replicate, length-drop, length-replicate, replicate-append-replicate}
-use lib.Seq.{sets, take-suc, getD-drop, length-take-le}
+use lib.ListN.{length, getD, set, length-replicate, replicate-append-replicate}
+use lib.Seq.{sets}
 use lib.Arith.{digits-lt}
 use lib.Pow.{pow-add, pow-pos, shl-exact, shr-shr, split}
 use lib.Bits.{bitAnd, bitOr, or-shifted, or-shifted-r, and-mask}
@@ -41,6 +41,9 @@ reads-next {b} at n w x h r e l f =
     record { is = sum; below = rw sum (part-lt at (suc n) h (omega arith)) }
 
 -- ---- a straight write, byte by byte from the lowest on
+
+pub low-byte : (x : ℕ) → bitAnd x 255 ≡ x % 256
+low-byte x = and-mask x 8
 
 pub puts-next : (b l : List ℕ) (at n v x : ℕ) → l ≡ sets b at (le n v) → x ≡ v / 256 ^ n → set l (at + n) (bitAnd x 255) ≡ sets b at (le (suc n) v)
 puts-next b l at n v x e f =

@@ -8,9 +8,6 @@ use Rattle.words.proofs.BitLaws.{clear-bit}
 use borrow.Author.Needs.{needs}
 use Rattle.words.proofs.nulls.clear_null.Statement.{statement}
 use Rattle.words.proofs.nulls.clear_null.Tie as tie
-use Rattle.words.proofs.nulls.clear_null.Reads as reads
-use Rattle.words.proofs.nulls.clear_null.Lts as lts
-use Rattle.words.proofs.nulls.mask.Reads as mask-reads
 
 add-b : tie.Need-add-b
 add-b c = search needs

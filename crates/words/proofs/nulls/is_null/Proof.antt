@@ -5,9 +5,6 @@ use Rattle.words.proofs.BitLaws.{test-bit}
 use borrow.Author.Needs.{needs}
 use Rattle.words.proofs.nulls.is_null.Statement.{statement}
 use Rattle.words.proofs.nulls.is_null.Tie as tie
-use Rattle.words.proofs.nulls.is_null.Reads as reads
-use Rattle.words.proofs.nulls.is_null.Lts as lts
-use Rattle.words.proofs.nulls.mask.Reads as mask-reads
 
 add-result : tie.Need-add-result
 add-result c = search needs

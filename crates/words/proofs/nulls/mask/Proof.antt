@@ -6,8 +6,6 @@ use lib.Bits.{and-mask, mask-lt}
 use lib.Pow.{pow-lt}
 use Rattle.words.proofs.nulls.mask.Statement.{statement}
 use Rattle.words.proofs.nulls.mask.Tie as tie
-use Rattle.words.proofs.nulls.mask.Reads as reads
-use Rattle.words.proofs.nulls.mask.Lts as lts
 
 cast-result : tie.Need-cast-result
 cast-result c = record { fits = lt-of-lt-of-le (mask-lt (c .args .i) 3) (lit≤ tt) }

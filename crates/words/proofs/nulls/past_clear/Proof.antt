@@ -7,9 +7,6 @@ use Rattle.words.proofs.Numbers.{bytes-of}
 use Rattle.words.proofs.Turns.{past-none, past-word}
 use Rattle.words.proofs.nulls.past_clear.Statement.{statement}
 use Rattle.words.proofs.nulls.past_clear.Tie as tie
-use Rattle.words.proofs.nulls.past_clear.Reads as reads
-use Rattle.words.proofs.nulls.past_clear.Lts as lts
-use Rattle.words.proofs.nums.get8.Reads as get8-reads
 
 returns : tie.Need-returns
 returns c =

@@ -6,9 +6,6 @@ use Rattle.words.proofs.BitLaws.{or-bit}
 use borrow.Author.Needs.{needs}
 use Rattle.words.proofs.nulls.set_null.Statement.{statement}
 use Rattle.words.proofs.nulls.set_null.Tie as tie
-use Rattle.words.proofs.nulls.set_null.Reads as reads
-use Rattle.words.proofs.nulls.set_null.Lts as lts
-use Rattle.words.proofs.nulls.mask.Reads as mask-reads
 
 add-b : tie.Need-add-b
 add-b c = search needs

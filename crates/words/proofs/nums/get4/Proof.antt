@@ -6,9 +6,6 @@ use Rattle.words.proofs.Turns.{reads-one, reads-next}
 use borrow.Author.Needs.{needs}
 use Rattle.words.proofs.nums.get4.Statement.{statement}
 use Rattle.words.proofs.nums.get4.Tie as tie
-use Rattle.words.proofs.nums.get4.Reads as reads
-use Rattle.words.proofs.nums.get4.Lts as lts
-use Rattle.words.proofs.nums.wide.Reads as wide-reads
 
 shared-slice-read-wide : tie.Need-shared-slice-read-wide
 shared-slice-read-wide c = search needs

@@ -8,9 +8,6 @@ use Rattle.words.proofs.Turns.{reads-none, reads-turn}
 use borrow.Author.Needs.{needs}
 use Rattle.words.proofs.nums.get_num.Statement.{statement}
 use Rattle.words.proofs.nums.get_num.Tie as tie
-use Rattle.words.proofs.nums.get_num.Reads as reads
-use Rattle.words.proofs.nums.get_num.Lts as lts
-use Rattle.words.proofs.nums.wide.Reads as wide-reads
 
 abbrev Inv-loop : tie.InvT-loop
 Inv-loop b at k r₀ i₀ r i = (i ≤ k) × Reads b (at + i) (k - i) r

@@ -2,23 +2,20 @@
 use mathlib.Core.Path.{refl}
 use Prim.Native.Nat.{_/_, _^_}
 use native.Mathlib.Omega.{arith}
-use lib.Bits.{mask-lt}
 use lib.ListN.{length-set}
-use Rattle.words.proofs.Turns.{puts-one, puts-next}
+use Rattle.words.proofs.Turns.{low-byte, puts-one, puts-next}
 use borrow.Author.Needs.{needs}
 use Rattle.words.proofs.nums.put2.Statement.{statement}
 use Rattle.words.proofs.nums.put2.Tie as tie
-use Rattle.words.proofs.nums.put2.Reads as reads
-use Rattle.words.proofs.nums.put2.Lts as lts
 
 cast-b : tie.Need-cast-b
-cast-b c = record { fits = mask-lt (c .args .v) 8 }
+cast-b c = record { fits = rw low-byte (omega arith) }
 
 slice-write-b : tie.Need-slice-write-b
 slice-write-b c = search needs
 
 cast-b-2 : tie.Need-cast-b-2
-cast-b-2 c = record { fits = mask-lt (c .args .v / 2 ^ 8) 8 }
+cast-b-2 c = record { fits = rw low-byte (omega arith) }
 
 add-b : tie.Need-add-b
 add-b c = search needs

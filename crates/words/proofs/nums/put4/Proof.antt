@@ -2,23 +2,20 @@
 use mathlib.Core.Path.{refl}
 use Prim.Native.Nat.{_/_, _^_}
 use native.Mathlib.Omega.{arith}
-use lib.Bits.{mask-lt}
 use lib.ListN.{length-set}
-use Rattle.words.proofs.Turns.{puts-one, puts-next}
+use Rattle.words.proofs.Turns.{low-byte, puts-one, puts-next}
 use borrow.Author.Needs.{needs}
 use Rattle.words.proofs.nums.put4.Statement.{statement}
 use Rattle.words.proofs.nums.put4.Tie as tie
-use Rattle.words.proofs.nums.put4.Reads as reads
-use Rattle.words.proofs.nums.put4.Lts as lts
 
 cast-b : tie.Need-cast-b
-cast-b c = record { fits = mask-lt (c .args .v) 8 }
+cast-b c = record { fits = rw low-byte (omega arith) }
 
 slice-write-b : tie.Need-slice-write-b
 slice-write-b c = search needs
 
 cast-b-2 : tie.Need-cast-b-2
-cast-b-2 c = record { fits = mask-lt (c .args .v / 2 ^ 8) 8 }
+cast-b-2 c = record { fits = rw low-byte (omega arith) }
 
 add-b : tie.Need-add-b
 add-b c = search needs
@@ -27,7 +24,7 @@ slice-write-b-2 : tie.Need-slice-write-b-2
 slice-write-b-2 c = simp length-set (omega arith)
 
 cast-b-3 : tie.Need-cast-b-3
-cast-b-3 c = record { fits = mask-lt (c .args .v / 2 ^ 16) 8 }
+cast-b-3 c = record { fits = rw low-byte (omega arith) }
 
 add-b-2 : tie.Need-add-b-2
 add-b-2 c = search needs
@@ -36,7 +33,7 @@ slice-write-b-3 : tie.Need-slice-write-b-3
 slice-write-b-3 c = simp length-set (omega arith)
 
 cast-b-4 : tie.Need-cast-b-4
-cast-b-4 c = record { fits = mask-lt (c .args .v / 2 ^ 24) 8 }
+cast-b-4 c = record { fits = rw low-byte (omega arith) }
 
 add-b-3 : tie.Need-add-b-3
 add-b-3 c = search needs

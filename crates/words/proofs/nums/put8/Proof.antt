@@ -2,23 +2,20 @@
 use mathlib.Core.Path.{refl}
 use Prim.Native.Nat.{_/_, _^_}
 use native.Mathlib.Omega.{arith}
-use lib.Bits.{mask-lt}
 use lib.ListN.{length-set}
-use Rattle.words.proofs.Turns.{puts-one, puts-next}
+use Rattle.words.proofs.Turns.{low-byte, puts-one, puts-next}
 use borrow.Author.Needs.{needs}
 use Rattle.words.proofs.nums.put8.Statement.{statement}
 use Rattle.words.proofs.nums.put8.Tie as tie
-use Rattle.words.proofs.nums.put8.Reads as reads
-use Rattle.words.proofs.nums.put8.Lts as lts
 
 cast-b : tie.Need-cast-b
-cast-b c = record { fits = mask-lt (c .args .v) 8 }
+cast-b c = record { fits = rw low-byte (omega arith) }
 
 slice-write-b : tie.Need-slice-write-b
 slice-write-b c = search needs
 
 cast-b-2 : tie.Need-cast-b-2
-cast-b-2 c = record { fits = mask-lt (c .args .v / 2 ^ 8) 8 }
+cast-b-2 c = record { fits = rw low-byte (omega arith) }
 
 add-b : tie.Need-add-b
 add-b c = search needs
@@ -27,7 +24,7 @@ slice-write-b-2 : tie.Need-slice-write-b-2
 slice-write-b-2 c = simp length-set (omega arith)
 
 cast-b-3 : tie.Need-cast-b-3
-cast-b-3 c = record { fits = mask-lt (c .args .v / 2 ^ 16) 8 }
+cast-b-3 c = record { fits = rw low-byte (omega arith) }
 
 add-b-2 : tie.Need-add-b-2
 add-b-2 c = search needs
@@ -36,7 +33,7 @@ slice-write-b-3 : tie.Need-slice-write-b-3
 slice-write-b-3 c = simp length-set (omega arith)
 
 cast-b-4 : tie.Need-cast-b-4
-cast-b-4 c = record { fits = mask-lt (c .args .v / 2 ^ 24) 8 }
+cast-b-4 c = record { fits = rw low-byte (omega arith) }
 
 add-b-3 : tie.Need-add-b-3
 add-b-3 c = search needs
@@ -45,7 +42,7 @@ slice-write-b-4 : tie.Need-slice-write-b-4
 slice-write-b-4 c = simp length-set (omega arith)
 
 cast-b-5 : tie.Need-cast-b-5
-cast-b-5 c = record { fits = mask-lt (c .args .v / 2 ^ 32) 8 }
+cast-b-5 c = record { fits = rw low-byte (omega arith) }
 
 add-b-4 : tie.Need-add-b-4
 add-b-4 c = search needs
@@ -54,7 +51,7 @@ slice-write-b-5 : tie.Need-slice-write-b-5
 slice-write-b-5 c = simp length-set (omega arith)
 
 cast-b-6 : tie.Need-cast-b-6
-cast-b-6 c = record { fits = mask-lt (c .args .v / 2 ^ 40) 8 }
+cast-b-6 c = record { fits = rw low-byte (omega arith) }
 
 add-b-5 : tie.Need-add-b-5
 add-b-5 c = search needs
@@ -63,7 +60,7 @@ slice-write-b-6 : tie.Need-slice-write-b-6
 slice-write-b-6 c = simp length-set (omega arith)
 
 cast-b-7 : tie.Need-cast-b-7
-cast-b-7 c = record { fits = mask-lt (c .args .v / 2 ^ 48) 8 }
+cast-b-7 c = record { fits = rw low-byte (omega arith) }
 
 add-b-6 : tie.Need-add-b-6
 add-b-6 c = search needs
@@ -72,7 +69,7 @@ slice-write-b-7 : tie.Need-slice-write-b-7
 slice-write-b-7 c = simp length-set (omega arith)
 
 cast-b-8 : tie.Need-cast-b-8
-cast-b-8 c = record { fits = mask-lt (c .args .v / 2 ^ 56) 8 }
+cast-b-8 c = record { fits = rw low-byte (omega arith) }
 
 add-b-7 : tie.Need-add-b-7
 add-b-7 c = search needs

@@ -1,5 +1,5 @@
 -- `words::nums::put_num` meets its contract: the bytes put so far are the first of those asked. Assumes nothing.
-use Prim.Native.Nat.{ℕ, _≤_, _+_, _-_, _/_, _^_}
+use Prim.Native.Nat.{ℕ, _≤_, _-_, _/_, _^_}
 use native.Mathlib.Numerals.{add-one}
 use native.Mathlib.Omega.{arith}
 use mathlib.Core.Path.{_≡_, refl, sym, ap, _∙_}
@@ -10,8 +10,6 @@ use Rattle.words.specs.Bytes.{le}
 use Rattle.words.proofs.Turns.{div-next, puts-next}
 use Rattle.words.proofs.nums.put_num.Statement.{statement}
 use Rattle.words.proofs.nums.put_num.Tie as tie
-use Rattle.words.proofs.nums.put_num.Reads as reads
-use Rattle.words.proofs.nums.put_num.Lts as lts
 
 abbrev Inv-loop : tie.InvT-loop
 Inv-loop b₀ at k v x₀ i₀ b x i = (i ≤ k) × (length b ≡ length b₀) × (b ≡ sets b₀ at (le i v)) × (x ≡ v / 256 ^ i)

@@ -10,10 +10,6 @@ use Rattle.words.proofs.SignedLaws.{half-bytes, half-le, passed, toSign
 use borrow.Author.Needs.{needs}
 use Rattle.words.proofs.signed.get_signed.Statement.{statement}
 use Rattle.words.proofs.signed.get_signed.Tie as tie
-use Rattle.words.proofs.signed.get_signed.Reads as reads
-use Rattle.words.proofs.signed.get_signed.Lts as lts
-use Rattle.words.proofs.nums.get_num.Reads as get-num-reads
-use Rattle.words.proofs.signed.to_signed.Reads as to-signed-reads
 
 get-num-requires : tie.Need-get-num-requires
 get-num-requires c κs = search needs

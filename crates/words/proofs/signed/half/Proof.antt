@@ -7,8 +7,6 @@ use Rattle.words.proofs.SignedLaws.{half-le}
 use borrow.Author.Needs.{needs}
 use Rattle.words.proofs.signed.half.Statement.{statement}
 use Rattle.words.proofs.signed.half.Tie as tie
-use Rattle.words.proofs.signed.half.Reads as reads
-use Rattle.words.proofs.signed.half.Lts as lts
 
 mul-result : tie.Need-mul-result
 mul-result c = search needs

@@ -7,10 +7,6 @@ use mir.ValLaws.{toZ-ofZ}
 use borrow.Author.Needs.{needs}
 use Rattle.words.proofs.signed.in_range.Statement.{statement}
 use Rattle.words.proofs.signed.in_range.Tie as tie
-use Rattle.words.proofs.signed.in_range.Reads as reads
-use Rattle.words.proofs.signed.in_range.Lts as lts
-use Rattle.words.proofs.signed.half.Reads as half-reads
-use Rattle.words.proofs.signed.magnitude.Reads as magnitude-reads
 
 magnitude-requires : tie.Need-magnitude-requires
 magnitude-requires c κs = search needs

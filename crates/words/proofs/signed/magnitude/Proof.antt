@@ -11,8 +11,6 @@ use mir.ValLaws.{toZ-ofZ}
 use Rattle.words.proofs.SignedLaws.{not-neg, abs-mag, minus-one}
 use Rattle.words.proofs.signed.magnitude.Statement.{statement}
 use Rattle.words.proofs.signed.magnitude.Tie as tie
-use Rattle.words.proofs.signed.magnitude.Reads as reads
-use Rattle.words.proofs.signed.magnitude.Lts as lts
 
 -- what the machine reads back of x's bits is x
 abbrev back : tie.Start → ℤ

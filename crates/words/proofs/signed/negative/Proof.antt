@@ -7,8 +7,6 @@ use mir.ValLaws.{toZ-ofZ}
 use Rattle.words.proofs.SignedLaws.{below-zero}
 use Rattle.words.proofs.signed.negative.Statement.{statement}
 use Rattle.words.proofs.signed.negative.Tie as tie
-use Rattle.words.proofs.signed.negative.Reads as reads
-use Rattle.words.proofs.signed.negative.Lts as lts
 
 returns : tie.Need-returns
 returns c = ap (λ (z : ℤ). ltZ z (pos 0)) (toZ-ofZ w64 (c .args .x) (c .fits .x)) ∙ below-zero (c .args .x)

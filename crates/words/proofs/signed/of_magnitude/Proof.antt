@@ -2,7 +2,7 @@
 use mathlib.Core.Path.{_≡_, sym, ap, _∙_, subst}
 use mathlib.Core.Bool.{Bool}
 use Prim.Native.Nat.{_^_, _<_}
-use lib.IntN.{ℤ, pos, negsuc, _-ℤ_}
+use lib.IntN.{ℤ, negsuc, _-ℤ_}
 use lib.Signed.{mag}
 use mir.Syntax.{w64}
 use mir.Val.{toZ}
@@ -12,8 +12,6 @@ use Rattle.words.proofs.SignedLaws.{neg-one-minus}
 use borrow.Author.Needs.{needs}
 use Rattle.words.proofs.signed.of_magnitude.Statement.{statement}
 use Rattle.words.proofs.signed.of_magnitude.Tie as tie
-use Rattle.words.proofs.signed.of_magnitude.Reads as reads
-use Rattle.words.proofs.signed.of_magnitude.Lts as lts
 
 down : (c : tie.Then1) → negsuc 0 -ℤ toZ w64 (c .before .args .m) ≡ negsuc (c .before .args .m)
 down c = ap (λ (z : ℤ). negsuc 0 -ℤ z) (toZ-pos w64 (c .before .args .m) (c .before .pre)) ∙ neg-one-minus (c .before .args .m)

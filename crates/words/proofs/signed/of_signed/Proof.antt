@@ -9,11 +9,6 @@ use Rattle.words.proofs.SignedLaws.{half-le, of-low, of-high}
 use borrow.Author.Needs.{needs}
 use Rattle.words.proofs.signed.of_signed.Statement.{statement}
 use Rattle.words.proofs.signed.of_signed.Tie as tie
-use Rattle.words.proofs.signed.of_signed.Reads as reads
-use Rattle.words.proofs.signed.of_signed.Lts as lts
-use Rattle.words.proofs.signed.half.Reads as half-reads
-use Rattle.words.proofs.signed.magnitude.Reads as magnitude-reads
-use Rattle.words.proofs.signed.negative.Reads as negative-reads
 
 half-requires : tie.Need-half-requires
 half-requires c κs = search needs

@@ -9,10 +9,6 @@ use Rattle.words.specs.Signed.{halfOf, ofSigned}
 use borrow.Author.Needs.{needs}
 use Rattle.words.proofs.signed.put_signed.Statement.{statement}
 use Rattle.words.proofs.signed.put_signed.Tie as tie
-use Rattle.words.proofs.signed.put_signed.Reads as reads
-use Rattle.words.proofs.signed.put_signed.Lts as lts
-use Rattle.words.proofs.signed.of_signed.Reads as of-signed-reads
-use Rattle.words.proofs.nums.put_num.Reads as put-num-reads
 
 of-signed-requires : tie.Need-of-signed-requires
 of-signed-requires c κs = search needs

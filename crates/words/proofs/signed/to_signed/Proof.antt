@@ -8,10 +8,6 @@ use Rattle.words.proofs.SignedLaws.{half-le, passed, to-low, to-high}
 use borrow.Author.Needs.{needs}
 use Rattle.words.proofs.signed.to_signed.Statement.{statement}
 use Rattle.words.proofs.signed.to_signed.Tie as tie
-use Rattle.words.proofs.signed.to_signed.Reads as reads
-use Rattle.words.proofs.signed.to_signed.Lts as lts
-use Rattle.words.proofs.signed.half.Reads as half-reads
-use Rattle.words.proofs.signed.of_magnitude.Reads as of-magnitude-reads
 
 half-requires : tie.Need-half-requires
 half-requires c κs = search needs

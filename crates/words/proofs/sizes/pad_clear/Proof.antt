@@ -8,9 +8,6 @@ use Rattle.words.proofs.Turns.{pad-word}
 use borrow.Author.Needs.{needs}
 use Rattle.words.proofs.sizes.pad_clear.Statement.{statement}
 use Rattle.words.proofs.sizes.pad_clear.Tie as tie
-use Rattle.words.proofs.sizes.pad_clear.Reads as reads
-use Rattle.words.proofs.sizes.pad_clear.Lts as lts
-use Rattle.words.proofs.nums.get8.Reads as get8-reads
 
 shift : (end : ℕ) → bitAnd (end + 7) 7 * 2 ^ 3 % 2 ^ 64 ≡ 8 * ((end + 7) % 8)
 shift end = rw (and-mask (end + 7) 3) (omega arith)
