@@ -135,10 +135,10 @@ pub record Cases : Type 0 where
   order : (readIn two [] (2 ∷ []) ≡ R.refused 5) × (readIn two [] (0 ∷ []) ≡ R.refused 7) × (readIn two [] (replicate 17 0) ≡ R.refused 5) × (readIn one C (0 ∷ 0 ∷ []) ≡ R.refused 5)
   -- a null before the path's end is 6
   under : readIn inner (set (content (ro inner) (node (null (zeros 8) ∷ []))) 8 1) (0 ∷ 1 ∷ []) ≡ R.refused 6
-  -- set: 7 before 5; 5 before 8; 8 before 9; a container is 8; what fits another type is 8
+  -- set: 7 before 5; 5 before 8; 8 before 9, also at a null string; a container is 8; what fits another type is 8
   judged : (setIn one J (1 ∷ []) S.null ≡ refuses 7) × (setIn one C (1 ∷ []) S.null ≡ refuses 5) × (setIn one C (0 ∷ []) (S.signed (pos 1)) ≡ refuses 8)
       × (setIn one C [] S.null ≡ refuses 8) × (setIn two A (0 ∷ []) (S.float32 0) ≡ refuses 8) × (setIn two B (1 ∷ []) (S.signed (pos 1)) ≡ becomes A)
-      × (setIn two A (0 ∷ []) (S.signed (negsuc 1)) ≡ becomes A)
+      × (setIn two A (0 ∷ []) (S.signed (negsuc 1)) ≡ becomes A) × (setIn one (1 ∷ zeros 15) (0 ∷ []) (S.signed (pos 1)) ≡ refuses 8) × (setIn one (1 ∷ zeros 15) (0 ∷ []) (S.bytes []) ≡ refuses 9)
   lists-b : (listing (ro two) ofB ≡ 0x72 ∷ 0x6f ∷ 0x69 ∷ 0x34 ∷ 0xfe ∷ 0xff ∷ 0xff ∷ 0xff ∷ 0x6e ∷ 0x75 ∷ []) × (parse (ro two) (listing (ro two) ofB) ≡ some ofB)
   lists-d : listing (ro one) (node (leaf [] ∷ [])) ≡ 0x72 ∷ 0x6f ∷ 0x73 ∷ 0x74 ∷ 0 ∷ 0 ∷ 0 ∷ 0 ∷ []
 
@@ -165,7 +165,7 @@ cases = record {
   past = refl;
   order = (refl, refl, refl, refl);
   under = refl;
-  judged = (refl, refl, refl, refl, refl, refl, refl);
+  judged = (refl, refl, refl, refl, refl, refl, refl, refl, refl);
   lists-b = (refl, refl);
   lists-d = refl;
 }

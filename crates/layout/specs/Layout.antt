@@ -84,9 +84,9 @@ inside w v c = record {
   tail = λ x. [];
   Lays = λ at d. Inside (c .Lays) w;
   get = λ at d rs s. (do
-    (u, z) ← cut v s
+    (u, rest) ← cut v s
     x ← c .get u
-    assert (ℕ-discrete (num z) 0)
+    assert (ℕ-discrete (num rest) 0)
     some (x, rs));
 }
 
