@@ -5,3 +5,4 @@ pub mod Parse
 pub mod Laws
 pub mod Typing
 pub mod Judging
+pub mod Cases

@@ -264,7 +264,11 @@ pub fn open(s: &[u8], at: usize, depth: usize) -> Opened
         Kind::Fixed(i) => Opened::Fixed(i),
         Kind::Text(i) => Opened::Text(i),
         Kind::List => Opened::List(at + 2),
-        Kind::Map => Opened::Map(at + 2, next(s, at + 2, depth - 1)),
+        Kind::Map => {
+            let keys = at + 2;
+            let values = next(s, keys, depth - 1);
+            Opened::Map(keys, values)
+        }
         Kind::Struct => Opened::Struct(at + 3, wide(byte_at(s, at + 2))),
         Kind::Nothing => Opened::Nothing,
     }

@@ -1,7 +1,9 @@
 -- `schema::open` meets its contract. Assumes nothing.
-use mathlib.Core.Path.{sym, _∙_}
+use mathlib.Core.Path.{sym, ap, _∙_}
+use Prim.Native.Nat.{_+_}
 use native.Mathlib.Omega.{arith}
 use Rattle.schema.specs.Walk.{openAt, openOf}
+use Rattle.schema.specs.declared.Opened.the-variants.{Map as OMap}
 use Rattle.schema.proofs.Laws.{mark-room}
 use Rattle.schema.proofs.Typing.{typed-deep, typed-ma}
 use borrow.Author.Needs.{needs}
@@ -20,17 +22,14 @@ enum-known-k-2 c = search needs
 enum-told : tie.Need-enum-told
 enum-told c = search needs
 
-add-t8 : tie.Need-add-t8
-add-t8 c = omega (arith, mark-room _ _ _ (sym (c .before .before .kind-at .ensures) ∙ c .enum-told .given .1) tt)
+add-t10 : tie.Need-add-t10
+add-t10 c = omega (arith, mark-room _ _ _ (sym (c .before .before .kind-at .ensures) ∙ c .enum-told .given .1) tt)
 
 enum-told-2 : tie.Need-enum-told-2
 enum-told-2 c = search needs
 
-add-t9 : tie.Need-add-t9
-add-t9 c = omega (arith, mark-room _ _ _ (sym (c .before .before .kind-at .ensures) ∙ c .enum-told2 .given .1) tt)
-
-add-next : tie.Need-add-next
-add-next c = omega (arith, mark-room _ _ _ (sym (c .before .before .kind-at .ensures) ∙ c .enum-told2 .given .1) tt)
+add-keys : tie.Need-add-keys
+add-keys c = omega (arith, mark-room _ _ _ (sym (c .before .before .kind-at .ensures) ∙ c .enum-told2 .given .1) tt)
 
 sub-next : tie.Need-sub-next
 sub-next c = typed-deep _ _ _ (c .before .before .before .before .pre)
@@ -41,8 +40,8 @@ next-requires c κs = typed-ma _ _ _ (c .before .before .before .before .pre) (s
 enum-told-3 : tie.Need-enum-told-3
 enum-told-3 c = search needs
 
-add-t13 : tie.Need-add-t13
-add-t13 c = omega (arith, mark-room _ _ _ (sym (c .before .before .kind-at .ensures) ∙ c .enum-told3 .given .1) tt)
+add-t12 : tie.Need-add-t12
+add-t12 c = omega (arith, mark-room _ _ _ (sym (c .before .before .kind-at .ensures) ∙ c .enum-told3 .given .1) tt)
 
 add-byte-at : tie.Need-add-byte-at
 add-byte-at c = omega (arith, mark-room _ _ _ (sym (c .before .before .kind-at .ensures) ∙ c .enum-told3 .given .1) tt)
@@ -70,7 +69,7 @@ returns-3 c = rw (sym (c .before .before .kind-at .ensures) ∙ c .enum-told .gi
 
 returns-4 : tie.Need-returns-4
 unfolding openAt openOf
-returns-4 c = rw ((sym (c .before .before .before .kind-at .ensures) ∙ c .before .enum-told2 .given .1), c .next .ensures)
+returns-4 c = rw (sym (c .before .before .before .kind-at .ensures) ∙ c .before .enum-told2 .given .1) (ap (λ v. OMap (c .before .before .before .before .before .args .at + 2) v) (c .next .ensures))
 
 returns-5 : tie.Need-returns-5
 unfolding openAt openOf
@@ -88,14 +87,13 @@ open-spec =
     enum-known-k
     enum-known-k-2
     enum-told
-    add-t8
+    add-t10
     enum-told-2
-    add-t9
-    add-next
+    add-keys
     sub-next
     next-requires
     enum-told-3
-    add-t13
+    add-t12
     add-byte-at
     byte-at-requires
     wide-requires
