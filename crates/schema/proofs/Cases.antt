@@ -4,7 +4,7 @@ use mathlib.Core.List.{List, [], _∷_, _++_}
 use Prim.Native.Nat.{ℕ, zero, suc}
 use lib.ListN.{length}
 use Rattle.schema.specs.Marks.{types, markAt}
-use Rattle.schema.specs.Types.{Ty, fix, text, li, ma, ro, Tys, end, _then_, bo, i1, i4, i8, st, bi, count, fixedPlace, textPlace, fixedAt, textAt, place, mark}
+use Rattle.schema.specs.Types.{fix, text, li, ma, ro, end, _then_, bo, i1, i4, i8, st, bi, count, fixedPlace, textPlace, fixedAt, textAt, place, mark}
 use Rattle.schema.specs.House.{schema, depth}
 use Rattle.schema.specs.Kinds.{find, placeOf, kindOf, placed, headKind}
 use Rattle.schema.specs.Reading.{parse, parseAll, parseRo, parseKind, after, root, judged}

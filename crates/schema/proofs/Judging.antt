@@ -1,26 +1,23 @@
 -- When a schema is accepted: what the judge finds is what document 01 asks. Assumes nothing.
 use mathlib.Core.Path.{_≡_, refl, ap, sym, _∙_, subst}
 use mathlib.Core.Bool.{Bool, true, false}
-use mathlib.Core.List.{List, [], _∷_, _++_, append-assoc, append-nil}
-use Prim.Native.Nat.{ℕ, zero, suc, _+_, _-_, _<_, _≤_}
+use mathlib.Core.List.{List, [], _∷_, _++_, append-nil}
+use Prim.Native.Nat.{ℕ, _+_, _<_, _≤_}
 use native.Mathlib.Omega.{arith}
-use native.Mathlib.Nat.{zero-add}
 use borrow.Author.Tests.{le-leb, lt-leb, leb-true}
-use lib.Dec.{T, leb, lit<}
-use lib.ListN.{length, drop, getD, length-append, length-drop}
-use lib.Seq.{drop-length}
+use lib.Dec.{T, leb}
+use lib.ListN.{length, length-append}
 use Rattle.schema.specs.Types.{Ty, fix, text, li, ma, ro, Tys, count}
 use Rattle.schema.specs.House.{schema, depth, Right, Schema}
 use Rattle.schema.specs.Kinds.{pick, kindAt, headKind, isStruct, kindTy}
 use Rattle.schema.specs.Reading.{Parsed, none, some, after, parse, root, judged}
-use Rattle.schema.specs.Walk.{size, Typed, typeAt, skipAt, partsIf, fieldsOf}
-use Rattle.schema.specs.declared.Kind.{Kind}
-use Rattle.schema.specs.declared.Kind.the-variants.{Fixed as FixedK, Text as TextK, List as ListK, Map as MapK, Struct as StructK, Nothing}
+use Rattle.schema.specs.Walk.{size, Typed, typeAt, skipAt, fieldsOf}
+use Rattle.schema.specs.declared.Kind.the-variants.{Struct as StructK}
 use Rattle.schema.specs.declared.Reach.{Reach}
 use Rattle.schema.specs.declared.Reach.the-variants.{To, Stop}
 use Rattle.schema.specs.declared.Judged.{Judged}
 use Rattle.schema.specs.declared.Judged.the-variants.{Accepted, Refused}
-use Rattle.schema.proofs.Parse.{Found, Sound, sound, complete, schema-kind}
+use Rattle.schema.proofs.Parse.{Sound, sound, complete, schema-kind}
 
 abbrev result : Parsed → Judged
 result x = after x Refused root
@@ -136,6 +133,8 @@ pub record Root (s : List ℕ) : Type 0 where
   pub whole : typeAt s 0 8 ≡ ro (fieldsOf s)
   pub form : s ≡ schema (ro (fieldsOf s))
   pub right : Right (ro (fieldsOf s))
+  pub deep : depth (ro (fieldsOf s)) ≤ 8
+  pub short : length s ≤ 1024
   pub low : 1 ≤ count (fieldsOf s)
   pub high : count (fieldsOf s) ≤ 128
 
@@ -158,6 +157,8 @@ accepted-root s e =
       whole = rw p (ap ro f);
       form = c .form ∙ ap (λ ts. schema (ro ts)) f;
       right = subst (λ (ts : Tys). Right (ro ts)) f (c .right);
+      deep = subst (λ (ts : Tys). depth (ro ts) ≤ 8) f (c .deep);
+      short = c .short;
       low = rw (← f) (c .right .0 .low);
       high = rw (← f) (c .right .0 .high);
     }

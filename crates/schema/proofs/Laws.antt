@@ -1,25 +1,22 @@
 -- The laws of the types by position: what a caller needs of `Typed`, `typeAt` and `skipAt`, and never of the text of `parse`. Assumes nothing.
-use mathlib.Core.Path.{_≡_, refl, ap, sym, _∙_, subst}
-use mathlib.Core.Bool.{Bool, true, false}
+use mathlib.Core.Path.{_≡_, refl, ap, sym, _∙_}
 use mathlib.Core.List.{List, [], _∷_, _++_}
 use Prim.Native.Nat.{ℕ, zero, suc, _+_, _-_, _<_, _≤_}
 use native.Mathlib.Omega.{arith}
-use native.Mathlib.Numerals.{sub-one}
 use borrow.Author.Tests.{le-leb, lt-leb}
-use lib.Dec.{T, leb}
 use lib.ListN.{length, drop, getD, length-append, length-drop}
 use lib.Seq.{drop-drop, getD-drop, drop-append-seam}
 use Rattle.schema.specs.Marks.{markAt}
 use Rattle.schema.specs.Types.{Ty, fix, text, li, ma, ro, Tys, end, _then_, Fixed, Text, fixedAt, textAt, mark}
 use Rattle.schema.specs.House.{schema, schemas}
-use Rattle.schema.specs.Kinds.{kindAt, headKind}
+use Rattle.schema.specs.Kinds.{kindAt}
 use Rattle.schema.specs.Reading.{Parsed, none, some, ParsedAll, nones, somes, after, afters, parse, parseAll, parseRo, parseKind}
 use Rattle.schema.specs.Walk.{size, sizes, skipAt, skipAll, onward}
 use Rattle.schema.specs.declared.Kind.{Kind}
 use Rattle.schema.specs.declared.Kind.the-variants.{Fixed as FixedK, Text as TextK, List as ListK, Map as MapK, Struct as StructK, Nothing}
 use Rattle.schema.specs.declared.Reach.{Reach}
 use Rattle.schema.specs.declared.Reach.the-variants.{To, Stop}
-use Rattle.schema.proofs.Marked.{Headed, headed, Real}
+use Rattle.schema.proofs.Marked.{headed, Real}
 use Rattle.schema.proofs.Parse.{Sound, sound}
 
 -- sizes

@@ -2,17 +2,17 @@
 use mathlib.Core.Path.{_≡_, refl, ap, sym, _∙_, subst}
 use mathlib.Core.Bool.{Bool, true, false}
 use mathlib.Core.List.{List, [], _∷_, _++_}
-use Prim.Native.Nat.{ℕ, zero, suc, _+_, _-_, _<_, _≤_}
+use Prim.Native.Nat.{ℕ, _+_, _-_, _<_, _≤_}
 use native.Mathlib.Omega.{arith}
 use borrow.Author.Tests.{ltb-true, ltb-false}
 use lib.Dec.{ltb, lit<, lit≤}
-use lib.ListN.{length, drop}
+use lib.ListN.{drop}
 use Rattle.schema.specs.Marks.{types, line, markAt}
 use Rattle.schema.specs.Kinds.{find, placed, kindOf, placeOf, headKind}
 use Rattle.schema.specs.declared.Kind.{Kind}
 use Rattle.schema.specs.declared.Kind.the-variants.{Fixed as FixedK, Text as TextK, List as ListK, Map as MapK, Struct as StructK, Nothing}
 use Rattle.schema.proofs.Table.{each}
-use Rattle.schema.proofs.Search.{Marks, place-marks, placed-out}
+use Rattle.schema.proofs.Search.{place-marks, placed-out}
 
 -- the place of a kind
 abbrev pub placeOfKind : Kind → ℕ

@@ -1,21 +1,21 @@
 -- Reading and the house form are inverse. Assumes nothing.
-use mathlib.Core.Path.{_≡_, refl, ap, sym, _∙_, subst}
+use mathlib.Core.Path.{_≡_, refl, ap, sym, _∙_}
 use mathlib.Core.Bool.{Bool, true, false}
 use mathlib.Core.List.{List, [], _∷_, _++_, append-assoc}
-use Prim.Native.Nat.{ℕ, zero, suc, max, _+_, _<_, _≤_}
+use Prim.Native.Nat.{ℕ, zero, suc, _<_, _≤_}
 use native.Mathlib.Omega.{arith}
 use borrow.Author.Tests.{leb-true, le-leb}
 use lib.Dec.{leb, lit<}
-use lib.ListN.{length, drop, getD}
+use lib.ListN.{drop, getD}
 use Rattle.schema.specs.Marks.{types, markAt}
 use Rattle.schema.specs.Types.{Ty, fix, text, li, ma, ro, Tys, end, _then_, count, fixedPlace, textPlace, fixedAt, textAt, place, mark}
-use Rattle.schema.specs.House.{schema, schemas, depth, depths, Counted, Right, Rights}
+use Rattle.schema.specs.House.{schema, schemas, depth, depths, Right, Rights}
 use Rattle.schema.specs.Kinds.{pick, placed, kindOf, headKind, kindTy}
 use Rattle.schema.specs.Reading.{Parsed, none, some, ParsedAll, nones, somes, after, afters, parse, parseAll, parseRo, parseKind}
 use Rattle.schema.specs.declared.Kind.{Kind}
 use Rattle.schema.specs.declared.Kind.the-variants.{Fixed as FixedK, Text as TextK, List as ListK, Map as MapK, Struct as StructK, Nothing}
 use Rattle.schema.proofs.Table.{fixed-at, text-at, fixed-high, text-low, text-high, place-fixed, place-text}
-use Rattle.schema.proofs.Marked.{Headed, headed, mark-kind, fixed-placed, text-placed}
+use Rattle.schema.proofs.Marked.{headed, mark-kind, fixed-placed, text-placed}
 
 -- what a reading says of the list that was read
 pub record Found (d : ℕ) (s : List ℕ) (T : Ty) (r : List ℕ) : Type 0 where

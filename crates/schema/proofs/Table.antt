@@ -1,12 +1,11 @@
 -- What is true of each line of the table. Assumes nothing.
 use mathlib.Core.Path.{_≡_, refl, sym, ap, subst}
-use mathlib.Core.Logic.{_≢_}
 use mathlib.Core.List.{List, [], _∷_}
 use Prim.Native.Nat.{ℕ, zero, suc, _+_, _-_, _≤_, _<_}
 use native.Mathlib.Omega.{arith}
 use lib.Dec.{lit<}
 use lib.ListN.{length}
-use Rattle.words.specs.Bytes.{Bytes, empty, byte, num}
+use Rattle.words.specs.Bytes.{Bytes, empty, byte}
 use Rattle.schema.specs.Marks.{types, line, markAt}
 use Rattle.schema.specs.Types.{Fixed, bo, i1, i2, i4, i8, f4, f8, Text, st, bi, Ty, fix, text, li, ma, ro, fixedPlace, textPlace, fixedAt, textAt, place, width, mark}
 

@@ -1,14 +1,14 @@
 -- The laws of `Typed`, `typeAt` and `typesAt`: all that a function needs which walks a schema by position. Assumes nothing.
 use mathlib.Core.Path.{_≡_, refl, ap, sym, _∙_, subst}
 use mathlib.Core.Bool.{Bool, true, false}
-use mathlib.Core.List.{List, [], _∷_, _++_}
+use mathlib.Core.List.{List}
 use Prim.Native.Nat.{ℕ, zero, suc, _+_, _-_, _<_, _≤_}
 use native.Mathlib.Omega.{arith}
 use borrow.Author.Tests.{leb-true}
 use lib.Dec.{T, leb}
 use lib.ListN.{length, drop, getD, length-append, length-drop}
-use Rattle.schema.specs.Types.{Ty, fix, text, li, ma, ro, Tys, end, _then_, st, count, field}
-use Rattle.schema.specs.House.{schema, schemas}
+use Rattle.schema.specs.Types.{Ty, text, li, ma, ro, Tys, end, _then_, st, count, field}
+use Rattle.schema.specs.House.{schemas}
 use Rattle.schema.specs.Kinds.{pick, kindAt, headKind, kindTy}
 use Rattle.schema.specs.Reading.{Parsed, none, some, ParsedAll, nones, somes, after, afters, parse, parseAll, parseRo}
 use Rattle.schema.specs.Walk.{size, sizes, Typed, typeAt, TypedAll, typesAt, nextAt, skipAt, IsFixed, IsText, ListAt, MapAt, StructAt, HasField, fieldAt, openOf, openAt, Opens}
@@ -16,7 +16,7 @@ use Rattle.schema.specs.declared.Kind.{Kind}
 use Rattle.schema.specs.declared.Kind.the-variants.{Fixed as FixedK, Text as TextK, List as ListK, Map as MapK, Struct as StructK, Nothing}
 use Rattle.schema.specs.declared.Reach.{Reach}
 use Rattle.schema.specs.declared.Reach.the-variants.{To, Stop}
-use Rattle.schema.proofs.Marked.{Headed, headed}
+use Rattle.schema.proofs.Marked.{headed}
 use Rattle.schema.proofs.Parse.{Sound, SoundAll, sound, all-sound, complete, schema-kind}
 use Rattle.schema.proofs.Laws.{Left, left, step-fixed, step-text, step-li, step-ma, step-ro, step-none, all-none, all-more}
 

@@ -1,14 +1,14 @@
 -- The types of a schema by position. Assumes nothing: these are definitions.
-use mathlib.Core.Bool.{Bool, true, false}
-use mathlib.Core.List.{List, [], _∷_}
+use mathlib.Core.Bool.{true, false}
+use mathlib.Core.List.{List}
 use mathlib.Core.Path.{_≡_}
 use Prim.Native.Nat.{ℕ, zero, suc, _+_, _-_, _≤_, _<_}
 use lib.Dec.{T}
 use lib.ListN.{length, drop, getD}
-use Rattle.schema.specs.Types.{Ty, fix, text, li, ma, ro, Tys, end, _then_, st, fixedAt, textAt}
+use Rattle.schema.specs.Types.{Ty, fix, text, li, ma, ro, Tys, end, st, fixedAt, textAt}
 use Rattle.schema.specs.House.{schema, schemas}
 use Rattle.schema.specs.Kinds.{kindAt}
-use Rattle.schema.specs.Reading.{Parsed, ParsedAll, after, afters, parse, parseAll, judged}
+use Rattle.schema.specs.Reading.{after, afters, parse, parseAll, judged}
 use Rattle.schema.specs.declared.Kind.{Kind}
 use Rattle.schema.specs.declared.Kind.the-variants.{Fixed as FixedK, Text as TextK, List as ListK, Map as MapK, Struct as StructK, Nothing}
 use Rattle.schema.specs.declared.Reach.{Reach}

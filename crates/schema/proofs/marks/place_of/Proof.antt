@@ -1,7 +1,6 @@
 -- `schema::marks::place_of` meets its contract: the line that the index leads to is the one that has the mark, if any has it. Assumes nothing.
 use mathlib.Core.Path.{refl, sym, _∙_}
 use native.Mathlib.Omega.{arith}
-use Rattle.schema.specs.Marks.{types}
 use Rattle.schema.proofs.Search.{places, hash, led-small, led-is, led-none, led-other}
 use borrow.Author.Needs.{needs}
 use Rattle.schema.proofs.marks.place_of.Statement.{statement}
