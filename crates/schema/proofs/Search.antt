@@ -7,7 +7,7 @@ use native.Mathlib.Numerals.{add-one}
 use native.Mathlib.Omega.{arith}
 use lib.ListN.{length, getD, drop-of-length-le}
 use lib.Seq.{drop-cons}
-use lib.Dec.{eqb, ltb, lit<}
+use lib.Dec.{eqb, ltb}
 use borrow.Author.Tests.{eq-eqb, ne-eqb, eqb-true, lt-ltb, le-ltb, ltb-true, ltb-false}
 use Rattle.schema.specs.declared.Entry.{Entry}
 use Rattle.schema.specs.declared.Sort.{Sort}
@@ -95,10 +95,6 @@ led-place a b h =
     let m = place-marks a b h in
     let p : led (line (placeOf a b) .first) (line (placeOf a b) .second) ≡ led a b = ap (λ x. led x (line (placeOf a b) .second)) (m .first) ∙ ap (led a) (m .second) in
     sym p ∙ own-led (placeOf a b) h
-
-pub led-small : (i : ℕ) → i < 32 → getD places i 0 < 256
-unfolding places
-led-small = each (λ i. getD places i 0 < 256) 32 (lit< tt, (lit< tt, (lit< tt, (lit< tt, (lit< tt, (lit< tt, (lit< tt, (lit< tt, (lit< tt, (lit< tt, (lit< tt, (lit< tt, (lit< tt, (lit< tt, (lit< tt, (lit< tt, (lit< tt, (lit< tt, (lit< tt, (lit< tt, (lit< tt, (lit< tt, (lit< tt, (lit< tt, (lit< tt, (lit< tt, (lit< tt, (lit< tt, (lit< tt, (lit< tt, (lit< tt, (lit< tt, tt))))))))))))))))))))))))))))))))
 
 module _ (a b k : ℕ) (e : k ≡ led a b) where
   pub led-is : k < 12 → isMark (line k) a b ≡ true → k ≡ placeOf a b

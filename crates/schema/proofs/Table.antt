@@ -3,7 +3,6 @@ use mathlib.Core.Path.{_≡_, refl, sym, ap, subst}
 use mathlib.Core.List.{List, [], _∷_}
 use Prim.Native.Nat.{ℕ, zero, suc, _+_, _-_, _≤_, _<_}
 use native.Mathlib.Omega.{arith}
-use lib.Dec.{lit<}
 use lib.ListN.{length}
 use Rattle.words.specs.Bytes.{Bytes, empty, byte}
 use Rattle.schema.specs.Marks.{types, line, markAt}
@@ -123,7 +122,3 @@ place-text k l h =
 pub line-width : (k : ℕ) → k < 7 → line k .width ≡ width (fixedAt k)
 unfolding width
 line-width k h = sym (ap (λ n. line n .width) (place-fixed k h))
-
-pub line-small : (k : ℕ) → k < 12 → line k .width < 256
-unfolding types
-line-small = each (λ k. line k .width < 256) 12 (lit< tt, (lit< tt, (lit< tt, (lit< tt, (lit< tt, (lit< tt, (lit< tt, (lit< tt, (lit< tt, (lit< tt, (lit< tt, (lit< tt, tt))))))))))))

@@ -140,7 +140,7 @@ pub fn width_of(k: usize) -> usize
     requires { ⌜ k < 12 ⌝ }
     ensures { λ r. ⌜ r ≡ line k .width ⌝ }
 {
-    TYPES[k].width as usize
+    wide(TYPES[k].width)
 }
 
 // The byte at a position, and 0 past the end.

@@ -60,7 +60,7 @@ pub fn place_of(a: u8, b: u8) -> usize
     ensures { λ r. ⌜ r ≡ placeOf a b ⌝ }
 {
     let h = (a as usize * 9 + b as usize) % 32;
-    let k = PLACES[h] as usize;
+    let k = crate::wide(PLACES[h]);
     if 12 <= k {
         return 12;
     }

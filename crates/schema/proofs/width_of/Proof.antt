@@ -1,25 +1,21 @@
--- `schema::width_of` meets its contract: the table's widths are below 256. Assumes nothing.
-use mathlib.Core.Path.{refl}
-use native.Mathlib.Omega.{arith}
+-- `schema::width_of` meets its contract. Assumes nothing.
 use Rattle.schema.specs.Marks.{types}
-use Rattle.schema.proofs.Table.{line-small}
 use borrow.Author.Needs.{needs}
 use Rattle.schema.proofs.width_of.Statement.{statement}
 use Rattle.schema.proofs.width_of.Tie as tie
 
-mul-result : tie.Need-mul-result
-mul-result c = search needs
+mul-wide : tie.Need-mul-wide
+mul-wide c = search needs
 
-element-copy-out-result : tie.Need-element-copy-out-result
-element-copy-out-result c = search needs
+element-copy-out-wide : tie.Need-element-copy-out-wide
+element-copy-out-wide c = search needs
 
-cast-result : tie.Need-cast-result
-unfolding types
-cast-result c = omega (arith, line-small (c .args .k) (omega arith))
+wide-requires : tie.Need-wide-requires
+wide-requires c κs = search needs
 
 returns : tie.Need-returns
 unfolding types
-returns c = refl
+returns c = c .wide .ensures
 
 pub width-of-spec : {M : Type 1} → statement M
-width-of-spec = tie.close (tie.spec mul-result element-copy-out-result cast-result returns)
+width-of-spec = tie.close (tie.spec mul-wide element-copy-out-wide wide-requires returns)

@@ -1,7 +1,7 @@
 -- `schema::marks::place_of` meets its contract: the line that the index leads to is the one that has the mark, if any has it. Assumes nothing.
-use mathlib.Core.Path.{refl, sym, _∙_}
+use mathlib.Core.Path.{sym, _∙_}
 use native.Mathlib.Omega.{arith}
-use Rattle.schema.proofs.Search.{places, hash, led-small, led-is, led-none, led-other}
+use Rattle.schema.proofs.Search.{places, led-is, led-none, led-other}
 use borrow.Author.Needs.{needs}
 use Rattle.schema.proofs.marks.place_of.Statement.{statement}
 use Rattle.schema.proofs.marks.place_of.Tie as tie
@@ -12,29 +12,36 @@ mul-h c = search needs
 add-h : tie.Need-add-h
 add-h c = search needs
 
-array-read-k : tie.Need-array-read-k
-array-read-k c = search needs
+array-read-wide : tie.Need-array-read-wide
+array-read-wide c = search needs
 
-cast-k : tie.Need-cast-k
-unfolding places
-cast-k c = omega (arith, led-small (hash (c .args .a) (c .args .b)) (omega arith))
+wide-requires : tie.Need-wide-requires
+wide-requires c κs = search needs
 
 returns : tie.Need-returns
 unfolding places
-returns c = led-none (c .before .args .a) (c .before .args .b) _ refl (c .if1 .taken)
+returns c = led-none (c .before .before .args .a) (c .before .before .args .b) _ (c .before .wide .ensures) (c .if1 .taken)
 
 is-mark-requires : tie.Need-is-mark-requires
 is-mark-requires c κs = search needs
 
 returns-2 : tie.Need-returns-2
 unfolding places
-returns-2 c = led-is (c .before .before .before .args .a) (c .before .before .before .args .b) _ refl (omega arith) (sym (c .before .is-mark .ensures) ∙ c .if2 .taken)
+returns-2 c = led-is (c .before .before .before .before .args .a) (c .before .before .before .before .args .b) _ (c .before .before .before .wide .ensures) (omega arith) (sym (c .before .is-mark .ensures) ∙ c .if2 .taken)
 
 returns-3 : tie.Need-returns-3
 unfolding places
-returns-3 c = led-other (c .before .before .before .args .a) (c .before .before .before .args .b) _ refl (sym (c .before .is-mark .ensures) ∙ c .if2 .left)
+returns-3 c = led-other (c .before .before .before .before .args .a) (c .before .before .before .before .args .b) _ (c .before .before .before .wide .ensures) (sym (c .before .is-mark .ensures) ∙ c .if2 .left)
 
 pub place-of-spec : {M : Type 1} → statement M
 place-of-spec =
     tie.close
-    (tie.spec mul-h add-h array-read-k cast-k returns is-mark-requires returns-2 returns-3)
+    (tie.spec
+    mul-h
+    add-h
+    array-read-wide
+    wide-requires
+    returns
+    is-mark-requires
+    returns-2
+    returns-3)
