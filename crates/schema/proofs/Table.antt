@@ -1,13 +1,12 @@
 -- What is true of each line of the table. Assumes nothing.
-use mathlib.Core.Path.{_≡_, refl}
-use mathlib.Core.Logic.{_≢_}
+use mathlib.Core.Path.{_≡_, refl, sym, ap, subst}
 use mathlib.Core.List.{List, [], _∷_}
-use Prim.Native.Nat.{ℕ, zero, suc, _≤_, _<_}
+use Prim.Native.Nat.{ℕ, zero, suc, _+_, _-_, _≤_, _<_}
 use native.Mathlib.Omega.{arith}
 use lib.ListN.{length}
-use Rattle.words.specs.Bytes.{Bytes, empty, byte, num}
+use Rattle.words.specs.Bytes.{Bytes, empty, byte}
 use Rattle.schema.specs.Marks.{types, line, markAt}
-use Rattle.schema.specs.Types.{Fixed, bo, i1, i2, i4, i8, f4, f8, Text, st, bi, Ty, fix, text, li, ma, ro, fixedPlace, textPlace, place, width, mark}
+use Rattle.schema.specs.Types.{Fixed, bo, i1, i2, i4, i8, f4, f8, Text, st, bi, Ty, fix, text, li, ma, ro, fixedPlace, textPlace, fixedAt, textAt, place, width, mark}
 
 pub width-8 : (f : Fixed) → width f ≤ 8
 unfolding width types fixedPlace
@@ -59,3 +58,67 @@ is-mark (text t) = text-mark t
 is-mark (li t) = pair-mark 108 105 (omega arith) (omega arith)
 is-mark (ma k v) = pair-mark 109 97 (omega arith) (omega arith)
 is-mark (ro ts) = pair-mark 114 111 (omega arith) (omega arith)
+
+-- ---- a type and its place
+
+-- what holds at each of the first n places
+abbrev pub Each : (ℕ → Type 0) → ℕ → Type 0
+Each P zero = Unit {0}
+Each P (suc n) = P 0 × Each (λ k. P (suc k)) n
+
+pub each : (P : ℕ → Type 0) (n : ℕ) → Each P n → (k : ℕ) → k < n → P k
+each P zero a k h = absurd (omega arith)
+each P (suc n) a zero h = a .0
+each P (suc n) a (suc k) h = each (λ j. P (suc j)) n (a .1) k (omega arith)
+
+pub fixed-at : (f : Fixed) → fixedAt (fixedPlace f) ≡ f
+unfolding fixedAt fixedPlace
+fixed-at bo = refl
+fixed-at i1 = refl
+fixed-at i2 = refl
+fixed-at i4 = refl
+fixed-at i8 = refl
+fixed-at f4 = refl
+fixed-at f8 = refl
+
+pub text-at : (t : Text) → textAt (textPlace t) ≡ t
+unfolding textAt textPlace
+text-at st = refl
+text-at bi = refl
+
+pub fixed-high : (f : Fixed) → fixedPlace f < 7
+unfolding fixedPlace
+fixed-high bo = omega arith
+fixed-high i1 = omega arith
+fixed-high i2 = omega arith
+fixed-high i4 = omega arith
+fixed-high i8 = omega arith
+fixed-high f4 = omega arith
+fixed-high f8 = omega arith
+
+pub text-low : (t : Text) → 7 ≤ textPlace t
+unfolding textPlace
+text-low st = omega arith
+text-low bi = omega arith
+
+pub text-high : (t : Text) → textPlace t < 9
+unfolding textPlace
+text-high st = omega arith
+text-high bi = omega arith
+
+pub place-fixed : (k : ℕ) → k < 7 → fixedPlace (fixedAt k) ≡ k
+unfolding fixedAt fixedPlace
+place-fixed = each (λ k. fixedPlace (fixedAt k) ≡ k) 7 (refl, (refl, (refl, (refl, (refl, (refl, (refl, tt)))))))
+
+text-from : (j : ℕ) → j < 2 → textPlace (textAt (7 + j)) ≡ 7 + j
+unfolding textAt textPlace
+text-from = each (λ j. textPlace (textAt (7 + j)) ≡ 7 + j) 2 (refl, (refl, tt))
+
+pub place-text : (k : ℕ) → 7 ≤ k → k < 9 → textPlace (textAt k) ≡ k
+place-text k l h =
+    let e : 7 + (k - 7) ≡ k = omega arith in
+    subst (λ (n : ℕ). textPlace (textAt n) ≡ n) e (text-from (k - 7) (omega arith))
+
+pub line-width : (k : ℕ) → k < 7 → line k .width ≡ width (fixedAt k)
+unfolding width
+line-width k h = sym (ap (λ n. line n .width) (place-fixed k h))

@@ -1,6 +1,7 @@
 -- The types of document 01, and what the table says of each. Assumes nothing: these are definitions.
 use mathlib.Core.List.{List, [], _∷_}
-use Prim.Native.Nat.{ℕ, zero, suc}
+use Prim.Native.Nat.{ℕ, zero, suc, _-_}
+use lib.ListN.{getD}
 use Rattle.schema.specs.Marks.{line, markAt}
 
 -- the types of a fixed width: bool, int8, int16, int32, int64, float32, float64
@@ -50,6 +51,13 @@ fixedPlace f8 = 6
 unfoldable pub textPlace : Text → ℕ
 textPlace st = 7
 textPlace bi = 8
+
+-- the types at the table's places 0 to 6, and at 7 and 8
+unfoldable pub fixedAt : ℕ → Fixed
+fixedAt k = getD (bo ∷ i1 ∷ i2 ∷ i4 ∷ i8 ∷ f4 ∷ f8 ∷ []) k bo
+
+unfoldable pub textAt : ℕ → Text
+textAt k = getD (st ∷ bi ∷ []) (k - 7) st
 
 unfoldable pub place : Ty → ℕ
 place (fix f) = fixedPlace f

@@ -1,4 +1,13 @@
 // The schema of a row: the house form, judged and walked by position.
+ghost use mathlib.Core.Path.{_≡_};
+ghost use Prim.Native.Nat.{_<_};
+ghost use lib.ListN.{getD};
+ghost use Rattle.schema.specs.Marks.{line};
+ghost use Rattle.schema.specs.Kinds.{isStruct};
+ghost use Rattle.schema.specs.Reading.{judged};
+ghost use Rattle.schema.specs.Walk.{Typed, HasField, fieldAt, openAt, nextAt, skipAt, skipAll};
+
+pub mod marks;
 
 // The kinds of the table.
 pub enum Sort {
@@ -92,3 +101,189 @@ pub const TYPES: [Entry; 12] = [
         kind: Sort::Struct,
     },
 ];
+
+// What the mark at a position says: a leaf with its place in the table, a container, or no mark.
+pub enum Kind {
+    Fixed(usize),
+    Text(usize),
+    List,
+    Map,
+    Struct,
+    Nothing,
+}
+
+// Where a type ends: the position after it, or that none stands there.
+pub enum Reach {
+    To(usize),
+    Stop,
+}
+
+// The answer on a schema.
+pub enum Judged {
+    Accepted,
+    Refused,
+}
+
+// A type taken apart: a leaf's place in the table, the position of a list's elements' type, of a map's keys' and values'
+// types, or of a struct's first field and how many there are.
+pub enum Opened {
+    Fixed(usize),
+    Text(usize),
+    List(usize),
+    Map(usize, usize),
+    Struct(usize, usize),
+    Nothing,
+}
+
+// The bytes in a row of the type at a place of the table, 0 where they vary.
+pub fn width_of(k: usize) -> usize
+    requires { ⌜ k < 12 ⌝ }
+    ensures { λ r. ⌜ r ≡ line k .width ⌝ }
+{
+    wide(TYPES[k].width)
+}
+
+// The byte at a position, and 0 past the end.
+pub fn byte_at(s: &[u8], at: usize) -> u8
+    ensures { λ r. ⌜ r ≡ getD (now (s .entry)) at 0 ⌝ }
+{
+    if at < s.len() { s[at] } else { 0 }
+}
+
+fn wide(b: u8) -> usize
+    ensures { λ r. ⌜ r ≡ b ⌝ }
+{
+    b as usize
+}
+
+// The position after the type at a position, at most depth deep.
+pub fn skip(s: &[u8], at: usize, depth: usize) -> Reach
+    ensures { λ r. ⌜ r ≡ skipAt (now (s .entry)) at depth ⌝ }
+{
+    if depth == 0 {
+        return Reach::Stop;
+    }
+    let d = depth - 1;
+    let k = marks::kind_at(s, at);
+    match k {
+        Kind::Fixed(_) => Reach::To(at + 2),
+        Kind::Text(_) => Reach::To(at + 2),
+        Kind::List => skip(s, at + 2, d),
+        Kind::Map => match skip(s, at + 2, d) {
+            Reach::To(e) => skip(s, e, d),
+            Reach::Stop => Reach::Stop,
+        },
+        Kind::Struct => {
+            let n = wide(byte_at(s, at + 2));
+            if n < 1 {
+                return Reach::Stop;
+            }
+            if 128 < n {
+                return Reach::Stop;
+            }
+            skip_fields(s, at + 3, d, n)
+        }
+        Kind::Nothing => Reach::Stop,
+    }
+}
+
+// The position after n types one after the other: a loop, so that the stack grows with the depth alone.
+pub fn skip_fields(s: &[u8], at: usize, depth: usize, n: usize) -> Reach
+    ensures { λ r. ⌜ r ≡ skipAll (now (s .entry)) at depth n ⌝ }
+{
+    let mut cur = at;
+    let mut left = n;
+    while left != 0 {
+        match skip(s, cur, depth) {
+            Reach::To(e) => {
+                cur = e;
+            }
+            Reach::Stop => {
+                return Reach::Stop;
+            }
+        }
+        left -= 1;
+    }
+    Reach::To(cur)
+}
+
+fn is_struct(k: Kind) -> bool
+    ensures { λ r. ⌜ r ≡ isStruct k ⌝ }
+{
+    match k {
+        Kind::Fixed(_) => false,
+        Kind::Text(_) => false,
+        Kind::List => false,
+        Kind::Map => false,
+        Kind::Struct => true,
+        Kind::Nothing => false,
+    }
+}
+
+// Whether the bytes are a schema: at most 1,024, one struct at most eight deep, and nothing after it.
+pub fn judge(s: &[u8]) -> Judged
+    ensures { λ r. ⌜ r ≡ judged (now (s .entry)) ⌝ }
+{
+    if 1024 < s.len() {
+        return Judged::Refused;
+    }
+    if is_struct(marks::kind_at(s, 0)) {
+        match skip(s, 0, 8) {
+            Reach::To(e) => {
+                if e == s.len() {
+                    Judged::Accepted
+                } else {
+                    Judged::Refused
+                }
+            }
+            Reach::Stop => Judged::Refused,
+        }
+    } else {
+        Judged::Refused
+    }
+}
+
+// The position after the type at a position of an accepted schema.
+pub fn next(s: &[u8], at: usize, depth: usize) -> usize
+    requires { ⌜ Typed (now s) at depth ⌝ }
+    ensures { λ r. ⌜ r ≡ nextAt (now (s .entry)) at depth ⌝ }
+{
+    match skip(s, at, depth) {
+        Reach::To(e) => e,
+        Reach::Stop => 0,
+    }
+}
+
+// The type at a position of an accepted schema, taken apart.
+pub fn open(s: &[u8], at: usize, depth: usize) -> Opened
+    requires { ⌜ Typed (now s) at depth ⌝ }
+    ensures { λ r. ⌜ r ≡ openAt (now (s .entry)) at depth ⌝ }
+{
+    let k = marks::kind_at(s, at);
+    match k {
+        Kind::Fixed(i) => Opened::Fixed(i),
+        Kind::Text(i) => Opened::Text(i),
+        Kind::List => Opened::List(at + 2),
+        Kind::Map => {
+            let keys = at + 2;
+            let values = next(s, keys, depth - 1);
+            Opened::Map(keys, values)
+        }
+        Kind::Struct => Opened::Struct(at + 3, wide(byte_at(s, at + 2))),
+        Kind::Nothing => Opened::Nothing,
+    }
+}
+
+// The position of field i, of fields that stand one after the other from a position on.
+pub fn field_at(s: &[u8], first: usize, depth: usize, i: usize) -> usize
+    requires { ⌜ HasField (now s) first depth i ⌝ }
+    ensures { λ r. ⌜ r ≡ fieldAt (now (s .entry)) first depth i ⌝ }
+{
+    let mut at = first;
+    let mut j = 0;
+    while j < i {
+        at = next(s, at, depth);
+        j += 1;
+    }
+    at
+}
