@@ -7,3 +7,4 @@ pub mod Listing
 pub mod Walk
 pub mod Reading
 pub mod Setting
+pub mod Entries
