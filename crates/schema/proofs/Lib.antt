@@ -6,3 +6,4 @@ pub mod Laws
 pub mod Typing
 pub mod Judging
 pub mod Cases
+pub mod Places

@@ -90,7 +90,7 @@ unfolding types placeOf find
 own-place = each (λ k. placeOf (line k .first) (line k .second) ≡ k) 12 (refl, (refl, (refl, (refl, (refl, (refl, (refl, (refl, (refl, (refl, (refl, (refl, tt))))))))))))
 
 -- so each mark leads to its line
-led-place : (a b : ℕ) → placeOf a b < 12 → led a b ≡ placeOf a b
+pub led-place : (a b : ℕ) → placeOf a b < 12 → led a b ≡ placeOf a b
 led-place a b h =
     let m = place-marks a b h in
     let p : led (line (placeOf a b) .first) (line (placeOf a b) .second) ≡ led a b = ap (λ x. led x (line (placeOf a b) .second)) (m .first) ∙ ap (led a) (m .second) in

@@ -1,9 +1,9 @@
 -- What the mark at a position says. Assumes nothing: these are definitions.
 use mathlib.Core.Bool.{Bool, true, false}
 use mathlib.Core.List.{List, [], _∷_}
-use Prim.Native.Nat.{ℕ, zero, suc}
+use Prim.Native.Nat.{ℕ, zero, suc, _+_, _<_}
 use lib.Dec.{eqb, ltb}
-use lib.ListN.{drop}
+use lib.ListN.{length, getD, drop}
 use Rattle.schema.specs.Marks.{types, line}
 use Rattle.schema.specs.Types.{Ty, fix, text, li, ma, ro, fixedPlace, textPlace}
 use Rattle.schema.specs.declared.Entry.{Entry}
@@ -47,6 +47,15 @@ headKind (a ∷ b ∷ s) = placed (placeOf a b)
 
 unfoldable pub kindAt : List ℕ → ℕ → Kind
 kindAt s at = headKind (drop at s)
+
+-- the place in the table of the mark at a position
+unfoldable pub placeAt : List ℕ → ℕ → ℕ
+placeAt s at = placeOf (getD s at 0) (getD s (at + 1) 0)
+
+-- a mark of the table stands at a position
+pub record Marked (s : List ℕ) (at : ℕ) : Type 0 where
+  pub room : at + 1 < length s
+  pub known : placeAt s at < 12
 
 -- the kind of a type's mark
 abbrev pub kindTy : Ty → Kind

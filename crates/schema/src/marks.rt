@@ -5,7 +5,7 @@ use crate::TYPES;
 ghost use mathlib.Core.Path.{_≡_};
 ghost use Prim.Native.Nat.{_<_};
 ghost use Rattle.schema.specs.Marks.{line};
-ghost use Rattle.schema.specs.Kinds.{isMark, placeOf, placed, kindAt};
+ghost use Rattle.schema.specs.Kinds.{isMark, placeOf, placeAt, Marked, placed, kindAt};
 
 // The line that the mark a b can have, at (9 a + b) mod 32, which differs for all twelve marks; 12 where no mark leads.
 pub const PLACES: [u8; 32] = [
@@ -65,6 +65,15 @@ pub fn place_of(a: u8, b: u8) -> usize
         return 12;
     }
     if is_mark(k, a, b) { k } else { 12 }
+}
+
+// The place of the mark at a position, where one of the table stands: the index leads there with no comparison.
+pub fn place_at(s: &[u8], at: usize) -> usize
+    requires { ⌜ Marked (now s) at ⌝ }
+    ensures { λ r. ⌜ r ≡ placeAt (now (s .entry)) at ⌝ }
+{
+    let h = (crate::wide(s[at]) * 9 + crate::wide(s[at + 1])) % 32;
+    crate::wide(PLACES[h])
 }
 
 // The kind of the type at a place of the table; Nothing past its end.
