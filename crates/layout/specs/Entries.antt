@@ -1,20 +1,24 @@
 -- What each entry answers, as a function of the lent bytes: its refusals in the document's order, and then the result.
 -- Assumes nothing: these are definitions.
-use mathlib.Core.Bool.{Bool, true, false}
+use mathlib.Core.Bool.{Bool, true, false, cond}
 use mathlib.Core.Option.{Option, none, some}
 use mathlib.Core.List.{List}
 use Prim.Native.Nat.{ℕ}
+use native.Mathlib.Decide.{decLe}
 use lib.Dec.{leb}
 use lib.ListN.{length}
+use lib.Seq.{sets}
 use Rattle.schema.specs.Types.{ro}
 use Rattle.schema.specs.Reading.{judged}
 use Rattle.schema.specs.Walk.{fieldsOf}
 use Rattle.schema.specs.declared.Judged.{Judged}
 use Rattle.schema.specs.declared.Judged.the-variants.{Accepted, Refused}
-use Rattle.layout.specs.Layout.{decode}
+use Rattle.layout.specs.Reader.{_>>=_, _>>_, assert}
+use Rattle.layout.specs.Layout.{content, decode}
+use Rattle.layout.specs.Listing.{listing, parse}
 use Rattle.layout.specs.Reading as R
 use Rattle.layout.specs.Reading.{Answer, readIn}
-use Rattle.layout.specs.Setting.{Setting, isSome, unless, _or_, Outcome, refuses, setIn}
+use Rattle.layout.specs.Setting.{Setting, isSome, unless, _or_, orEmpty, Outcome, refuses, becomes, setIn}
 
 -- done, or the number of a refusal
 pub data Verdict : Type 0 where
@@ -60,3 +64,54 @@ setAfter (some n) o = refuses n
 
 unfoldable pub setOf : List ℕ → List ℕ → List ℕ → Setting → Outcome
 setOf s row p x = setAfter (schemaBad s or rowLong row) (setIn (fieldsOf s) row p x)
+
+-- ---- writing a row from a listing, and listing it back
+
+-- a length, or a refusal's number and its length
+pub data Sized : Type 0 where
+  takes : ℕ → Sized
+  refusedWith : ℕ → ℕ → Sized
+
+-- a refusal's length is 0 except for 4, which answers the length needed
+abbrev pub sizedAfter : Option ℕ → ℕ → ℕ → Sized
+sizedAfter (some n) need room = refusedWith n 0
+sizedAfter none need room = cond (leb need room) (takes need) (refusedWith 4 need)
+
+-- the row that the format lays down for a listing of at most 65,536 bytes that fits the schema
+unfoldable pub imageOf : List ℕ → List ℕ → Option (List ℕ)
+imageOf s l = do
+  assert (decLe (length l) 65536)
+  c ← parse (ro (fieldsOf s)) l
+  some (content (ro (fieldsOf s)) c)
+
+-- 2: the listing breaks its rules or doesn't fit the schema
+abbrev pub listingBad : List ℕ → List ℕ → Option ℕ
+listingBad s l = unless (isSome (imageOf s l)) 2
+
+unfoldable pub writeOf : List ℕ → List ℕ → ℕ → Sized
+writeOf s l room = sizedAfter (schemaBad s or listingBad s l or rowLong (orEmpty (imageOf s l))) (length (orEmpty (imageOf s l))) room
+
+-- the listing of a row's contents
+unfoldable pub listingOf : List ℕ → List ℕ → Option (List ℕ)
+listingOf s row = do
+  c ← decode (ro (fieldsOf s)) row
+  some (listing (ro (fieldsOf s)) c)
+
+unfoldable pub listOf : List ℕ → List ℕ → ℕ → Sized
+listOf s row room = sizedAfter (schemaBad s or rowLong row or layoutBad s row) (length (orEmpty (listingOf s row))) room
+
+-- what the lent output holds after: the first n bytes filled, the rest as it was; after a refusal all as it was
+abbrev pub filled : Sized → List ℕ → List ℕ → List ℕ
+filled (takes n) u out = sets out 0 u
+filled (refusedWith n k) u out = out
+
+unfoldable pub writtenOf : List ℕ → List ℕ → List ℕ → List ℕ
+writtenOf s l out = filled (writeOf s l (length out)) (orEmpty (imageOf s l)) out
+
+unfoldable pub listedOf : List ℕ → List ℕ → List ℕ → List ℕ
+listedOf s row out = filled (listOf s row (length out)) (orEmpty (listingOf s row)) out
+
+-- the row after a setting: a refusal alters no byte
+abbrev pub rowAfter : Outcome → List ℕ → List ℕ
+rowAfter (refuses n) row = row
+rowAfter (becomes row′) row = row′

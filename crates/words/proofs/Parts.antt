@@ -44,7 +44,7 @@ part-add b at j k = rw (take-add j k (drop at b), drop-drop j at b)
 pub part-whole : (b : List ℕ) → part b 0 (length b) ≡ b
 part-whole b = take-length b
 
-drop-take : (b n : ℕ) (l : List ℕ) → drop b (take n l) ≡ take (n - b) (drop b l)
+pub drop-take : (b n : ℕ) (l : List ℕ) → drop b (take n l) ≡ take (n - b) (drop b l)
 drop-take zero n l = ap (λ (k : ℕ). take k l) (sym (sub-zero n))
 drop-take (suc b) zero l = ap (λ (k : ℕ). take k (drop (suc b) l)) (sym (zero-sub (suc b)))
 drop-take (suc b) (suc n) [] = sym (take-nil (suc n - suc b))

@@ -1,0 +1,89 @@
+-- `answers::settings::given` meets its contract, case by case. Assumes nothing.
+use mathlib.Core.Path.{sym, ap, _∙_}
+use mir.Syntax.{w64}
+use mir.ValLaws.{toZ-ofZ}
+use Rattle.layout.specs.Setting as S
+use Rattle.answers.specs.declared.Setting.{Setting}
+use Rattle.answers.specs.Meaning.{settingOf}
+use borrow.Author.Needs.{needs}
+use Rattle.answers.proofs.settings.given.Statement.{statement}
+use Rattle.answers.proofs.settings.given.Tie as tie
+
+enum-told : tie.Need-enum-told
+enum-told c = search needs
+
+enum-known-s : tie.Need-enum-known-s
+enum-known-s c = search needs
+
+enum-known-s-2 : tie.Need-enum-known-s-2
+enum-known-s-2 c = search needs
+
+enum-known-s-3 : tie.Need-enum-known-s-3
+enum-known-s-3 c = search needs
+
+bits32-requires : tie.Need-bits32-requires
+bits32-requires c κs = search needs
+
+enum-known-s-4 : tie.Need-enum-known-s-4
+enum-known-s-4 c = search needs
+
+enum-known-s-5 : tie.Need-enum-known-s-5
+enum-known-s-5 c = search needs
+
+bits64-requires : tie.Need-bits64-requires
+bits64-requires c κs = search needs
+
+enum-known-s-6 : tie.Need-enum-known-s-6
+enum-known-s-6 c = search needs
+
+enum-told-2 : tie.Need-enum-told-2
+enum-told-2 c = search needs
+
+returns : tie.Need-returns
+returns c = λ u. sym (ap (λ (s : Setting). settingOf s u) (c .enum-told .given .1))
+
+returns-2 : tie.Need-returns-2
+returns-2 c = λ u. sym (ap (λ (s : Setting). settingOf s u) (c .before .s .given .1))
+
+returns-3 : tie.Need-returns-3
+returns-3 c = λ u.
+    ap S.signed (toZ-ofZ w64 (c .before .s2 .given .0 .0) (record { sfits = c .known-told2 .given .0 .1 }))
+    ∙ sym (ap (λ (s : Setting). settingOf s u) (c .before .s2 .given .1))
+
+returns-4 : tie.Need-returns-4
+returns-4 c = λ u. ap S.float32 (c .bits32 .ensures) ∙ sym (ap (λ (s : Setting). settingOf s u) (c .before .before .s3 .given .1))
+
+returns-5 : tie.Need-returns-5
+returns-5 c = λ u. sym (ap (λ (s : Setting). settingOf s u) (c .before .s4 .given .1))
+
+returns-6 : tie.Need-returns-6
+returns-6 c = λ u. ap S.float64 (c .bits64 .ensures) ∙ sym (ap (λ (s : Setting). settingOf s u) (c .before .before .s5 .given .1))
+
+returns-7 : tie.Need-returns-7
+returns-7 c = λ u. sym (ap (λ (s : Setting). settingOf s u) (c .before .s6 .given .1))
+
+returns-8 : tie.Need-returns-8
+returns-8 c = λ u. sym (ap (λ (s : Setting). settingOf s u) (c .enum-told2 .given .1))
+
+pub given-spec : {M : Type 1} → statement M
+given-spec =
+    tie.close
+    (tie.spec
+    enum-told
+    enum-known-s
+    enum-known-s-2
+    enum-known-s-3
+    bits32-requires
+    enum-known-s-4
+    enum-known-s-5
+    bits64-requires
+    enum-known-s-6
+    enum-told-2
+    returns
+    returns-2
+    returns-3
+    returns-4
+    returns-5
+    returns-6
+    returns-7
+    returns-8)

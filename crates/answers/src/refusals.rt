@@ -1,0 +1,36 @@
+// A refusal's number and length in the document.
+ghost use mathlib.Core.Path.{_≡_};
+ghost use Rattle.answers.specs.Meaning.{numberOf, lengthOf};
+use crate::Refusal;
+
+pub fn number(r: Refusal) -> u8
+    ensures { λ n. ⌜ n ≡ numberOf r ⌝ }
+{
+    match r {
+        Refusal::Schema => 1,
+        Refusal::Listing => 2,
+        Refusal::TooLong => 3,
+        Refusal::Room { needed: _ } => 4,
+        Refusal::NoPlace => 5,
+        Refusal::NullBefore => 6,
+        Refusal::Layout => 7,
+        Refusal::Unfit => 8,
+        Refusal::Resize => 9,
+    }
+}
+
+pub fn length(r: Refusal) -> usize
+    ensures { λ n. ⌜ n ≡ lengthOf r ⌝ }
+{
+    match r {
+        Refusal::Room { needed } => needed,
+        Refusal::Schema => 0,
+        Refusal::Listing => 0,
+        Refusal::TooLong => 0,
+        Refusal::NoPlace => 0,
+        Refusal::NullBefore => 0,
+        Refusal::Layout => 0,
+        Refusal::Unfit => 0,
+        Refusal::Resize => 0,
+    }
+}
