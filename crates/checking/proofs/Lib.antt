@@ -1,0 +1,10 @@
+pub mod Tests
+pub mod Children
+pub mod Containers
+pub mod Loops
+pub mod Leaves
+pub mod Fields
+pub mod Elements
+pub mod Values
+pub mod Arrays
+pub mod Root

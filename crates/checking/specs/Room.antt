@@ -1,0 +1,93 @@
+-- What the functions of `checking` ask of a container's positions, and what they hand on. Assumes nothing: these are definitions.
+use mathlib.Core.Path.{_≡_}
+use mathlib.Core.Bool.{Bool, true, false, cond}
+use mathlib.Core.List.{List}
+use Prim.Native.Nat.{ℕ, _+_, _*_, _-_, _/_, _≤_, _<_}
+use lib.Dec.{eqb, ltb}
+use lib.ListN.{length, replicate}
+use Rattle.words.specs.Bytes.{num, pad, bitmap, part}
+use Rattle.words.specs.Bits.{bit}
+use Rattle.schema.specs.Marks.{line}
+use Rattle.schema.specs.Types.{Fixed, width, Ty}
+use Rattle.schema.specs.Kinds.{placeAt}
+use Rattle.schema.specs.Walk.{Typed, TypedAll}
+use Rattle.layout.specs.Layout.{Kid, outside, inside, string, number, limit, kid, slotOf, codec}
+use Rattle.layout.specs.Setting.{isSome}
+use Rattle.checking.specs.Sound.{both}
+
+-- A list's n elements of w bytes start at slots, behind its bitmap, and its variable data at start; all of it lies in b.
+pub record ListRoom (b : List ℕ) (w n slots start : ℕ) : Type 0 where
+  pub small : length b ≤ 16384
+  pub map : slots ≡ 8 + bitmap n
+  pub elements : start ≡ slots + pad (n * w)
+  pub room : start ≤ length b
+
+-- no element of a list is null
+pub record NoNulls (b : List ℕ) (n : ℕ) : Type 0 where
+  pub none : (i : ℕ) → i < n → bit b 8 i ≡ false
+
+abbrev pub NoNullsIf : List ℕ → ℕ → Bool → Type 0
+NoNullsIf b n true = NoNulls b n
+NoNullsIf b n false = Unit {0}
+
+-- the elements of a list of strings or binaries, and of bools
+abbrev pub texts : ℕ → List Kid
+texts n = replicate n (outside string)
+
+abbrev pub bools : ℕ → List Kid
+bools n = replicate n (inside 1 1 (number 1 2))
+
+abbrev pub either : Bool → Bool → Bool
+either true x = true
+either false x = x
+
+-- a fixed-width field in its slot: null, or bytes of the type and zeros behind them
+unfoldable pub fieldGood : Fixed → List ℕ → ℕ → ℕ → Bool
+fieldGood f b i slot = either (bit b 0 i) (both (isSome (number (width f) (limit f) .get (part b slot (width f)))) (eqb (num (part b (slot + width f) (8 - width f))) 0))
+
+-- the field's slot lies in b, and so does its bit; k is the place of a fixed-width type
+pub record FieldRoom (b : List ℕ) (i slot k : ℕ) : Type 0 where
+  pub small : length b ≤ 16384
+  pub fixed : k < 7
+  pub bit-room : 0 + i / 8 < length b
+  pub slot-room : slot + 8 ≤ length b
+
+-- the bytes of an element of the type at place k of the table: its width, 8 where it varies
+unfoldable pub elementsOf : ℕ → ℕ
+elementsOf k = cond (ltb k 7) (line k .width) 8
+
+-- a type stands at a position of the schema, and b is short enough for a row
+pub record Holding (s : List ℕ) (at d : ℕ) (b : List ℕ) : Type 0 where
+  pub typed : Typed s at d
+  pub small : length b ≤ 16384
+
+-- the type is a container, and k its place in the table
+pub record Container (s : List ℕ) (at d k : ℕ) (b : List ℕ) : Type 0 where
+  pub typed : Typed s at d
+  pub place : k ≡ placeAt s at
+  pub holds : 9 ≤ k
+  pub small : length b ≤ 16384
+
+-- the same for the elements of a list of n, whose slots and data lie in b
+pub record Items (s : List ℕ) (at d k : ℕ) (b : List ℕ) (n : ℕ) : Type 0 where
+  pub typed : Typed s at d
+  pub place : k ≡ placeAt s at
+  pub holds : 9 ≤ k
+  pub small : length b ≤ 16384
+  pub room : 8 + bitmap n + 8 * n ≤ length b
+
+-- the types of a map's keys and values
+pub record Pair (s : List ℕ) (k v d : ℕ) (b : List ℕ) : Type 0 where
+  pub keys : Typed s k d
+  pub values : Typed s v d
+  pub small : length b ≤ 16384
+
+-- the types of a struct's n fields
+pub record Fields (s : List ℕ) (first n d : ℕ) (b : List ℕ) : Type 0 where
+  pub typed : TypedAll s first d n
+  pub high : n ≤ 128
+  pub small : length b ≤ 16384
+
+-- the elements of a list of n of the type, in their slots
+abbrev pub elements : Ty → ℕ → List Kid
+elements t n = replicate n (kid (slotOf (codec t .wide)) (codec t))

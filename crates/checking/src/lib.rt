@@ -1,0 +1,241 @@
+// Checking a row against the layout: a cycle over value, struct, list and map, with remaining depth falling along the calls, and
+// loops over the children.
+ghost use mathlib.Core.Path.{_≡_};
+ghost use Prim.Native.Nat.{_+_, _*_, _-_, _≤_, _<_};
+ghost use lib.ListN.{length};
+ghost use Rattle.words.specs.Bytes.{bitmap};
+ghost use Rattle.schema.specs.Types.{ro, li, ma, fixedAt};
+ghost use Rattle.schema.specs.Kinds.{placeAt};
+ghost use Rattle.schema.specs.Walk.{Typed, typeAt, typesAt, nextAt};
+ghost use Rattle.checking.specs.Sound.{sound, goodFrom};
+ghost use Rattle.checking.specs.Room.{FieldRoom, fieldGood, elementsOf, Holding, Container, Items, Pair, Fields, elements};
+ghost use Rattle.schema.specs.Reading.{judged};
+ghost use Rattle.schema.specs.Walk.{fieldsOf};
+ghost use Rattle.schema.specs.declared.Judged.the-variants.{Accepted};
+
+pub mod lists;
+
+// A field of a fixed width in its slot of 8 bytes. A number of 8 bytes fills its slot, whatever it is: there is no look at it.
+fn check_field(b: &[u8], i: usize, slot: usize, k: usize) -> bool
+    requires { ⌜ FieldRoom (now b) i slot k ⌝ }
+    ensures { λ r. ⌜ r ≡ fieldGood (fixedAt k) (now (b .entry)) i slot ⌝ }
+{
+    let w = schema::width_of(k);
+    if w == 8 {
+        return true;
+    }
+    if words::nulls::is_null(b, 0, i) {
+        return true;
+    }
+    let x = words::nums::get8(b, slot);
+    if k == 0 {
+        return x < 2;
+    }
+    x >> (8 * w) == 0
+}
+
+// The bytes of an element of the type at place k of the table.
+fn element_width(k: usize) -> usize
+    requires { ⌜ k < 12 ⌝ }
+    ensures { λ r. ⌜ r ≡ elementsOf k ⌝ }
+{
+    if k < 7 { schema::width_of(k) } else { 8 }
+}
+
+// Bytes that should stand for contents of a container type, whose place in the table is k.
+fn check_value(s: &[u8], at: usize, depth: usize, k: usize, b: &[u8]) -> bool
+    requires { ⌜ Container (now s) at depth k (now b) ⌝ }
+    ensures { λ r. ⌜ r ≡ sound (typeAt (now (s .entry)) at depth) (now (b .entry)) ⌝ }
+{
+    let d = depth - 1;
+    if k == 9 {
+        return check_list(s, at + 2, d, b);
+    }
+    if k == 10 {
+        return check_map(s, at + 2, schema::next(s, at + 2, d), d, b);
+    }
+    check_struct(s, at + 3, schema::wide(s[at + 2]), d, b)
+}
+
+// A list of the type at a position: its size, header and bitmap, then its elements by their kind. Numbers need no look.
+fn check_list(s: &[u8], at: usize, depth: usize, b: &[u8]) -> bool
+    requires { ⌜ Holding (now s) at depth (now b) ⌝ }
+    ensures { λ r. ⌜ r ≡ sound (li (typeAt (now (s .entry)) at depth)) (now (b .entry)) ⌝ }
+{
+    if b.len() < 8 {
+        return false;
+    }
+    let n = words::nums::get8(b, 0) as usize;
+    if b.len() < n {
+        return false;
+    }
+    let k = schema::marks::place_at(s, at);
+    let w = element_width(k);
+    let slots = 8 + words::sizes::bitmap_size(n);
+    let end = slots + n * w;
+    let start = words::sizes::pad_size(end);
+    if b.len() < start {
+        return false;
+    }
+    if !words::nulls::past_clear(b, n, slots) {
+        return false;
+    }
+    if !words::sizes::pad_clear(b, end, start) {
+        return false;
+    }
+    if k == 0 {
+        return lists::check_bools(b, n, slots, start);
+    }
+    if k < 7 {
+        return start == b.len();
+    }
+    if k < 9 {
+        return lists::check_texts(b, n, slots, start);
+    }
+    check_items(s, at, depth, k, b, n)
+}
+
+// Elements that are containers.
+fn check_items(s: &[u8], at: usize, depth: usize, k: usize, b: &[u8], n: usize) -> bool
+    requires { ⌜ Items (now s) at depth k (now b) n ⌝ }
+    ensures { λ r. ⌜ r ≡ goodFrom 8 8 (elements (typeAt (now (s .entry)) at depth) n) (now (b .entry)) 0 (8 + bitmap n + 8 * n) ⌝ }
+{
+    let slots = 8 + words::sizes::bitmap_size(n);
+    let start = slots + 8 * n;
+    let mut i: usize = 0;
+    let mut slot = slots;
+    let mut cur = start;
+    while i < n {
+        if words::nulls::is_null(b, 8, i) {
+            slot += 8;
+            i += 1;
+            continue;
+        }
+        let x = words::nums::get8(b, slot);
+        if words::slots::slot_offset(x) as usize != cur {
+            return false;
+        }
+        let end = cur + words::slots::slot_size(x) as usize;
+        let next = words::sizes::pad_size(end);
+        if b.len() < next {
+            return false;
+        }
+        if !check_value(s, at, depth, k, &b[cur..end]) {
+            return false;
+        }
+        if !words::sizes::pad_clear(b, end, next) {
+            return false;
+        }
+        cur = next;
+        slot += 8;
+        i += 1;
+    }
+    cur == b.len()
+}
+
+// A map: K, the two arrays, and equal counts.
+fn check_map(s: &[u8], k: usize, v: usize, depth: usize, b: &[u8]) -> bool
+    requires { ⌜ Pair (now s) k v depth (now b) ⌝ }
+    ensures { λ r. ⌜ r ≡ sound (ma (typeAt (now (s .entry)) k depth) (typeAt (now (s .entry)) v depth)) (now (b .entry)) ⌝ }
+{
+    if b.len() < 8 {
+        return false;
+    }
+    let size = words::nums::get8(b, 0) as usize;
+    if b.len() - 8 < size {
+        return false;
+    }
+    let end = 8 + size;
+    if !check_list(s, k, depth, &b[8..end]) {
+        return false;
+    }
+    if !check_list(s, v, depth, &b[end..]) {
+        return false;
+    }
+    words::nums::get8(b, 8) == words::nums::get8(b, end)
+}
+
+// A struct of n fields, whose types stand from a position on: leaves are judged in the loop, only containers by a call.
+fn check_struct(s: &[u8], first: usize, n: usize, depth: usize, b: &[u8]) -> bool
+    requires { ⌜ Fields (now s) first n depth (now b) ⌝ }
+    ensures { λ r. ⌜ r ≡ sound (ro (typesAt (now (s .entry)) first depth n)) (now (b .entry)) ⌝ }
+{
+    let slots = words::sizes::bitmap_size(n);
+    let start = slots + 8 * n;
+    if b.len() < start {
+        return false;
+    }
+    if !words::nulls::past_clear(b, n, slots) {
+        return false;
+    }
+    let mut at = first;
+    let mut i: usize = 0;
+    let mut slot = slots;
+    let mut cur = start;
+    while i < n {
+        let k = schema::marks::place_at(s, at);
+        if k < 7 {
+            if !check_field(b, i, slot, k) {
+                return false;
+            }
+            at += 2;
+            slot += 8;
+            i += 1;
+            continue;
+        }
+        let here = at;
+        at = next_field(s, here, depth, k);
+        if words::nulls::is_null(b, 0, i) {
+            slot += 8;
+            i += 1;
+            continue;
+        }
+        let x = words::nums::get8(b, slot);
+        if words::slots::slot_offset(x) as usize != cur {
+            return false;
+        }
+        let end = cur + words::slots::slot_size(x) as usize;
+        let next = words::sizes::pad_size(end);
+        if b.len() < next {
+            return false;
+        }
+        if k < 9 {
+            if !words::sizes::pad_clear(b, end, next) {
+                return false;
+            }
+            cur = next;
+            slot += 8;
+            i += 1;
+            continue;
+        }
+        if !check_value(s, here, depth, k, &b[cur..end]) {
+            return false;
+        }
+        if !words::sizes::pad_clear(b, end, next) {
+            return false;
+        }
+        cur = next;
+        slot += 8;
+        i += 1;
+    }
+    cur == b.len()
+}
+
+// Where the next field's type stands: a leaf's takes two bytes.
+fn next_field(s: &[u8], at: usize, depth: usize, k: usize) -> usize
+    requires { ⌜ (Typed (now s) at depth) × (k ≡ placeAt (now s) at) ⌝ }
+    ensures { λ r. ⌜ r ≡ nextAt (now (s .entry)) at depth ⌝ }
+{
+    if k < 9 {
+        return at + 2;
+    }
+    schema::next(s, at, depth)
+}
+
+// Whether the row stands for contents of an accepted schema.
+pub fn check_row(schema: &[u8], row: &[u8]) -> bool
+    requires { ⌜ (judged (now schema) ≡ Accepted) × (length (now row) ≤ 16384) ⌝ }
+    ensures { λ r. ⌜ r ≡ sound (ro (fieldsOf (now (schema .entry)))) (now (row .entry)) ⌝ }
+{
+    check_struct(schema, 3, schema::wide(schema[2]), 7, row)
+}

@@ -1,0 +1,114 @@
+// Lists whose elements are leaves, each kind in a loop of its own.
+ghost use mathlib.Core.Path.{_≡_};
+ghost use mathlib.Core.Bool.{true};
+ghost use Prim.Native.Nat.{_+_, _*_, _/_, _≤_, _<_};
+ghost use lib.ListN.{length};
+ghost use Rattle.checking.specs.Sound.{goodFrom};
+ghost use Rattle.checking.specs.Room.{ListRoom, NoNulls, NoNullsIf, texts, bools};
+
+// Whether no bitmap word of n elements has a bit: one load for 64 elements.
+fn no_nulls(b: &[u8], n: usize) -> bool
+    requires { ⌜ (length (now b) ≤ 16384) × (8 + (n + 63) / 64 * 8 ≤ length (now b)) ⌝ }
+    ensures { λ r. ⌜ NoNullsIf (now (b .entry)) n r ⌝ }
+{
+    let mut i: usize = 0;
+    while i < n {
+        if words::nums::get8(b, 8 + (i >> 3)) != 0 {
+            return false;
+        }
+        i += 64;
+    }
+    true
+}
+
+// Strings of which none is null.
+fn full_texts(b: &[u8], n: usize, slots: usize, start: usize) -> bool
+    requires { ⌜ ListRoom (now b) 8 n slots start ⌝ }
+    requires { ⌜ NoNulls (now b) n ⌝ }
+    ensures { λ r. ⌜ r ≡ goodFrom 8 8 (texts n) (now (b .entry)) 0 start ⌝ }
+{
+    let mut i: usize = 0;
+    let mut slot = slots;
+    let mut cur = start;
+    while i < n {
+        let x = words::nums::get8(b, slot);
+        if words::slots::slot_offset(x) as usize != cur {
+            return false;
+        }
+        let end = cur + words::slots::slot_size(x) as usize;
+        let next = words::sizes::pad_size(end);
+        if b.len() < next {
+            return false;
+        }
+        if !words::sizes::pad_clear(b, end, next) {
+            return false;
+        }
+        cur = next;
+        slot += 8;
+        i += 1;
+    }
+    cur == b.len()
+}
+
+// Strings of which some may be null.
+fn some_texts(b: &[u8], n: usize, slots: usize, start: usize) -> bool
+    requires { ⌜ ListRoom (now b) 8 n slots start ⌝ }
+    ensures { λ r. ⌜ r ≡ goodFrom 8 8 (texts n) (now (b .entry)) 0 start ⌝ }
+{
+    let mut i: usize = 0;
+    let mut slot = slots;
+    let mut cur = start;
+    while i < n {
+        if words::nulls::is_null(b, 8, i) {
+            slot += 8;
+            i += 1;
+            continue;
+        }
+        let x = words::nums::get8(b, slot);
+        if words::slots::slot_offset(x) as usize != cur {
+            return false;
+        }
+        let end = cur + words::slots::slot_size(x) as usize;
+        let next = words::sizes::pad_size(end);
+        if b.len() < next {
+            return false;
+        }
+        if !words::sizes::pad_clear(b, end, next) {
+            return false;
+        }
+        cur = next;
+        slot += 8;
+        i += 1;
+    }
+    cur == b.len()
+}
+
+// A list's strings: the tight loop where none is null.
+pub fn check_texts(b: &[u8], n: usize, slots: usize, start: usize) -> bool
+    requires { ⌜ ListRoom (now b) 8 n slots start ⌝ }
+    ensures { λ r. ⌜ r ≡ goodFrom 8 8 (texts n) (now (b .entry)) 0 start ⌝ }
+{
+    if no_nulls(b, n) {
+        return full_texts(b, n, slots, start);
+    }
+    some_texts(b, n, slots, start)
+}
+
+// A list's bools: each that is not null is 0 or 1.
+pub fn check_bools(b: &[u8], n: usize, slots: usize, start: usize) -> bool
+    requires { ⌜ ListRoom (now b) 1 n slots start ⌝ }
+    ensures { λ r. ⌜ r ≡ goodFrom 8 1 (bools n) (now (b .entry)) 0 start ⌝ }
+{
+    let mut i: usize = 0;
+    while i < n {
+        if words::nulls::is_null(b, 8, i) {
+            i += 1;
+            continue;
+        }
+        if 1 < b[slots + i] {
+            return false;
+        }
+        i += 1;
+    }
+    start == b.len()
+}
