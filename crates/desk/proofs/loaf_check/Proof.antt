@@ -1,0 +1,25 @@
+-- `desk::loaf_check` meets its contract. Assumes nothing.
+use mathlib.Core.Path.{ap, _∙_}
+use Rattle.desk.specs.Codes.{verdictCode}
+use borrow.Author.Needs.{needs}
+use Rattle.desk.proofs.loaf_check.Statement.{statement}
+use Rattle.desk.proofs.loaf_check.Tie as tie
+use Rattle.desk.proofs.loaf_check.Reads as reads
+use Rattle.desk.proofs.loaf_check.Lts as lts
+use Rattle.desk.proofs.outcome_code.Reads as outcome-code-reads
+use Rattle.row.proofs.check.Reads as check-reads
+
+-- src/lib.rt:29:18
+check-requires : tie.Need-check-requires
+check-requires c κs = search needs
+
+-- src/lib.rt:29:5
+outcome-code-requires : tie.Need-outcome-code-requires
+outcome-code-requires c κs = search needs
+
+-- src/lib.rt:25:1
+returns : tie.Need-returns
+returns c = c .outcome-code .ensures ∙ ap verdictCode (c .before .check .ensures)
+
+pub loaf-check-spec : {M : Type 1} → statement M
+loaf-check-spec = tie.close (tie.spec check-requires outcome-code-requires returns)
