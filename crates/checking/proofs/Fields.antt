@@ -48,8 +48,17 @@ bool-wide i8 e h = omega arith
 bool-wide f4 e h = omega arith
 bool-wide f8 e h = omega arith
 
-pub width-most : (k : ℕ) → k < 7 → line k .width ≤ 8
-width-most k h = rw (line-width k h) (width-8 (fixedAt k))
+-- only an int64 and a float64 have 8 bytes
+pub width-less : (k : ℕ) → k < 7 → (k ≡ 4 → ⊥) → (k ≡ 6 → ⊥) → line k .width < 8
+unfolding types
+width-less zero h a b = omega arith
+width-less (suc zero) h a b = omega arith
+width-less (suc (suc zero)) h a b = omega arith
+width-less (suc (suc (suc zero))) h a b = omega arith
+width-less (suc (suc (suc (suc zero)))) h a b = absurd (a refl)
+width-less (suc (suc (suc (suc (suc zero))))) h a b = omega arith
+width-less (suc (suc (suc (suc (suc (suc zero)))))) h a b = absurd (b refl)
+width-less (suc (suc (suc (suc (suc (suc (suc k))))))) h a b = absurd (omega arith)
 
 bool-one : (k : ℕ) → k ≡ 0 → width (fixedAt k) ≡ 1
 unfolding width types fixedPlace
@@ -85,7 +94,7 @@ module _ (b : List ℕ) (i slot k : ℕ) (r : FieldRoom b i slot k) (hb : Bytes 
   free : (fixedPlace f ≡ 0 → ⊥) → isSome (number w (limit f) .get own) ≡ true
   free h = judged ∙ lt-ltb (num own) (limit f) (rw (limit-free f h) (part-lt slot w hb (omega (arith, r .slot-room, small-w))))
 
-  pub field-wide : (v : ℕ) → v ≡ line k .width → v ≡ 8 → true ≡ fieldGood f b i slot
+  field-wide : (v : ℕ) → v ≡ line k .width → v ≡ 8 → true ≡ fieldGood f b i slot
   unfolding fieldGood num
   field-wide v e q =
       let w8 : w ≡ 8 = sym (line-width k (r .fixed)) ∙ sym e ∙ q in
@@ -95,6 +104,14 @@ module _ (b : List ℕ) (i slot k : ℕ) (r : FieldRoom b i slot k) (hb : Bytes 
       go : (t : Bool) → either t true ≡ true
       go true = refl
       go false = refl
+
+  pub field-eight : k ≡ 4 → true ≡ fieldGood f b i slot
+  unfolding types
+  field-eight e = field-wide (line k .width) refl (ap (λ (j : ℕ). line j .width) e)
+
+  pub field-double : k ≡ 6 → true ≡ fieldGood f b i slot
+  unfolding types
+  field-double e = field-wide (line k .width) refl (ap (λ (j : ℕ). line j .width) e)
 
   pub field-null : bit b 0 i ≡ true → true ≡ fieldGood f b i slot
   unfolding fieldGood

@@ -108,9 +108,36 @@ module _ (s : List ℕ) (at d k : ℕ) (b : List ℕ) (n : ℕ) (i : Items s at 
   pub item-at : (j : ℕ) → j < n → kidAt (elements t n) j ≡ outside (codec t)
   item-at j h = getD-replicate n j (kid (slotOf (codec t .wide)) (codec t)) nobody h ∙ item-kid
 
+-- the same for structs, by their fields' types
+struct-wide : (ts : Tys) → codec (ro ts) .wide ≡ none
+unfolding codec Layout.struct
+struct-wide ts = refl
+
+module _ (ts : Tys) (b : List ℕ) (n : ℕ) (hb : Bytes b) (small : length b ≤ 16384) (room : 8 + bitmap n + 8 * n ≤ length b) where
+  abbrev own : Kid
+  own = kid (slotOf (codec (ro ts) .wide)) (codec (ro ts))
+
+  pub structs-slots : (slots start : ℕ) → slots ≡ 8 + bitmap n → start ≡ slots + 8 * n → Slots 8 (elements (ro ts) n) b n slots start
+  structs-slots slots start es et = record {
+    count = length-replicate n own;
+    head = refl;
+    map = es;
+    data₀ = et;
+    room = omega arith;
+    small = small;
+    blind = repeat-blind n own (kid-blind (slotOf (codec (ro ts) .wide)) (codec (ro ts) .wide) (codec (ro ts)));
+    bytes = hb;
+  }
+
+  pub struct-at : (j : ℕ) → j < n → kidAt (elements (ro ts) n) j ≡ outside (codec (ro ts))
+  struct-at j h = getD-replicate n j own nobody h ∙ kid-outside (slotOf (codec (ro ts) .wide)) (codec (ro ts) .wide) (codec (ro ts)) (struct-wide ts)
+
 -- the start of the data, as code works it out and as a contract says it
 pub to-start : (ks : List Kid) (b : List ℕ) (r : Bool) (x y : ℕ) → x ≡ y → r ≡ goodFrom 8 8 ks b 0 x → r ≡ goodFrom 8 8 ks b 0 y
 to-start ks b r x y e h = h ∙ ap (goodFrom 8 8 ks b 0) e
+
+pub as-elements : (t u : Ty) (n : ℕ) (b : List ℕ) (r : Bool) → t ≡ u → r ≡ goodFrom 8 8 (elements u n) b 0 (8 + bitmap n + 8 * n) → r ≡ goodFrom 8 8 (elements t n) b 0 (8 + bitmap n + 8 * n)
+as-elements t u n b r e h = h ∙ ap (λ (x : Ty). goodFrom 8 8 (elements x n) b 0 (8 + bitmap n + 8 * n)) (sym e)
 
 -- a part handed to a call: what it answers of the part
 pub part-sound : (t : Ty) (p : List ℕ) (r : Bool) → r ≡ sound t p → isSome (codec t .get p) ≡ r

@@ -76,6 +76,13 @@ pub record Items (s : List ℕ) (at d k : ℕ) (b : List ℕ) (n : ℕ) : Type 0
   pub small : length b ≤ 16384
   pub room : 8 + bitmap n + 8 * n ≤ length b
 
+-- the types of the fields of a list's n structs, whose slots and data lie in b
+pub record StructItems (s : List ℕ) (first fields d : ℕ) (b : List ℕ) (n : ℕ) : Type 0 where
+  pub typed : TypedAll s first d fields
+  pub high : fields ≤ 128
+  pub small : length b ≤ 16384
+  pub room : 8 + bitmap n + 8 * n ≤ length b
+
 -- the types of a map's keys and values
 pub record Pair (s : List ℕ) (k v d : ℕ) (b : List ℕ) : Type 0 where
   pub keys : Typed s k d

@@ -8,20 +8,22 @@ ghost use Rattle.schema.specs.Types.{ro, li, ma, fixedAt};
 ghost use Rattle.schema.specs.Kinds.{placeAt};
 ghost use Rattle.schema.specs.Walk.{Typed, typeAt, typesAt, nextAt};
 ghost use Rattle.checking.specs.Sound.{sound, goodFrom};
-ghost use Rattle.checking.specs.Room.{FieldRoom, fieldGood, elementsOf, Holding, Container, Items, Pair, Fields, elements};
+ghost use Rattle.checking.specs.Room.{FieldRoom, fieldGood, elementsOf, Holding, Container, Items, StructItems, Pair, Fields, elements};
 ghost use Rattle.schema.specs.Reading.{judged};
 ghost use Rattle.schema.specs.Walk.{fieldsOf};
 ghost use Rattle.schema.specs.declared.Judged.the-variants.{Accepted};
 
 pub mod lists;
 
-// A field of a fixed width in its slot of 8 bytes. A number of 8 bytes fills its slot, whatever it is: there is no look at it.
+// A field of a fixed width in its slot of 8 bytes. An int64 and a float64 fill it, whatever they are: there is no look at them.
 fn check_field(b: &[u8], i: usize, slot: usize, k: usize) -> bool
     requires { ⌜ FieldRoom (now b) i slot k ⌝ }
     ensures { λ r. ⌜ r ≡ fieldGood (fixedAt k) (now (b .entry)) i slot ⌝ }
 {
-    let w = schema::width_of(k);
-    if w == 8 {
+    if k == 4 {
+        return true;
+    }
+    if k == 6 {
         return true;
     }
     if words::nulls::is_null(b, 0, i) {
@@ -31,7 +33,7 @@ fn check_field(b: &[u8], i: usize, slot: usize, k: usize) -> bool
     if k == 0 {
         return x < 2;
     }
-    x >> (8 * w) == 0
+    x >> (8 * schema::width_of(k)) == 0
 }
 
 // The bytes of an element of the type at place k of the table.
@@ -92,10 +94,51 @@ fn check_list(s: &[u8], at: usize, depth: usize, b: &[u8]) -> bool
     if k < 9 {
         return lists::check_texts(b, n, slots, start);
     }
+    if k == 11 {
+        return check_structs(s, at + 3, schema::wide(s[at + 2]), depth - 1, b, n);
+    }
     check_items(s, at, depth, k, b, n)
 }
 
-// Elements that are containers.
+// Elements that are structs, whose fields' types stand from a position on: they have a loop of their own, with one call an element.
+fn check_structs(s: &[u8], first: usize, fields: usize, depth: usize, b: &[u8], n: usize) -> bool
+    requires { ⌜ StructItems (now s) first fields depth (now b) n ⌝ }
+    ensures { λ r. ⌜ r ≡ goodFrom 8 8 (elements (ro (typesAt (now (s .entry)) first depth fields)) n) (now (b .entry)) 0 (8 + bitmap n + 8 * n) ⌝ }
+{
+    let slots = 8 + words::sizes::bitmap_size(n);
+    let start = slots + 8 * n;
+    let mut i: usize = 0;
+    let mut slot = slots;
+    let mut cur = start;
+    while i < n {
+        if words::nulls::is_null(b, 8, i) {
+            slot += 8;
+            i += 1;
+            continue;
+        }
+        let x = words::nums::get8(b, slot);
+        if words::slots::slot_offset(x) as usize != cur {
+            return false;
+        }
+        let end = cur + words::slots::slot_size(x) as usize;
+        let next = words::sizes::pad_size(end);
+        if b.len() < next {
+            return false;
+        }
+        if !check_struct(s, first, fields, depth, &b[cur..end]) {
+            return false;
+        }
+        if !words::sizes::pad_clear(b, end, next) {
+            return false;
+        }
+        cur = next;
+        slot += 8;
+        i += 1;
+    }
+    cur == b.len()
+}
+
+// Elements that are lists or maps.
 fn check_items(s: &[u8], at: usize, depth: usize, k: usize, b: &[u8], n: usize) -> bool
     requires { ⌜ Items (now s) at depth k (now b) n ⌝ }
     ensures { λ r. ⌜ r ≡ goodFrom 8 8 (elements (typeAt (now (s .entry)) at depth) n) (now (b .entry)) 0 (8 + bitmap n + 8 * n) ⌝ }

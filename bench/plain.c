@@ -1,0 +1,87 @@
+// The same rules in plain C, as one would write them by hand: the anchor that the proved code is counted against.
+#include "plain.h"
+#include <string.h>
+
+static uint64_t get(const uint8_t *p, int n) { uint64_t v = 0; memcpy(&v, p, (size_t)n); return v; }
+static size_t pad(size_t n) { return (n + 7) & ~(size_t)7; }
+static size_t bitmap(size_t n) { return (n + 63) / 64 * 8; }
+
+static const struct { char a, b; int width; } types[12] = {
+    {'b', 'o', 1}, {'i', '1', 1}, {'i', '2', 2}, {'i', '4', 4}, {'i', '8', 8}, {'f', '4', 4}, {'f', '8', 8},
+    {'s', 't', 0}, {'b', 'i', 0}, {'l', 'i', 0}, {'m', 'a', 0}, {'r', 'o', 0}};
+
+static int place(const uint8_t *s) {
+    for (int i = 0; i < 12; i++) if (types[i].a == (char)s[0] && types[i].b == (char)s[1]) return i;
+    return 12;
+}
+// The position after a type, or 0.
+static size_t skip(const uint8_t *s, size_t len, size_t at, int depth) {
+    if (!depth || at + 2 > len) return 0;
+    int k = place(s + at);
+    at += 2;
+    if (k < 9) return at;
+    if (k == 9) return skip(s, len, at, depth - 1);
+    if (k == 10) { at = skip(s, len, at, depth - 1); return at ? skip(s, len, at, depth - 1) : 0; }
+    if (k == 11) {
+        if (at >= len) return 0;
+        int n = s[at++];
+        if (n < 1 || n > 128) return 0;
+        while (n--) if (!(at = skip(s, len, at, depth - 1))) return 0;
+        return at;
+    }
+    return 0;
+}
+int plain_judge(const uint8_t *s, size_t len) {
+    return len <= 1024 && len >= 2 && s[0] == 'r' && s[1] == 'o' && skip(s, len, 0, 8) == len;
+}
+
+static int value(const uint8_t *s, size_t at, int depth, const uint8_t *b, size_t len);
+
+static int zero(const uint8_t *p, size_t n) { for (size_t i = 0; i < n; i++) if (p[i]) return 0; return 1; }
+
+// Children from their types: next is 0 for a list, whose type stays.
+static int children(const uint8_t *s, size_t at, int depth, const uint8_t *b, size_t len, size_t head, size_t n, int list) {
+    int k0 = place(s + at);
+    size_t w = list ? (k0 < 7 ? (size_t)types[k0].width : 8) : 8;
+    if (n > len) return 0;
+    size_t slots = head + bitmap(n), end = slots + n * w, cur = head + bitmap(n) + pad(n * w);
+    if (cur > len) return 0;
+    for (size_t i = n; i < bitmap(n) * 8; i++) if (b[head + i / 8] >> (i % 8) & 1) return 0;
+    for (size_t i = 0; i < n; i++) {
+        int k = list ? k0 : place(s + at);
+        const uint8_t *p = b + slots + i * w;
+        if (!(b[head + i / 8] >> (i % 8) & 1)) {
+            if (k < 7) {
+                if (k == 0 && p[0] > 1) return 0;
+                if (!zero(p + types[k].width, w - (size_t)types[k].width)) return 0;
+            } else {
+                uint64_t x = get(p, 8), size = x & 0xFFFFFFFF;
+                if (x >> 32 != cur || cur + pad(size) > len) return 0;
+                if (k > 8 && !value(s, at, depth, b + cur, size)) return 0;
+                if (!zero(b + cur + size, pad(size) - size)) return 0;
+                cur += pad(size);
+            }
+        }
+        if (!list) at = skip(s, 1024, at, 9);
+    }
+    return zero(b + end, pad(n * w) - n * w) && cur == len;
+}
+static int list_of(const uint8_t *s, size_t at, int depth, const uint8_t *b, size_t len) {
+    return len >= 8 && children(s, at, depth, b, len, 8, get(b, 8), 1);
+}
+static int value(const uint8_t *s, size_t at, int depth, const uint8_t *b, size_t len) {
+    int k = place(s + at);
+    if (k == 9) return list_of(s, at + 2, depth - 1, b, len);
+    if (k == 10) {
+        if (len < 8) return 0;
+        uint64_t K = get(b, 8);
+        if (K > len - 8) return 0;
+        return list_of(s, at + 2, depth - 1, b + 8, K) && list_of(s, skip(s, 1024, at + 2, 9), depth - 1, b + 8 + K, len - 8 - K) && get(b + 8, 8) == get(b + 8 + K, 8);
+    }
+    return children(s, at + 3, depth - 1, b, len, 0, s[at + 2], 0);
+}
+uint64_t plain_check(const uint8_t *s, size_t slen, const uint8_t *row, size_t len) {
+    if (!plain_judge(s, slen)) return 1ull << 32;
+    if (len > 16384) return 3ull << 32;
+    return value(s, 0, 8, row, len) ? 0 : 7ull << 32;
+}

@@ -1,0 +1,55 @@
+#include "rows.h"
+#include <string.h>
+
+static void put(uint8_t *p, uint64_t v, int n) { for (int i = 0; i < n; i++) p[i] = (uint8_t)(v >> (8 * i)); }
+static size_t pad(size_t n) { return (n + 7) / 8 * 8; }
+static size_t bitmap(size_t n) { return (n + 63) / 64 * 8; }
+static void slot(uint8_t *p, size_t off, size_t size) { put(p, (uint64_t)off << 32 | size, 8); }
+
+static void mark(struct sample *s, const char *m) { s->schema[s->schema_len++] = m[0]; s->schema[s->schema_len++] = m[1]; }
+static void root(struct sample *s, unsigned n) { mark(s, "ro"); s->schema[s->schema_len++] = (uint8_t)n; }
+
+// One field that is a list of n elements of width w; returns the list's start. Its data follows.
+static size_t one_list(struct sample *s, unsigned n, size_t w, size_t data) {
+    size_t fixed = 8 + bitmap(n) + pad(n * w);
+    slot(s->row + 8, 16, fixed + data);
+    put(s->row + 16, n, 8);
+    s->row_len = 16 + fixed + data;
+    return 16;
+}
+
+int make_sample(struct sample *s, const char *kind, unsigned n) {
+    memset(s, 0, sizeof *s);
+    s->children = n;
+    if (!strcmp(kind, "strings")) {            // a list of n three-byte strings
+        root(s, 1); mark(s, "li"); mark(s, "st");
+        if (16 + 8 + bitmap(n) + 16 * (size_t)n > sizeof s->row) return 0;
+        size_t at = one_list(s, n, 8, 8 * (size_t)n), slots = at + 8 + bitmap(n), cur = 8 + bitmap(n) + 8 * (size_t)n;
+        for (unsigned i = 0; i < n; i++, cur += 8) { slot(s->row + slots + 8 * i, cur, 3); memcpy(s->row + at + cur, "STK", 3); }
+    } else if (!strcmp(kind, "numbers")) {     // a list of n int64
+        root(s, 1); mark(s, "li"); mark(s, "i8");
+        if (16 + 8 + bitmap(n) + 8 * (size_t)n > sizeof s->row) return 0;
+        size_t at = one_list(s, n, 8, 0);
+        for (unsigned i = 0; i < n; i++) put(s->row + at + 8 + bitmap(n) + 8 * i, i * 77u, 8);
+    } else if (!strcmp(kind, "fields")) {      // a struct of n int64
+        root(s, n);
+        for (unsigned i = 0; i < n; i++) mark(s, "i8");
+        s->row_len = bitmap(n) + 8 * (size_t)n;
+        for (unsigned i = 0; i < n; i++) put(s->row + bitmap(n) + 8 * i, i * 77u, 8);
+    } else if (!strcmp(kind, "structs")) {     // a list of n structs of an int64 and a string
+        root(s, 1); mark(s, "li"); root(s, 2); mark(s, "i8"); mark(s, "st");
+        size_t each = 8 + 16 + 8;
+        if (16 + 8 + bitmap(n) + (8 + each) * (size_t)n > sizeof s->row) return 0;
+        size_t at = one_list(s, n, 8, each * n), slots = at + 8 + bitmap(n), cur = 8 + bitmap(n) + 8 * (size_t)n;
+        for (unsigned i = 0; i < n; i++, cur += each) {
+            uint8_t *p = s->row + at + cur;
+            slot(s->row + slots + 8 * i, cur, each);
+            put(p + 8, i, 8); slot(p + 16, 24, 3); memcpy(p + 24, "STK", 3);
+        }
+    } else if (!strcmp(kind, "strokes")) {     // a row of two nested strokes, each a struct of two int32
+        root(s, 2); root(s, 2); mark(s, "i4"); mark(s, "i4"); root(s, 2); mark(s, "i4"); mark(s, "i4");
+        s->row_len = 8 + 16 + 48; s->children = 2;
+        for (unsigned i = 0; i < 2; i++) { slot(s->row + 8 + 8 * i, 24 + 24 * i, 24); put(s->row + 24 + 24 * i + 8, 1000 + i, 4); put(s->row + 24 + 24 * i + 16, 5, 4); }
+    } else return 0;
+    return 1;
+}
