@@ -111,7 +111,11 @@ writtenOf s l out = filled (writeOf s l (length out)) (orEmpty (imageOf s l)) ou
 unfoldable pub listedOf : List ℕ → List ℕ → List ℕ → List ℕ
 listedOf s row out = filled (listOf s row (length out)) (orEmpty (listingOf s row)) out
 
--- the row after a setting: a refusal alters no byte
+-- what a setting answers, and the row after it: a refusal alters no byte
+abbrev pub setVerdict : Outcome → Verdict
+setVerdict (refuses n) = refused n
+setVerdict (becomes row′) = done
+
 abbrev pub rowAfter : Outcome → List ℕ → List ℕ
 rowAfter (refuses n) row = row
 rowAfter (becomes row′) row = row′

@@ -1,0 +1,9 @@
+pub mod Wrote
+pub mod Held
+pub mod Found
+pub mod Turns
+pub mod Children
+pub mod Structs
+pub mod ByKind
+pub mod Containers
+pub mod Root

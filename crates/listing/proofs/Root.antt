@@ -1,0 +1,60 @@
+-- A row that was checked: what the lister of a container asks of it, and that its records are the row's listing. Assumes nothing.
+use mathlib.Core.Path.{_≡_, refl, sym, ap, _∙_, subst}
+use mathlib.Core.Bool.{true, false}
+use mathlib.Core.Option.{Option, none, some}
+use mathlib.Core.List.{List, [], _∷_}
+use Prim.Native.Nat.{ℕ, _+_, _*_, _≤_, _<_, _^_}
+use native.Mathlib.Omega.{arith}
+use lib.ListN.{length}
+use Rattle.words.specs.Bytes.{Bytes}
+use Rattle.schema.specs.Types.{Ty, ro, Tys, end, _then_, count, place}
+use Rattle.schema.specs.Kinds.{placeAt}
+use Rattle.schema.specs.Walk.{typeAt, fieldsOf}
+use Rattle.schema.proofs.Judging.{Root, accepted-root}
+use Rattle.schema.proofs.Places.{typed-place}
+use Rattle.layout.specs.Reader.{_>>=_}
+use Rattle.layout.specs.Cells.{Cell}
+use Rattle.layout.specs.Layout.{Fits, content, decode}
+use Rattle.layout.specs.Listing.{listing}
+use Rattle.layout.specs.Setting.{isSome, orEmpty}
+use Rattle.layout.specs.Entries.{listingOf}
+use Rattle.layout.proofs.Containers.{lays-fits, lays-size}
+use Rattle.layout.proofs.Listed.{listing-short}
+use Rattle.listing.specs.Lines.{orLeaf, cellOf, lines}
+use Rattle.listing.specs.Room.{Holds, Container, Checked}
+use Rattle.listing.proofs.Held.{holds-sound}
+
+-- a root has a field or more, so its listing is at most three times as long
+root-short : (ts : Tys) (c : Cell) → 1 ≤ count ts → Fits (ro ts) c → length (listing (ro ts) c) ≤ 3 * length (content (ro ts) c)
+unfolding count
+root-short end c h f = absurd (omega arith)
+root-short (t then ts) c h f = listing-short t ts c f
+
+root-lines : (ts : Tys) (b : List ℕ) → 1 ≤ count ts → Holds (ro ts) b → length (lines (ro ts) b) ≤ 65536
+unfolding lines
+root-lines ts b h r = omega (arith, root-short ts _ h (lays-fits (ro ts) _ b (r .lays)), lays-size (ro ts) _ b (r .lays), r .small)
+
+sound-lines : (t : Ty) (b : List ℕ) (o : Option Cell) → decode t b ≡ o → isSome o ≡ true → lines t b ≡ orEmpty (o >>= λ c. some (listing t c))
+unfolding lines cellOf
+sound-lines t b none q s = absurd (let z : _≡_ {A = ℕ} 0 1 = cc in omega arith)
+sound-lines t b (some c) q s = rw q
+
+module _ {s row : List ℕ} (r : Checked s row) where
+  root : Root s
+  root = accepted-root s (r .accepted)
+
+  pub row-lines : lines (typeAt s 0 8) row ≡ orEmpty (listingOf s row)
+  unfolding listingOf
+  row-lines = rw (root .whole) (sound-lines (ro (fieldsOf s)) row _ refl (r .sound))
+
+  pub row-container : Bytes row → Container s 0 8 11 row 0
+  unfolding place
+  row-container hb =
+      let h = holds-sound (ro (fieldsOf s)) row hb (r .short) (r .sound) in
+      record {
+        typed = root .typed;
+        place = sym (typed-place s 0 8 (root .typed) ∙ ap place (root .whole));
+        high = omega arith;
+        holds = rw (root .whole) h;
+        room = rw (root .whole) (omega (arith, root-lines (fieldsOf s) row (root .low) h));
+      }

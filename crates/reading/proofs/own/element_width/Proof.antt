@@ -1,0 +1,33 @@
+use Prim.Native.Nat.{_-_}
+use Rattle.reading.proofs.Rules.{open-is, open-small, element-wide}
+use native.Mathlib.Omega.{arith}
+use mathlib.Core.Path.{_≡_, refl, sym, ap, _∙_, subst}
+use borrow.Author.Needs.{needs}
+use Rattle.reading.proofs.own.element_width.Statement.{statement}
+use Rattle.reading.proofs.own.element_width.Tie as tie
+use Rattle.reading.proofs.own.element_width.Reads as reads
+use Rattle.reading.proofs.own.element_width.Lts as lts
+use Rattle.reading.proofs.own.slot_width.Reads as slot-width-reads
+use Rattle.reading.proofs.own.width.Reads as width-reads
+use Rattle.schema.proofs.open.Reads as open-reads
+
+open-requires : tie.Need-open-requires
+open-requires c κs = search needs
+
+width-requires : tie.Need-width-requires
+width-requires c κs =
+    let s = c .before .before in
+    let a = s .args in
+    open-small (a .s .now) (a .depth - 1) (c .«open» .result) (open-is (a .s .now) (a .at) (a .depth) (s .pre) _ (c .«open» .ensures))
+
+slot-width-requires : tie.Need-slot-width-requires
+slot-width-requires c κs = search needs
+
+returns : tie.Need-returns
+returns c =
+    let s = c .before .before .before .before in
+    let a = s .args in
+    element-wide (a .s .now) (a .at) (a .depth) (s .pre) _ (c .before .before .«open» .ensures) _ _ (c .before .width .ensures) (c .slot-width .ensures)
+
+pub element-width-spec : {M : Type 1} → statement M
+element-width-spec = tie.close (tie.spec open-requires width-requires slot-width-requires returns)

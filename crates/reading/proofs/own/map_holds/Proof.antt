@@ -1,0 +1,33 @@
+use Rattle.reading.proofs.Rules.{short-map, odd-map, map-test}
+use native.Mathlib.Omega.{arith}
+use mathlib.Core.Path.{_≡_, refl, sym, ap, _∙_, subst}
+use borrow.Author.Needs.{needs}
+use Rattle.reading.proofs.own.map_holds.Statement.{statement}
+use Rattle.reading.proofs.own.map_holds.Tie as tie
+use Rattle.reading.proofs.own.map_holds.Reads as reads
+use Rattle.reading.proofs.own.map_holds.Lts as lts
+use Rattle.words.proofs.nums.get8.Reads as get8-reads
+
+returns : tie.Need-returns
+returns c =
+    let s = c .before .before in
+    let a = s .args in
+    short-map (a .row .now) (a .base) (a .size) (s .pre) (c .if1 .taken)
+
+get8-requires : tie.Need-get8-requires
+get8-requires c κs = search needs
+
+returns-2 : tie.Need-returns-2
+returns-2 c =
+    let s = c .before .before .before .before in
+    let a = s .args in
+    odd-map (a .row .now) (a .base) (a .size) (s .pre) (c .before .before .if1 .left) _ (c .before .get8 .ensures .is) (search needs)
+
+returns-3 : tie.Need-returns-3
+returns-3 c =
+    let s = c .before .before .before .before in
+    let a = s .args in
+    map-test (a .row .now) (a .base) (a .size) (s .pre) (c .before .before .if1 .left) _ (c .before .get8 .ensures .is) (search needs)
+
+pub map-holds-spec : {M : Type 1} → statement M
+map-holds-spec = tie.close (tie.spec returns get8-requires returns-2 returns-3)

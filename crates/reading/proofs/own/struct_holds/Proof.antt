@@ -1,0 +1,32 @@
+use Rattle.reading.proofs.Rules.{struct-test}
+use native.Mathlib.Omega.{arith}
+use mathlib.Core.Path.{_≡_, refl, sym, ap, _∙_, subst}
+use borrow.Author.Needs.{needs}
+use Rattle.reading.proofs.own.struct_holds.Statement.{statement}
+use Rattle.reading.proofs.own.struct_holds.Tie as tie
+use Rattle.reading.proofs.own.struct_holds.Reads as reads
+use Rattle.reading.proofs.own.struct_holds.Lts as lts
+use Rattle.words.proofs.sizes.bitmap_size.Reads as bitmap-size-reads
+use Rattle.words.proofs.sizes.pad_size.Reads as pad-size-reads
+
+bitmap-size-requires : tie.Need-bitmap-size-requires
+bitmap-size-requires c κs = search needs
+
+mul-pad-size : tie.Need-mul-pad-size
+mul-pad-size c = search needs
+
+pad-size-requires : tie.Need-pad-size-requires
+pad-size-requires c κs = search needs
+
+add-result : tie.Need-add-result
+add-result c = search needs
+
+returns : tie.Need-returns
+returns c =
+    let s = c .before .before in
+    let a = s .args in
+    struct-test (a .n) (a .size) _ _ (c .before .bitmap-size .ensures) (c .pad-size .ensures)
+
+pub struct-holds-spec : {M : Type 1} → statement M
+struct-holds-spec =
+    tie.close (tie.spec bitmap-size-requires mul-pad-size pad-size-requires add-result returns)

@@ -1,0 +1,102 @@
+use Rattle.reading.proofs.Pointing.{slot-room, count-fits, products-fit, slot-of, null-child, far-child, near-child}
+use Rattle.words.proofs.Numbers.{bytes-of}
+use native.Mathlib.Omega.{arith}
+use mathlib.Core.Path.{_≡_, refl, sym, ap, _∙_, subst}
+use borrow.Author.Needs.{needs}
+use Rattle.reading.proofs.slots.child.Statement.{statement}
+use Rattle.reading.proofs.slots.child.Tie as tie
+use Rattle.reading.proofs.slots.child.Reads as reads
+use Rattle.reading.proofs.slots.child.Lts as lts
+use Rattle.reading.proofs.slots.pointed.Reads as pointed-reads
+use Rattle.words.proofs.nulls.is_null.Reads as is-null-reads
+use Rattle.words.proofs.sizes.bitmap_size.Reads as bitmap-size-reads
+use Rattle.words.proofs.sizes.pad_size.Reads as pad-size-reads
+
+bitmap-size-requires : tie.Need-bitmap-size-requires
+bitmap-size-requires c κs = search needs
+
+add-bits : tie.Need-add-bits
+add-bits c = search needs
+
+mul-slot : tie.Need-mul-slot
+mul-slot c =
+    let s = c .before .before in
+    let a = s .args in
+    omega (arith, slot-room (a .row .now) (a .base) (a .size) (a .h) (a .n) (a .w) (a .v) (a .i) (s .pre), count-fits (a .row .now) (a .base) (a .size) (a .h) (a .n) (a .w) (a .v) (a .i) (s .pre), products-fit (a .row .now) (a .base) (a .size) (a .h) (a .n) (a .w) (a .v) (a .i) (s .pre) .0, products-fit (a .row .now) (a .base) (a .size) (a .h) (a .n) (a .w) (a .v) (a .i) (s .pre) .1, s .pre .within, s .pre .short, c .bitmap-size .ensures)
+
+add-slot : tie.Need-add-slot
+add-slot c =
+    let s = c .before .before in
+    let a = s .args in
+    omega (arith, slot-room (a .row .now) (a .base) (a .size) (a .h) (a .n) (a .w) (a .v) (a .i) (s .pre), count-fits (a .row .now) (a .base) (a .size) (a .h) (a .n) (a .w) (a .v) (a .i) (s .pre), products-fit (a .row .now) (a .base) (a .size) (a .h) (a .n) (a .w) (a .v) (a .i) (s .pre) .0, products-fit (a .row .now) (a .base) (a .size) (a .h) (a .n) (a .w) (a .v) (a .i) (s .pre) .1, s .pre .within, s .pre .short, c .bitmap-size .ensures)
+
+add-slot-2 : tie.Need-add-slot-2
+add-slot-2 c =
+    let s = c .before .before in
+    let a = s .args in
+    omega (arith, slot-room (a .row .now) (a .base) (a .size) (a .h) (a .n) (a .w) (a .v) (a .i) (s .pre), count-fits (a .row .now) (a .base) (a .size) (a .h) (a .n) (a .w) (a .v) (a .i) (s .pre), products-fit (a .row .now) (a .base) (a .size) (a .h) (a .n) (a .w) (a .v) (a .i) (s .pre) .0, products-fit (a .row .now) (a .base) (a .size) (a .h) (a .n) (a .w) (a .v) (a .i) (s .pre) .1, s .pre .within, s .pre .short, c .bitmap-size .ensures)
+
+add-slot-3 : tie.Need-add-slot-3
+add-slot-3 c =
+    let s = c .before .before in
+    let a = s .args in
+    omega (arith, slot-room (a .row .now) (a .base) (a .size) (a .h) (a .n) (a .w) (a .v) (a .i) (s .pre), count-fits (a .row .now) (a .base) (a .size) (a .h) (a .n) (a .w) (a .v) (a .i) (s .pre), products-fit (a .row .now) (a .base) (a .size) (a .h) (a .n) (a .w) (a .v) (a .i) (s .pre) .0, products-fit (a .row .now) (a .base) (a .size) (a .h) (a .n) (a .w) (a .v) (a .i) (s .pre) .1, s .pre .within, s .pre .short, c .bitmap-size .ensures)
+
+is-null-requires : tie.Need-is-null-requires
+is-null-requires c κs = search needs
+
+returns : tie.Need-returns
+returns c =
+    let s = c .before .before .before .before in
+    let a = s .args in
+    null-child (a .row .now) (a .base) (a .size) (a .h) (a .n) (a .w) (a .v) (a .i) (s .pre) _ (c .before .before .bitmap-size .ensures) (bytes-of _ (λ j. c .before .before .before .shared-slice-known .given j .fits)) _ (c .before .is-null .ensures) (c .if1 .taken)
+
+add-pointed : tie.Need-add-pointed
+add-pointed c = search needs
+
+mul-pad-size : tie.Need-mul-pad-size
+mul-pad-size c = search needs
+
+pad-size-requires : tie.Need-pad-size-requires
+pad-size-requires c κs = search needs
+
+add-pointed-2 : tie.Need-add-pointed-2
+add-pointed-2 c = search needs
+
+pointed-requires : tie.Need-pointed-requires
+pointed-requires c κs =
+    let s = c .before .before .before .before .before .before in
+    let a = s .args in
+    slot-of (a .row .now) (a .base) (a .size) (a .h) (a .n) (a .w) (a .v) (a .i) (s .pre) _ (c .before .before .before .before .bitmap-size .ensures) (search needs)
+
+returns-2 : tie.Need-returns-2
+returns-2 c =
+    let s = c .before .before .before .before .before .before .before in
+    let a = s .args in
+    far-child (a .row .now) (a .base) (a .size) (a .h) (a .n) (a .w) (a .v) (a .i) (s .pre) _ (c .before .before .before .before .before .bitmap-size .ensures) (bytes-of _ (λ j. c .before .before .before .before .before .before .shared-slice-known .given j .fits)) _ (c .before .before .before .before .is-null .ensures) (c .before .before .before .if1 .left) (search needs) _ (omega (arith, c .before .pad-size .ensures, c .before .before .before .before .before .bitmap-size .ensures)) _ (c .pointed .ensures)
+
+returns-3 : tie.Need-returns-3
+returns-3 c =
+    let s = c .before .before .before .before .before in
+    let a = s .args in
+    near-child (a .row .now) (a .base) (a .size) (a .h) (a .n) (a .w) (a .v) (a .i) (s .pre) _ (c .before .before .before .bitmap-size .ensures) (bytes-of _ (λ j. c .before .before .before .before .shared-slice-known .given j .fits)) _ (c .before .before .is-null .ensures) (c .before .if1 .left) (search needs)
+
+pub child-spec : {M : Type 1} → statement M
+child-spec =
+    tie.close
+    (tie.spec
+    bitmap-size-requires
+    add-bits
+    mul-slot
+    add-slot
+    add-slot-2
+    add-slot-3
+    is-null-requires
+    returns
+    add-pointed
+    mul-pad-size
+    pad-size-requires
+    add-pointed-2
+    pointed-requires
+    returns-2
+    returns-3)

@@ -1,0 +1,27 @@
+use Rattle.reading.proofs.Moving.{settled, unsettled}
+use native.Mathlib.Omega.{arith}
+use mathlib.Core.Path.{_≡_, refl, sym, ap, _∙_, subst}
+use borrow.Author.Needs.{needs}
+use Rattle.reading.proofs.steps.settle.Statement.{statement}
+use Rattle.reading.proofs.steps.settle.Tie as tie
+use Rattle.reading.proofs.steps.settle.Reads as reads
+use Rattle.reading.proofs.steps.settle.Lts as lts
+use Rattle.reading.proofs.own.holds.Reads as holds-reads
+
+holds-requires : tie.Need-holds-requires
+holds-requires c κs = search needs
+
+returns : tie.Need-returns
+returns c =
+    let s = c .before .before .before .before in
+    let a = s .args in
+    settled (a .s .now) (a .row .now) (a .p) (s .pre) _ (c .before .holds .ensures) (c .if1 .taken)
+
+returns-2 : tie.Need-returns-2
+returns-2 c =
+    let s = c .before .before .before .before in
+    let a = s .args in
+    unsettled (a .s .now) (a .row .now) (a .p) (s .pre) _ (c .before .holds .ensures) (c .if1 .left)
+
+pub settle-spec : {M : Type 1} → statement M
+settle-spec = tie.close (tie.spec holds-requires returns returns-2)

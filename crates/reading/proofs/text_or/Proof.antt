@@ -1,0 +1,155 @@
+use Rattle.reading.proofs.Shown.{stand-in, text-room, text-is}
+use lib.ListN.{take, drop}
+use Prim.Native.Nat.{ℕ, _+_, _-_}
+use native.Mathlib.Omega.{arith}
+use mathlib.Core.Path.{_≡_, refl, sym, ap, _∙_, subst}
+use borrow.Author.Needs.{needs}
+use Rattle.reading.proofs.text_or.Statement.{statement}
+use Rattle.reading.proofs.text_or.Tie as tie
+use Rattle.reading.proofs.text_or.Reads as reads
+use Rattle.reading.proofs.text_or.Lts as lts
+use Rattle.reading.proofs.look.Reads as look-reads
+
+look-requires : tie.Need-look-requires
+look-requires c κs = search needs
+
+enum-known-start : tie.Need-enum-known-start
+enum-known-start c = search needs
+
+add-end : tie.Need-add-end
+add-end c =
+    let s = c .before .before .before .before .before .before .before in
+    let a = s .args in
+    omega (arith, text-room _ _ _ _ (c .before .before .before .look .ensures) _ _ (c .before .start .given .1))
+
+sub-result : tie.Need-sub-result
+sub-result c = search needs
+
+part-result-start : tie.Need-part-result-start
+part-result-start c = search needs
+
+part-result-end : tie.Need-part-result-end
+part-result-end c =
+    let s = c .before .before .before .before .before .before .before in
+    let a = s .args in
+    text-room _ _ _ _ (c .before .before .before .look .ensures) _ _ (c .before .start .given .1)
+
+enum-told : tie.Need-enum-told
+enum-told c = search needs
+
+enum-told-2 : tie.Need-enum-told-2
+enum-told-2 c = search needs
+
+enum-told-3 : tie.Need-enum-told-3
+enum-told-3 c = search needs
+
+enum-told-4 : tie.Need-enum-told-4
+enum-told-4 c = search needs
+
+enum-told-5 : tie.Need-enum-told-5
+enum-told-5 c = search needs
+
+enum-told-6 : tie.Need-enum-told-6
+enum-told-6 c = search needs
+
+enum-told-7 : tie.Need-enum-told-7
+enum-told-7 c = search needs
+
+enum-told-8 : tie.Need-enum-told-8
+enum-told-8 c = search needs
+
+enum-told-9 : tie.Need-enum-told-9
+enum-told-9 c = search needs
+
+returns : tie.Need-returns
+returns c =
+    let s = c .before .before .before .before .before .before .before .before in
+    let a = s .args in
+    let x = c .before .before .start .given .0 .0 in
+    let n = c .before .before .start .given .0 .1 .0 in
+    let e : x + n - x ≡ n = omega arith in
+    text-is (a .row) (a .stand-in) _ _ _ _ (c .before .before .before .before .look .ensures) _ _ (c .before .before .start .given .1) (record { block = refl; place = refl; bytes = ap (λ (m : ℕ). take m (drop x (a .row .now))) e })
+
+returns-2 : tie.Need-returns-2
+returns-2 c =
+    let s = c .before .before .before .before .before .before in
+    let a = s .args in
+    stand-in (a .row) (a .stand-in) _ _ _ (c .before .before .look .ensures) _ (c .enum-told .given .1) tt
+
+returns-3 : tie.Need-returns-3
+returns-3 c =
+    let s = c .before .before .before .before .before .before in
+    let a = s .args in
+    stand-in (a .row) (a .stand-in) _ _ _ (c .before .before .look .ensures) _ (c .enum-told2 .given .1) tt
+
+returns-4 : tie.Need-returns-4
+returns-4 c =
+    let s = c .before .before .before .before .before .before in
+    let a = s .args in
+    stand-in (a .row) (a .stand-in) _ _ _ (c .before .before .look .ensures) _ (c .enum-told3 .given .1) tt
+
+returns-5 : tie.Need-returns-5
+returns-5 c =
+    let s = c .before .before .before .before .before .before in
+    let a = s .args in
+    stand-in (a .row) (a .stand-in) _ _ _ (c .before .before .look .ensures) _ (c .enum-told4 .given .1) tt
+
+returns-6 : tie.Need-returns-6
+returns-6 c =
+    let s = c .before .before .before .before .before .before in
+    let a = s .args in
+    stand-in (a .row) (a .stand-in) _ _ _ (c .before .before .look .ensures) _ (c .enum-told5 .given .1) tt
+
+returns-7 : tie.Need-returns-7
+returns-7 c =
+    let s = c .before .before .before .before .before .before in
+    let a = s .args in
+    stand-in (a .row) (a .stand-in) _ _ _ (c .before .before .look .ensures) _ (c .enum-told6 .given .1) tt
+
+returns-8 : tie.Need-returns-8
+returns-8 c =
+    let s = c .before .before .before .before .before .before in
+    let a = s .args in
+    stand-in (a .row) (a .stand-in) _ _ _ (c .before .before .look .ensures) _ (c .enum-told7 .given .1) tt
+
+returns-9 : tie.Need-returns-9
+returns-9 c =
+    let s = c .before .before .before .before .before .before in
+    let a = s .args in
+    stand-in (a .row) (a .stand-in) _ _ _ (c .before .before .look .ensures) _ (c .enum-told8 .given .1) tt
+
+returns-10 : tie.Need-returns-10
+returns-10 c =
+    let s = c .before .before .before .before .before .before in
+    let a = s .args in
+    stand-in (a .row) (a .stand-in) _ _ _ (c .before .before .look .ensures) _ (c .enum-told9 .given .1) tt
+
+pub text-or-spec : {M : Type 1} → statement M
+text-or-spec =
+    tie.close
+    (tie.spec
+    look-requires
+    enum-known-start
+    add-end
+    sub-result
+    part-result-start
+    part-result-end
+    enum-told
+    enum-told-2
+    enum-told-3
+    enum-told-4
+    enum-told-5
+    enum-told-6
+    enum-told-7
+    enum-told-8
+    enum-told-9
+    returns
+    returns-2
+    returns-3
+    returns-4
+    returns-5
+    returns-6
+    returns-7
+    returns-8
+    returns-9
+    returns-10)

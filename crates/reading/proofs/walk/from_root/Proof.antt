@@ -1,0 +1,45 @@
+use Rattle.reading.proofs.OnPath.{root-rests, root-from, root-walks, root-broken}
+use Rattle.schema.proofs.Judging.{accepted-root}
+use borrow.Author.Needs.{needs}
+use native.Mathlib.Omega.{arith}
+use mathlib.Core.Path.{_≡_, refl, sym, ap, _∙_, subst}
+use Rattle.reading.proofs.walk.from_root.Statement.{statement}
+use Rattle.reading.proofs.walk.from_root.Tie as tie
+use Rattle.reading.proofs.walk.from_root.Reads as reads
+use Rattle.reading.proofs.walk.from_root.Lts as lts
+use Rattle.reading.proofs.own.holds.Reads as holds-reads
+use Rattle.reading.proofs.walk.along.Reads as along-reads
+use Rattle.schema.proofs.open.Reads as open-reads
+
+open-requires : tie.Need-open-requires
+open-requires c κs =
+    let s = c .before .before in
+    let a = s .args in
+    accepted-root _ (s .pre .schema) .typed
+
+holds-requires : tie.Need-holds-requires
+holds-requires c κs =
+    let s = c .before .before .before in
+    let a = s .args in
+    root-rests (a .s .now) (a .row .now) (a .path) (s .pre) _ (c .«open» .ensures)
+
+along-requires : tie.Need-along-requires
+along-requires c κs =
+    let s = c .before .before .before .before .before in
+    let a = s .args in
+    root-from (a .s .now) (a .row .now) (a .path) (s .pre) _ (c .before .before .«open» .ensures) _ (c .before .holds .ensures) (c .if1 .taken)
+
+returns : tie.Need-returns
+returns c =
+    let s = c .before .before .before .before .before .before in
+    let a = s .args in
+    root-walks (a .s .now) (a .row .now) (a .path) (s .pre) _ (c .before .before .before .«open» .ensures) _ (c .before .before .holds .ensures) _ (c .along .ensures)
+
+returns-2 : tie.Need-returns-2
+returns-2 c =
+    let s = c .before .before .before .before .before in
+    let a = s .args in
+    root-broken (a .s .now) (a .row .now) (a .path) (s .pre) _ (c .before .before .«open» .ensures) _ (c .before .holds .ensures) (c .if1 .left)
+
+pub from-root-spec : {M : Type 1} → statement M
+from-root-spec = tie.close (tie.spec open-requires holds-requires along-requires returns returns-2)

@@ -1,0 +1,5 @@
+-- What the contracts of `reading` cite.
+pub mod Children
+pub mod Places
+pub mod Finding
+pub mod Texts
