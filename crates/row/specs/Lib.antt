@@ -1,0 +1,2 @@
+-- The demands as statements over definitions alone. `proofs/` proves them.
+pub mod Demand2
