@@ -12,6 +12,8 @@ use Rattle.schema.specs.Walk.{fieldsOf}
 use Rattle.schema.specs.declared.Judged.{Judged}
 use Rattle.schema.specs.declared.Judged.the-variants.{Accepted, Refused}
 use Rattle.layout.specs.Entries.{Verdict, done, refused, schemaBad, rowLong, layoutBad, judgeOf, checkOf, isAccepted}
+use Rattle.layout.specs.Layout.{decode}
+use Rattle.layout.specs.Setting.{isSome}
 use Rattle.checking.specs.Sound.{sound}
 
 module _ (s : List ℕ) where
@@ -36,8 +38,10 @@ module _ (s : List ℕ) where
     pub row-short : length row ≤ 16384 → rowLong row ≡ none
     row-short h = rw (le-leb (length row) 16384 h)
 
-    pub layout-is : (r : Bool) → r ≡ sound (ro (fieldsOf s)) row → (v : Bool) → r ≡ v → sound (ro (fieldsOf s)) row ≡ v
-    layout-is r e v h = sym e ∙ h
+    -- what the checker answers is whether the row decodes
+    pub layout-is : (r v : Bool) → r ≡ sound (ro (fieldsOf s)) row → r ≡ v → isSome (decode (ro (fieldsOf s)) row) ≡ v
+    unfolding sound
+    layout-is r v e h = sym e ∙ h
 
     pub check-no : judged s ≡ Refused → refused 1 ≡ checkOf s row
     unfolding checkOf

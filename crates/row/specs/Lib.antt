@@ -1,2 +1,3 @@
 -- The demands as statements over definitions alone. `proofs/` proves them.
 pub mod Demand2
+pub mod Outcomes

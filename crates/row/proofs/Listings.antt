@@ -1,0 +1,56 @@
+-- The refusals of `list` and its answer, each where the document gives it. Assumes nothing.
+use mathlib.Core.Path.{_≡_, refl, sym, ap, _∙_}
+use mathlib.Core.Bool.{Bool, true, false, cond}
+use mathlib.Core.Option.{Option, none, some}
+use mathlib.Core.List.{List}
+use Prim.Native.Nat.{ℕ, _≤_, _<_}
+use lib.ListN.{length}
+use lib.Dec.{leb}
+use lib.Seq.{sets}
+use borrow.Author.Tests.{le-leb, lt-leb}
+use Rattle.schema.specs.Types.{ro}
+use Rattle.schema.specs.Reading.{judged}
+use Rattle.schema.specs.Walk.{fieldsOf}
+use Rattle.schema.specs.declared.Judged.{Judged}
+use Rattle.schema.specs.declared.Judged.the-variants.{Accepted, Refused}
+use Rattle.layout.specs.Layout.{decode}
+use Rattle.layout.specs.Setting.{isSome, orEmpty}
+use Rattle.layout.specs.Entries.{listOf, listedOf, listingOf, takes, refusedWith, sizedAfter, filled}
+use Rattle.answers.specs.declared.Refusal.the-variants as F
+use Rattle.answers.specs.declared.Length.the-variants as L
+use Rattle.listing.specs.Lines.{Answered}
+use Rattle.row.specs.Outcomes.{ListsTo}
+
+module _ (s row out : List ℕ) where
+  pub list-no : judged s ≡ Refused → ListsTo s row out (L.Refused F.Schema) out
+  unfolding listOf listedOf
+  list-no e = record { answers = rw e; leaves = rw e }
+
+  module _ (a : judged s ≡ Accepted) where
+    pub list-long : 16384 < length row → ListsTo s row out (L.Refused F.TooLong) out
+    unfolding listOf listedOf
+    list-long h = record { answers = rw (a, lt-leb (length row) 16384 h); leaves = rw (a, lt-leb (length row) 16384 h) }
+
+    module _ (h : length row ≤ 16384) where
+      pub list-bad : isSome (decode (ro (fieldsOf s)) row) ≡ false → ListsTo s row out (L.Refused F.Layout) out
+      unfolding listOf listedOf
+      list-bad e = record { answers = rw (a, le-leb (length row) 16384 h, e); leaves = rw (a, le-leb (length row) 16384 h, e) }
+
+      module _ (e : isSome (decode (ro (fieldsOf s)) row) ≡ true) (out′ : List ℕ) (r : ℕ) (z : Answered out (orEmpty (listingOf s row)) out′ r) where
+        asked : (v : Bool) → leb (length (orEmpty (listingOf s row))) (length out) ≡ v → listOf s row (length out) ≡ cond v (takes r) (refusedWith 4 r)
+        unfolding listOf
+        asked v q = rw (a, le-leb (length row) 16384 h, e, q, z .need)
+
+        pub list-roomless : length out < r → ListsTo s row out (L.Refused (F.Room r)) out′
+        unfolding listedOf
+        list-roomless k =
+            let q : leb (length (orEmpty (listingOf s row))) (length out) ≡ false = lt-leb (length (orEmpty (listingOf s row))) (length out) (rw (← (z .need)) k) in
+            let n = asked false q in
+            record { answers = sym n; leaves = rw n (z .bytes ∙ rw q) }
+
+        pub list-done : r ≤ length out → ListsTo s row out (L.Done r) out′
+        unfolding listedOf
+        list-done k =
+            let q : leb (length (orEmpty (listingOf s row))) (length out) ≡ true = le-leb (length (orEmpty (listingOf s row))) (length out) (rw (← (z .need)) k) in
+            let n = asked true q in
+            record { answers = sym n; leaves = rw n (z .bytes ∙ rw q) }
