@@ -80,7 +80,7 @@ module _ (s : List ℕ) (a : judged s ≡ Accepted) where
   abbrev ts : Tys
   ts = fieldsOf s
 
-  relisted : (row : List ℕ) → Bytes row → length row ≤ 16384 → (c : Cell) → decode (ro ts) row ≡ some c → ListThenWrite s row
+  pub relisted : (row : List ℕ) → Bytes row → length row ≤ 16384 → (c : Cell) → decode (ro ts) row ≡ some c → ListThenWrite s row
   unfolding listingOf
   relisted row hb h c d =
       let y = lays-decode (ro ts) row c hb d in

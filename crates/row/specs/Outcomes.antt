@@ -4,7 +4,7 @@ use mathlib.Core.Path.{_≡_}
 use mathlib.Core.List.{List}
 use Prim.Native.Nat.{ℕ}
 use lib.ListN.{length}
-use Rattle.layout.specs.Entries.{writeOf, writtenOf, listOf, listedOf}
+use Rattle.layout.specs.Entries.{Sized, takes, refusedWith, listOf, listedOf}
 use Rattle.answers.specs.declared.Length.{Length}
 use Rattle.answers.specs.Meaning.{lengthMeans}
 
@@ -12,3 +12,8 @@ use Rattle.answers.specs.Meaning.{lengthMeans}
 pub record ListsTo (s row out : List ℕ) (r : Length) (out′ : List ℕ) : Type 0 where
   pub answers : lengthMeans r ≡ listOf s row (length out)
   pub leaves : out′ ≡ listedOf s row out
+
+-- the length in an answer
+abbrev pub lengthIn : Sized → ℕ
+lengthIn (takes n) = n
+lengthIn (refusedWith n k) = k

@@ -1,0 +1,46 @@
+-- The lengths in answers are small. Assumes nothing.
+use mathlib.Core.Path.{_≡_, refl, sym, ap, _∙_}
+use mathlib.Core.Bool.{Bool, true, false, cond}
+use mathlib.Core.Option.{Option, none, some}
+use mathlib.Core.List.{List}
+use Prim.Native.Nat.{ℕ, _*_, _≤_}
+use native.Mathlib.Omega.{arith}
+use lib.ListN.{length}
+use lib.Dec.{leb}
+use borrow.Author.Tests.{leb-true}
+use Rattle.words.specs.Bytes.{Bytes}
+use Rattle.schema.specs.Types.{ro}
+use Rattle.schema.specs.Reading.{judged}
+use Rattle.schema.specs.Walk.{fieldsOf}
+use Rattle.schema.specs.declared.Judged.{Judged}
+use Rattle.schema.specs.declared.Judged.the-variants.{Accepted, Refused}
+use Rattle.layout.specs.Cells.{Cell}
+use Rattle.layout.specs.Layout.{decode}
+use Rattle.layout.specs.Setting.{orEmpty}
+use Rattle.layout.specs.Entries.{takes, refusedWith, listOf, listingOf}
+use Rattle.row.specs.Outcomes.{lengthIn}
+use Rattle.row.proofs.Demand2.{relisted}
+
+either : (b : Bool) (n : ℕ) → lengthIn (cond b (takes n) (refusedWith 4 n)) ≡ n
+either true n = refl
+either false n = refl
+
+-- a listing is at most three times its row
+pub list-below : (s row : List ℕ) (room : ℕ) → Bytes row → lengthIn (listOf s row room) ≤ 49152
+unfolding listOf
+list-below s row room hb = by-schema (judged s) refl
+  where
+    by-row : judged s ≡ Accepted → leb (length row) 16384 ≡ true → (o : Option Cell) → decode (ro (fieldsOf s)) row ≡ o → lengthIn (listOf s row room) ≤ 49152
+    by-row a h none d = rw (a, h, d) (omega arith)
+    by-row a h (some c) d =
+        let z = relisted s a row hb (leb-true (length row) 16384 h) c d in
+        let m : length (orEmpty (listingOf s row)) ≡ length (z .listed) = rw (z .lists) in
+        rw (a, h, d, m, either) (omega (arith, z .short, leb-true (length row) 16384 h))
+
+    by-length : judged s ≡ Accepted → (v : Bool) → leb (length row) 16384 ≡ v → lengthIn (listOf s row room) ≤ 49152
+    by-length a true h = by-row a h (decode (ro (fieldsOf s)) row) refl
+    by-length a false h = rw (a, h) (omega arith)
+
+    by-schema : (j : Judged) → judged s ≡ j → lengthIn (listOf s row room) ≤ 49152
+    by-schema Accepted a = by-length a (leb (length row) 16384) refl
+    by-schema Refused a = rw a (omega arith)
