@@ -4,8 +4,11 @@ use mathlib.Core.Bool.{Bool, true, false, cond}
 use mathlib.Core.Option.{Option, none, some}
 use mathlib.Core.List.{List, [], _∷_, _++_, append-assoc}
 use Prim.Native.Nat.{ℕ, zero, suc, _+_, _*_, _-_, _/_, _%_, _^_, _≤_, _<_}
+use native.Mathlib.Decide.{decLt}
 use native.Mathlib.Omega.{arith}
+use lib.Dec.{ltb}
 use lib.ListN.{length, take, drop, length-append}
+use borrow.Author.Tests.{lt-ltb, le-ltb}
 use Rattle.words.specs.Bytes.{Bytes, le, num, part, bitmap}
 use Rattle.words.specs.Bits.{bit}
 use Rattle.words.specs.Reads.{Reads}
@@ -15,14 +18,14 @@ use Rattle.schema.specs.Marks.{markAt, line}
 use Rattle.schema.specs.Types.{Ty, fix, text, li, ma, ro, Tys, width, fixedAt, textAt, place, mark}
 use Rattle.schema.specs.Kinds.{placeAt}
 use Rattle.schema.specs.Walk.{Typed, typeAt}
-use Rattle.schema.proofs.Table.{fixed-high, line-width}
-use Rattle.schema.proofs.Places.{typed-marked, typed-place, fixed-of, text-of, Holding, holding-of}
+use Rattle.schema.proofs.Table.{fixed-high, line-width, place-fixed, place-text}
+use Rattle.schema.proofs.Places.{typed-place, fixed-of, text-of}
 use Rattle.layout.specs.Layout.{slotOf, number, string, array, pair, struct, codec, Lays}
 use Rattle.layout.specs.Listing.{nu}
-use Rattle.listing.specs.Lines.{cellOf, lines, ownBytes, childLines, Written}
-use Rattle.listing.specs.Room.{Holds, Within, Own, Child, Container}
+use Rattle.listing.specs.Lines.{lines, itemLines, ownBytes, childLines}
+use Rattle.listing.specs.Room.{elementWidth, leafAt, Holds, Within, Own, Seated, Leaf, Child, Container, Items, Leaves, Elements}
 use Rattle.listing.proofs.Held.{fixed-lines, text-lines, mark-at}
-use Rattle.listing.proofs.Wrote.{mark-two}
+use Rattle.listing.proofs.Children.{Counted, counted}
 
 null-lines : (t : Ty) (b : List ℕ) (h i slot : ℕ) → bit b h i ≡ true → nu ≡ childLines t b h i slot
 unfolding childLines
@@ -58,15 +61,9 @@ wide-none (li t) h = refl
 wide-none (ma k v) h = refl
 wide-none (ro ts) h = refl
 
-module _ {s : List ℕ} {at d k : ℕ} {b : List ℕ} {h i slot pos : ℕ} (r : Child s at d k b h i slot pos) where
-  abbrev t : Ty
-  t = typeAt s at d
-
+module _ {t : Ty} {k : ℕ} {b : List ℕ} {h i slot pos : ℕ} (r : Seated t k b h i slot pos) where
   place-is : k ≡ place t
-  place-is = r .place ∙ typed-place s at d (r .typed)
-
-  pub place-small : k < 12
-  place-small = rw (r .place) (typed-marked s at d (r .typed) .known)
+  place-is = r .place
 
   pub child-null : bit b h i ≡ true → nu ≡ childLines t b h i slot
   child-null e = null-lines t b h i slot e
@@ -107,8 +104,72 @@ module _ {s : List ℕ} {at d k : ℕ} {b : List ℕ} {h i slot pos : ℕ} (r : 
       cut-is : take (off + size - off) (drop off b) ≡ take size (drop off b)
       cut-is = let j : off + size - off ≡ size = omega arith in rw j
 
+      pub child-holds : Holds t (take (off + size - off) (drop off b))
+      child-holds = rw cut-is (child-elsewhere .holds)
+
       pub child-lines : lines t (take (off + size - off) (drop off b)) ≡ childLines t b h i slot
       child-lines = rw cut-is (child-elsewhere .lines)
 
-      pub child-container : 9 ≤ k → Container s at d k (take (off + size - off) (drop off b)) pos
-      child-container m = record { typed = r .typed; place = r .place; high = m; holds = rw cut-is (child-elsewhere .holds); room = rw child-lines (r .room) }
+-- ---- a leaf's type is that at its place of the table
+
+pub leaf-at : (t : Ty) (k : ℕ) → k ≡ place t → k < 9 → t ≡ leafAt k
+unfolding leafAt
+leaf-at t k e l = go (decLt k 7)
+  where
+    go : Dec (k < 7) → t ≡ cond (ltb k 7) (fix (fixedAt k)) (text (textAt k))
+    go (yes m) = rw (lt-ltb k 7 m) (fixed-of t k e m)
+    go (no m) = rw (le-ltb k 7 (omega arith)) (text-of t k e (omega arith) l)
+
+-- a leaf in a struct
+pub record LeafSeat (t : Ty) (k : ℕ) (b : List ℕ) (h i slot pos : ℕ) : Type 0 where
+  pub leaf : Leaf k b h i slot pos
+  pub lines : childLines (leafAt k) b h i slot ≡ childLines t b h i slot
+
+pub seat-leaf : {t : Ty} {k : ℕ} {b : List ℕ} {h i slot pos : ℕ} → Seated t k b h i slot pos → k < 9 → LeafSeat t k b h i slot pos
+seat-leaf {t} {k} {b} {h} {i} {slot} {pos} r l =
+    let q = leaf-at t k (r .place) l in
+    record { leaf = record { low = l; seat = subst (λ (y : Ty). Seated y k b h i slot pos) q r }; lines = ap (λ (y : Ty). childLines y b h i slot) (sym q) }
+
+-- a list of leaves
+pub record LeafItems (t : Ty) (k : ℕ) (b : List ℕ) (pos : ℕ) : Type 0 where
+  pub leaves : Leaves k b pos
+  pub lines : itemLines (leafAt k) b ≡ itemLines t b
+
+pub items-leaves : {t : Ty} {k : ℕ} {b : List ℕ} {pos : ℕ} → Items t b pos → k ≡ place t → k < 9 → LeafItems t k b pos
+items-leaves {t} {k} {b} {pos} r e l =
+    let q = leaf-at t k e l in
+    record { leaves = record { low = l; items = subst (λ (y : Ty). Items y b pos) q r }; lines = ap (λ (y : Ty). itemLines y b) (sym q) }
+
+place-leaf : (k : ℕ) → k < 9 → k ≡ place (leafAt k)
+unfolding leafAt place
+place-leaf k l = go (decLt k 7)
+  where
+    go : Dec (k < 7) → k ≡ place (cond (ltb k 7) (fix (fixedAt k)) (text (textAt k)))
+    go (yes m) = rw (lt-ltb k 7 m) (sym (place-fixed k m))
+    go (no m) = rw (le-ltb k 7 (omega arith)) (sym (place-text k (omega arith) l))
+
+pub leaves-counted : {k : ℕ} {b : List ℕ} {pos n w : ℕ} → Leaves k b pos → n ≡ num (part b 0 8) → w ≡ elementWidth k → Counted (leafAt k) b pos n k w
+leaves-counted {k} r en ew = counted (r .items) en (place-leaf k (r .low)) ew
+
+-- a list of containers, in slots of 8
+pub elements-counted : {s : List ℕ} {at d : ℕ} {b : List ℕ} {pos n k : ℕ} → Elements s at d b pos → n ≡ num (part b 0 8) → k ≡ placeAt s at → 9 ≤ k → Counted (typeAt s at d) b pos n k 8
+unfolding elementWidth
+elements-counted {s} {at} {d} {k = k} r en ek l = counted (r .items) en (ek ∙ typed-place s at d (r .typed)) (rw (le-ltb k 7 (omega arith)))
+
+pub elements-leaves : {s : List ℕ} {at d : ℕ} {b : List ℕ} {pos k : ℕ} → Elements s at d b pos → k ≡ placeAt s at → k < 9 → LeafItems (typeAt s at d) k b pos
+elements-leaves {s} {at} {d} r ek l = items-leaves (r .items) (ek ∙ typed-place s at d (r .typed)) l
+
+-- ---- a child that is a container
+
+module _ {s : List ℕ} {at d k : ℕ} {b : List ℕ} {h i slot pos : ℕ} (r : Child s at d k b h i slot pos) (e : bit b h i ≡ false) (x : ℕ) (rx : Reads b slot 8 x) (off size : ℕ) (eo : off ≡ x / 2 ^ 32) (es : size ≡ x % 2 ^ 32) where
+  high : 7 ≤ k
+  high = omega (arith, r .high)
+
+  pub container-fits : off + size ≤ length b
+  container-fits = child-elsewhere (r .seat) e high x rx off size eo es .fits
+
+  pub container-lines : lines (typeAt s at d) (take (off + size - off) (drop off b)) ≡ childLines (typeAt s at d) b h i slot
+  container-lines = child-lines (r .seat) e high x rx off size eo es
+
+  pub child-container : Container s at d k (take (off + size - off) (drop off b)) pos
+  child-container = record { typed = r .typed; place = r .mark; high = r .high; holds = child-holds (r .seat) e high x rx off size eo es; room = rw container-lines (r .seat .room) }

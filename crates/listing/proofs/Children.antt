@@ -28,7 +28,7 @@ use Rattle.layout.proofs.Containers.{body-total, body-fit, kids-lawful, kids-co
 use Rattle.layout.proofs.Stepped.{Comes}
 use Rattle.layout.proofs.Walked.{childTy, list-says, comes}
 use Rattle.listing.specs.Lines.{cellOf, lines, itemLines, fieldLines, ownBytes, childLines, Written}
-use Rattle.listing.specs.Room.{elementWidth, Holds, Own, Child, Elements, Fields}
+use Rattle.listing.specs.Room.{elementWidth, Holds, Own, Seated, Items}
 use Rattle.listing.proofs.Found.{There, there-child, lines-child}
 use Rattle.listing.proofs.Turns.{Going, going-start, going-end, going-room, going-next}
 
@@ -71,23 +71,20 @@ pub record AtItem (t : Ty) (b : List ℕ) (n w pos i slot : ℕ) (out₀ out : L
   pub going : Going (itemScripts t b) (parts (cellOf (li t) b)) out₀ pos i out p
 
 -- a list has its count
-pub items-head : {s : List ℕ} {at d : ℕ} {b : List ℕ} {pos : ℕ} → Elements s at d b pos → 0 + 8 ≤ length b
-items-head {s} {at} {d} {b} r = omega (arith, list-says (typeAt s at d) _ b (r .holds .lays) (omega (arith, r .holds .small)) .room)
+pub items-head : {t : Ty} {b : List ℕ} {pos : ℕ} → Items t b pos → 0 + 8 ≤ length b
+items-head {t} {b} r = omega (arith, list-says t _ b (r .holds .lays) (omega (arith, r .holds .small)) .room)
 
 -- n, k and w are the count, the place of the elements' type in the table, and their width
-pub record Counted (s : List ℕ) (at d : ℕ) (b : List ℕ) (pos n k w : ℕ) : Type 0 where
-  pub asked : Elements s at d b pos
+pub record Counted (t : Ty) (b : List ℕ) (pos n k w : ℕ) : Type 0 where
+  pub asked : Items t b pos
   pub count : n ≡ num (part b 0 8)
-  pub place : k ≡ placeAt s at
+  pub place : k ≡ place t
   pub wide : w ≡ elementWidth k
 
-pub counted : {s : List ℕ} {at d : ℕ} {b : List ℕ} {pos n k w : ℕ} → Elements s at d b pos → n ≡ num (part b 0 8) → k ≡ placeAt s at → w ≡ elementWidth k → Counted s at d b pos n k w
+pub counted : {t : Ty} {b : List ℕ} {pos n k w : ℕ} → Items t b pos → n ≡ num (part b 0 8) → k ≡ place t → w ≡ elementWidth k → Counted t b pos n k w
 counted r en ek ew = record { asked = r; count = en; place = ek; wide = ew }
 
-module _ {s : List ℕ} {at d : ℕ} {b : List ℕ} {pos n k w : ℕ} (r : Counted s at d b pos n k w) where
-  abbrev t : Ty
-  t = typeAt s at d
-
+module _ {t : Ty} {b : List ℕ} {pos n k w : ℕ} (r : Counted t b pos n k w) where
   abbrev c : Cell
   c = cellOf (li t) b
 
@@ -101,7 +98,7 @@ module _ {s : List ℕ} {at d : ℕ} {b : List ℕ} {pos n k w : ℕ} (r : Count
   list-count = r .count ∙ list-says t c b lays small .count
 
   pub list-width : w ≡ slotOf (codec t .wide)
-  list-width = r .wide ∙ element-wide t k (r .place ∙ typed-place s at d (r .asked .typed))
+  list-width = r .wide ∙ element-wide t k (r .place)
 
   pub list-room : 8 + bitmap n + pad (n * w) ≤ length b
   list-room = rw (list-count, list-width) (list-says t c b lays small .room)
@@ -150,10 +147,10 @@ module _ {s : List ℕ} {at d : ℕ} {b : List ℕ} {pos n k w : ℕ} (r : Count
       unfolding itemLines
       item-room = going-room (a .going) noScript (leaf []) in-scripts in-parts _ item-is (r .asked .room)
 
-      pub item-child : Child s at d k b 8 i slot p
-      item-child = record {
-        typed = r .asked .typed;
+      pub item-seat : Seated t k b 8 i slot p
+      item-seat = record {
         place = r .place;
+        bytes = r .asked .holds .bytes;
         small = r .asked .holds .small;
         bit-room = omega (arith, list-room);
         slot-room = omega (arith, item-fits, list-width);

@@ -87,7 +87,7 @@ module _ {s : List ℕ} {at d k : ℕ} {b : List ℕ} {pos : ℕ} (r : Container
       let z = list-lines t b n (en ∙ list-says t _ b (h .lays) (omega (arith, h .small)) .count) in
       let m : pos + length (lines (li t) b) ≤ 65536 = rw (a .whole) at (r .room) in
       record {
-        elements = λ p ep. record { typed = a .element; holds = h; room = omega (arith, length-append (markAt 9 ++ le 4 n) (itemLines t b), ap length z) };
+        elements = λ p ep. record { typed = a .element; items = record { holds = h; room = omega (arith, length-append (markAt 9 ++ le 4 n) (itemLines t b), ap length z) } };
         lines = rw (a .whole) z;
       }
 
@@ -203,8 +203,8 @@ module _ {s : List ℕ} {k v d : ℕ} {b : List ℕ} {pos : ℕ} (r : Pair s k v
     lengths = rw (← map-is, length-append (markAt 10 ++ le 4 n), length-append (itemLines tk us))
 
     pub map-keys : (p : ℕ) → p ≡ pos + length (markAt 10 ++ le 4 n) → Elements s k d us p
-    map-keys p ep = record { typed = r .keys; holds = holds-lays (li tk) (partOf 0 c) us (bytes-part 8 (8 + K - 8) (r .holds .bytes)) small-p lays-p; room = omega (arith, lengths, r .room) }
+    map-keys p ep = record { typed = r .keys; items = record { holds = holds-lays (li tk) (partOf 0 c) us (bytes-part 8 (8 + K - 8) (r .holds .bytes)) small-p lays-p; room = omega (arith, lengths, r .room) } }
 
     pub map-values : (p q : ℕ) → p ≡ pos + length (markAt 10 ++ le 4 n) → q ≡ p + length (itemLines tk us) → Elements s v d vs q
     map-values p q ep eq =
-        record { typed = r .values; holds = holds-lays (li tv) (partOf 1 c) vs (bytes-part (8 + K) (length b - (8 + K)) (r .holds .bytes)) small-q lays-q; room = omega (arith, lengths, r .room) }
+        record { typed = r .values; items = record { holds = holds-lays (li tv) (partOf 1 c) vs (bytes-part (8 + K) (length b - (8 + K)) (r .holds .bytes)) small-q lays-q; room = omega (arith, lengths, r .room) } }

@@ -7,3 +7,4 @@ pub mod Structs
 pub mod ByKind
 pub mod Containers
 pub mod Root
+pub mod Numbers

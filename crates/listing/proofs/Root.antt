@@ -30,9 +30,9 @@ unfolding count
 root-short end c h f = absurd (omega arith)
 root-short (t then ts) c h f = listing-short t ts c f
 
-root-lines : (ts : Tys) (b : List ℕ) → 1 ≤ count ts → Holds (ro ts) b → length (lines (ro ts) b) ≤ 65536
+root-lines : (ts : Tys) (b : List ℕ) → 1 ≤ count ts → Holds (ro ts) b → length (lines (ro ts) b) ≤ 3 * length b
 unfolding lines
-root-lines ts b h r = omega (arith, root-short ts _ h (lays-fits (ro ts) _ b (r .lays)), lays-size (ro ts) _ b (r .lays), r .small)
+root-lines ts b h r = omega (arith, root-short ts _ h (lays-fits (ro ts) _ b (r .lays)), lays-size (ro ts) _ b (r .lays))
 
 sound-lines : (t : Ty) (b : List ℕ) (o : Option Cell) → decode t b ≡ o → isSome o ≡ true → lines t b ≡ orEmpty (o >>= λ c. some (listing t c))
 unfolding lines cellOf
@@ -56,5 +56,9 @@ module _ {s row : List ℕ} (r : Checked s row) where
         place = sym (typed-place s 0 8 (root .typed) ∙ ap place (root .whole));
         high = omega arith;
         holds = rw (root .whole) h;
-        room = rw (root .whole) (omega (arith, root-lines (fieldsOf s) row (root .low) h));
+        room = rw (root .whole) (omega (arith, root-lines (fieldsOf s) row (root .low) h, r .short));
       }
+
+  -- three times the row's length is room enough
+  pub row-short : Bytes row → length (orEmpty (listingOf s row)) ≤ 3 * length row
+  row-short hb = rw (← row-lines, root .whole) (root-lines (fieldsOf s) row (root .low) (holds-sound (ro (fieldsOf s)) row hb (r .short) (r .sound)))

@@ -11,6 +11,7 @@ use Rattle.words.specs.Bits.{bit}
 use Rattle.schema.specs.Types.{Ty, ro, Tys, end, _then_, count, field, mark}
 use Rattle.schema.specs.Kinds.{placeAt}
 use Rattle.schema.specs.Walk.{Typed, TypedAll, typeAt, typesAt, nextAt, fieldAt}
+use Rattle.schema.proofs.Places.{typed-place}
 use Rattle.schema.proofs.Typing.{FieldLaw, typed-count, field-typed}
 use Rattle.layout.specs.Cells.{Cell, leaf, onNull, parts, part as partOf}
 use Rattle.layout.specs.Layout.{slotOf, front, codec, kids, struct, Lays}
@@ -21,7 +22,7 @@ use Rattle.layout.proofs.Containers.{body-total, body-fit, kids-lawful, kids-co
 use Rattle.layout.proofs.Stepped.{Comes}
 use Rattle.layout.proofs.Walked.{childTy, comes}
 use Rattle.listing.specs.Lines.{cellOf, fieldLines, childLines, Written}
-use Rattle.listing.specs.Room.{Holds, Own, Child, Fields}
+use Rattle.listing.specs.Room.{Holds, Own, Seated, Fields}
 use Rattle.listing.proofs.Found.{There, there-child, lines-child}
 use Rattle.listing.proofs.Turns.{Going, going-start, going-end, going-room, going-next}
 use Rattle.listing.proofs.Children.{slot-most, noScript}
@@ -130,10 +131,10 @@ module _ {s : List ℕ} {first n d : ℕ} {b : List ℕ} {pos : ℕ} (r : Fields
       unfolding fieldLines
       field-room = going-room (a .going) noScript (leaf []) in-scripts in-parts _ item-is (r .room)
 
-      pub field-child : (k : ℕ) → k ≡ placeAt s at → Child s at d k b 0 i slot p
-      field-child k e = record {
-        typed = field-here;
-        place = e;
+      pub field-seat : (k : ℕ) → k ≡ placeAt s at → Seated t k b 0 i slot p
+      field-seat k e = record {
+        place = e ∙ typed-place s at d field-here;
+        bytes = r .holds .bytes;
         small = r .holds .small;
         bit-room = omega (arith, fields-room);
         slot-room = omega (arith, field-fits, slot-most t);

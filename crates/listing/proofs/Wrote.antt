@@ -64,6 +64,10 @@ answered-whole out v w out′ n r f h g =
     let g′ : Written out 0 v out′ r = rw nil at g in
     record { need = omega (arith, g′ .past); bytes = g′ .bytes (omega arith) ∙ rw (le-leb (length v) (length out) fits) }
 
+-- with room for what is at most m long
+pub answered-roomy : (out v out′ : List ℕ) (m r : ℕ) → length v ≤ m → m ≤ length out → Written out 0 v out′ r → Answered out v out′ r
+answered-roomy out v out′ m r l h f = record { need = omega (arith, f .past); bytes = f .bytes (omega arith) ∙ rw (le-leb (length v) (length out) (omega arith)) }
+
 -- ---- marks
 
 pub mark-two : (k : ℕ) → length (markAt k) ≡ 2

@@ -9,7 +9,7 @@ use lib.ListN.{length}
 use Rattle.words.specs.Bytes.{Bytes, num, part}
 use Rattle.words.specs.Bits.{bit}
 use Rattle.schema.specs.Marks.{line}
-use Rattle.schema.specs.Types.{Ty, li, ma, ro}
+use Rattle.schema.specs.Types.{Ty, fix, text, li, ma, ro, fixedAt, textAt, place}
 use Rattle.schema.specs.Kinds.{placeAt}
 use Rattle.schema.specs.Reading.{judged}
 use Rattle.schema.specs.Walk.{Typed, TypedAll, typeAt, typesAt, fieldsOf}
@@ -28,11 +28,29 @@ pub record Holds (t : Ty) (b : List ℕ) : Type 0 where
 unfoldable pub elementWidth : ℕ → ℕ
 elementWidth k = cond (ltb k 7) (line k .width) 8
 
+-- the leaf at place k of the table
+unfoldable pub leafAt : ℕ → Ty
+leafAt k = cond (ltb k 7) (fix (fixedAt k)) (text (textAt k))
+
 -- n bytes of b, from the one numbered at on, are written at pos
 pub record CopyRoom (b : List ℕ) (at n pos : ℕ) : Type 0 where
   pub small : length b ≤ 16384
   pub within : at + n ≤ length b
   pub room : pos ≤ 131072
+
+-- a number of the type at place k, from the byte of b numbered at on, is written at pos
+pub record NumberRoom (b : List ℕ) (at k pos : ℕ) : Type 0 where
+  pub bytes : Bytes b
+  pub fixed : k < 7
+  pub within : at + line k .width ≤ length b
+  pub room : pos ≤ 65536
+
+-- n bytes of b, from the one numbered at on, are written at pos as a leaf of the type at place k
+pub record TextRoom (b : List ℕ) (at n k pos : ℕ) : Type 0 where
+  pub small : length b ≤ 16384
+  pub known : k < 12
+  pub within : at + n ≤ length b
+  pub room : pos ≤ 65536
 
 -- a value elsewhere lies in its container
 abbrev pub Within : Option ℕ → List ℕ → ℕ → Type 0
@@ -44,15 +62,26 @@ pub record Own (t : Ty) (b : List ℕ) (slot : ℕ) : Type 0 where
   pub within : Within (codec t .wide) b slot
   pub holds : Holds t (ownBytes (codec t .wide) b slot)
 
--- Child i of b, whose type stands at a position of the schema and has the place k in the table. Nothing is asked of a null.
-pub record Child (s : List ℕ) (at d k : ℕ) (b : List ℕ) (h i slot pos : ℕ) : Type 0 where
-  pub typed : Typed s at d
-  pub place : k ≡ placeAt s at
+-- Child i of b, of a type whose place in the table is k, is listed at pos. Nothing is asked of a null.
+pub record Seated (t : Ty) (k : ℕ) (b : List ℕ) (h i slot pos : ℕ) : Type 0 where
+  pub place : k ≡ place t
+  pub bytes : Bytes b
   pub small : length b ≤ 16384
   pub bit-room : h + i / 8 < length b
-  pub slot-room : slot + slotOf (codec (typeAt s at d) .wide) ≤ length b
-  pub present : bit b h i ≡ false → Own (typeAt s at d) b slot
-  pub room : pos + length (childLines (typeAt s at d) b h i slot) ≤ 65536
+  pub slot-room : slot + slotOf (codec t .wide) ≤ length b
+  pub present : bit b h i ≡ false → Own t b slot
+  pub room : pos + length (childLines t b h i slot) ≤ 65536
+
+pub record Leaf (k : ℕ) (b : List ℕ) (h i slot pos : ℕ) : Type 0 where
+  pub low : k < 9
+  pub seat : Seated (leafAt k) k b h i slot pos
+
+-- a child that is a container, whose type stands at a position of the schema
+pub record Child (s : List ℕ) (at d k : ℕ) (b : List ℕ) (h i slot pos : ℕ) : Type 0 where
+  pub typed : Typed s at d
+  pub mark : k ≡ placeAt s at
+  pub high : 9 ≤ k
+  pub seat : Seated (typeAt s at d) k b h i slot pos
 
 -- a container, whose place in the table is k
 pub record Container (s : List ℕ) (at d k : ℕ) (b : List ℕ) (pos : ℕ) : Type 0 where
@@ -62,11 +91,25 @@ pub record Container (s : List ℕ) (at d k : ℕ) (b : List ℕ) (pos : ℕ) : 
   pub holds : Holds (typeAt s at d) b
   pub room : pos + length (lines (typeAt s at d) b) ≤ 65536
 
+-- the elements of a list of the type
+pub record Items (t : Ty) (b : List ℕ) (pos : ℕ) : Type 0 where
+  pub holds : Holds (li t) b
+  pub room : pos + length (itemLines t b) ≤ 65536
+
+pub record Leaves (k : ℕ) (b : List ℕ) (pos : ℕ) : Type 0 where
+  pub low : k < 9
+  pub items : Items (leafAt k) b pos
+
 -- a list of the type at a position
 pub record Elements (s : List ℕ) (at d : ℕ) (b : List ℕ) (pos : ℕ) : Type 0 where
   pub typed : Typed s at d
-  pub holds : Holds (li (typeAt s at d)) b
-  pub room : pos + length (itemLines (typeAt s at d) b) ≤ 65536
+  pub items : Items (typeAt s at d) b pos
+
+pub record Containers (s : List ℕ) (at d k : ℕ) (b : List ℕ) (pos : ℕ) : Type 0 where
+  pub typed : Typed s at d
+  pub mark : k ≡ placeAt s at
+  pub high : 9 ≤ k
+  pub items : Items (typeAt s at d) b pos
 
 -- a map of the types at two positions
 pub record Pair (s : List ℕ) (k v d : ℕ) (b : List ℕ) (pos : ℕ) : Type 0 where

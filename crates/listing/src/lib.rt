@@ -4,15 +4,14 @@ ghost use mathlib.Core.Path.{_≡_};
 ghost use mathlib.Core.List.{_++_};
 ghost use Prim.Native.Nat.{_≤_, _<_};
 ghost use Rattle.words.specs.Bytes.{le, part};
-ghost use Rattle.schema.specs.Marks.{markAt};
+ghost use Rattle.schema.specs.Marks.{markAt, line};
 ghost use Rattle.schema.specs.Types.{ma};
-ghost use Rattle.schema.specs.Kinds.{placeAt};
-ghost use Rattle.schema.specs.Walk.{Typed, typeAt, typesAt, nextAt};
+ghost use Rattle.schema.specs.Walk.{typeAt, typesAt};
 ghost use Rattle.layout.specs.Listing.{nu};
 ghost use Rattle.layout.specs.Setting.{orEmpty};
 ghost use Rattle.layout.specs.Entries.{listingOf};
 ghost use Rattle.listing.specs.Lines.{lines, itemLines, fieldLines, childLines, Written, Answered};
-ghost use Rattle.listing.specs.Room.{CopyRoom, elementWidth, Child, Container, Elements, Pair, Fields, Checked};
+ghost use Rattle.listing.specs.Room.{CopyRoom, NumberRoom, TextRoom, elementWidth, leafAt, Leaf, Child, Container, Leaves, Elements, Pair, Fields, Checked};
 
 // The mark at place k of the table.
 fn put_mark(out: &mut [u8], pos: usize, k: usize) -> usize
@@ -77,18 +76,96 @@ fn element_width(k: usize) -> usize
     if k < 7 { schema::width_of(k) } else { 8 }
 }
 
-// Where the next field's type stands: a leaf's takes two bytes.
-fn next_field(s: &[u8], at: usize, depth: usize, k: usize) -> usize
-    requires { ⌜ (Typed (now s) at depth) × (k ≡ placeAt (now s) at) ⌝ }
-    ensures { λ r. ⌜ r ≡ nextAt (now (s .entry)) at depth ⌝ }
+// A number of the type at place k of the table. Without room for all of it nothing is written, and each width has its own load and
+// store.
+fn put_number(out: &mut [u8], pos: usize, k: usize, b: &[u8], slot: usize) -> usize
+    requires { ⌜ NumberRoom (now b) slot k pos ⌝ }
+    ensures { λ r. ⌜ Written (now (out .entry)) pos (markAt k ++ part (now (b .entry)) slot (line k .width)) (now (out .exit)) r ⌝ }
 {
-    if k < 9 {
-        return at + 2;
+    let w = schema::width_of(k);
+    let end = pos + 2 + w;
+    if out.len() < end {
+        return end;
     }
-    schema::next(s, at, depth)
+    let p = put_mark(out, pos, k);
+    if w == 8 {
+        words::nums::put8(out, p, words::nums::get8(b, slot));
+        return end;
+    }
+    if w == 4 {
+        words::nums::put4(out, p, words::nums::get4(b, slot) as u64);
+        return end;
+    }
+    if w == 2 {
+        words::nums::put2(out, p, words::nums::get2(b, slot) as u64);
+        return end;
+    }
+    out[p] = b[slot];
+    end
 }
 
-// Child i of the container b. There is no look at what lies under a null.
+// A string or binary, whose length is its size without padding.
+fn put_text(out: &mut [u8], pos: usize, k: usize, b: &[u8], off: usize, size: usize) -> usize
+    requires { ⌜ TextRoom (now b) off size k pos ⌝ }
+    ensures { λ r. ⌜ Written (now (out .entry)) pos ((markAt k ++ le 4 size) ++ part (now (b .entry)) off size) (now (out .exit)) r ⌝ }
+{
+    let end = pos + 6 + size;
+    if out.len() < end {
+        return end;
+    }
+    let p = put_count(out, pos, k, size);
+    put_bytes(out, p, b, off, size)
+}
+
+// Child i of the container b, a leaf. There is no look at what lies under a null.
+fn put_leaf(
+    out: &mut [u8],
+    pos: usize,
+    k: usize,
+    b: &[u8],
+    h: usize,
+    i: usize,
+    slot: usize,
+) -> usize
+    requires { ⌜ Leaf k (now b) h i slot pos ⌝ }
+    ensures { λ r. ⌜ Written (now (out .entry)) pos (childLines (leafAt k) (now (b .entry)) h i slot) (now (out .exit)) r ⌝ }
+{
+    if words::nulls::is_null(b, h, i) {
+        return put_null(out, pos);
+    }
+    if k < 7 {
+        return put_number(out, pos, k, b, slot);
+    }
+    let x = words::nums::get8(b, slot);
+    put_text(
+        out,
+        pos,
+        k,
+        b,
+        words::slots::slot_offset(x) as usize,
+        words::slots::slot_size(x) as usize,
+    )
+}
+
+// The elements of a list of leaves: a loop with no call of the cycle.
+fn list_leaves(k: usize, b: &[u8], out: &mut [u8], pos: usize) -> usize
+    requires { ⌜ Leaves k (now b) pos ⌝ }
+    ensures { λ r. ⌜ Written (now (out .entry)) pos (itemLines (leafAt k) (now (b .entry))) (now (out .exit)) r ⌝ }
+{
+    let n = words::nums::get8(b, 0) as usize;
+    let w = element_width(k);
+    let mut i: usize = 0;
+    let mut slot = 8 + words::sizes::bitmap_size(n);
+    let mut p = pos;
+    while i < n {
+        p = put_leaf(out, p, k, b, 8, i, slot);
+        slot += w;
+        i += 1;
+    }
+    p
+}
+
+// Child i of the container b, a container itself. There is no look at what lies under a null.
 fn list_child(
     s: &[u8],
     at: usize,
@@ -107,19 +184,9 @@ fn list_child(
     if words::nulls::is_null(b, h, i) {
         return put_null(out, pos);
     }
-    if k < 7 {
-        let w = schema::width_of(k);
-        let p = put_mark(out, pos, k);
-        return put_bytes(out, p, b, slot, w);
-    }
     let x = words::nums::get8(b, slot);
     let off = words::slots::slot_offset(x) as usize;
-    let size = words::slots::slot_size(x) as usize;
-    if k < 9 {
-        let p = put_count(out, pos, k, size);
-        return put_bytes(out, p, b, off, size);
-    }
-    let end = off + size;
+    let end = off + words::slots::slot_size(x) as usize;
     list_value(s, at, depth, k, &b[off..end], out, pos)
 }
 
@@ -173,21 +240,23 @@ fn list_items(s: &[u8], at: usize, depth: usize, b: &[u8], out: &mut [u8], pos: 
     requires { ⌜ Elements (now s) at depth (now b) pos ⌝ }
     ensures { λ r. ⌜ Written (now (out .entry)) pos (itemLines (typeAt (now (s .entry)) at depth) (now (b .entry))) (now (out .exit)) r ⌝ }
 {
-    let n = words::nums::get8(b, 0) as usize;
     let k = schema::marks::place_at(s, at);
-    let w = element_width(k);
+    if k < 9 {
+        return list_leaves(k, b, out, pos);
+    }
+    let n = words::nums::get8(b, 0) as usize;
     let mut i: usize = 0;
     let mut slot = 8 + words::sizes::bitmap_size(n);
     let mut p = pos;
     while i < n {
         p = list_child(s, at, depth, k, b, 8, i, slot, out, p);
-        slot += w;
+        slot += 8;
         i += 1;
     }
     p
 }
 
-// The fields of a struct, whose n types stand from a position of the schema on.
+// The fields of a struct, whose n types stand from a position of the schema on: only containers are listed by a call of the cycle.
 fn list_fields(
     s: &[u8],
     first: usize,
@@ -206,20 +275,30 @@ fn list_fields(
     let mut p = pos;
     while i < n {
         let k = schema::marks::place_at(s, at);
+        if k < 9 {
+            p = put_leaf(out, p, k, b, 0, i, slot);
+            at += 2;
+            slot += 8;
+            i += 1;
+            continue;
+        }
         p = list_child(s, at, depth, k, b, 0, i, slot, out, p);
-        at = next_field(s, at, depth, k);
+        at = schema::next(s, at, depth);
         slot += 8;
         i += 1;
     }
     p
 }
 
-// The listing of a row that was checked, at the start of out where it fits; its length in any case. The first call is lent no byte: it
-// measures.
+// The listing of a row that was checked, at the start of out where it fits; its length in any case. It is at most three times as long
+// as the row: with that much room there is nothing to measure first. A call that is lent no byte measures.
 pub fn list_row(schema: &[u8], row: &[u8], out: &mut [u8]) -> usize
     requires { ⌜ Checked (now schema) (now row) ⌝ }
     ensures { λ r. ⌜ Answered (now (out .entry)) (orEmpty (listingOf (now (schema .entry)) (now (row .entry)))) (now (out .exit)) r ⌝ }
 {
+    if 3 * row.len() <= out.len() {
+        return list_value(schema, 0, 8, 11, row, out, 0);
+    }
     let need = list_value(schema, 0, 8, 11, row, &mut out[..0], 0);
     if out.len() < need {
         return need;

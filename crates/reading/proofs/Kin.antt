@@ -1,5 +1,5 @@
 -- A step by the schema alone, as `kin` takes it. Assumes nothing.
-use mathlib.Core.Path.{_≡_, refl, sym, ap, _∙_, subst}
+use mathlib.Core.Path.{_≡_, refl, ap}
 use mathlib.Core.Bool.{Bool, true, false}
 use mathlib.Core.Option.{Option, none, some}
 use mathlib.Core.List.{List, [], _∷_}
@@ -8,15 +8,15 @@ use native.Mathlib.Omega.{arith}
 use native.Mathlib.Decide.{decLt}
 use lib.Dec.{eqb}
 use Rattle.schema.specs.Kinds.{pick}
-use Rattle.schema.specs.Types.{Ty, fix, text, li, ma, ro, Tys, count, field}
-use Rattle.schema.specs.Walk.{Typed, TypedAll, typeAt, typesAt, fieldAt, HasField, openAt}
+use Rattle.schema.specs.Types.{Ty, li, ma, count, field}
+use Rattle.schema.specs.Walk.{Typed, typeAt, typesAt, fieldAt, HasField, openAt}
 use Rattle.schema.specs.declared.Opened.{Opened}
 use Rattle.schema.specs.declared.Opened.the-variants.{Fixed as OFixed, Text as OText, List as OList, Map as OMap, Struct as OStruct, Nothing as ONothing}
 use Rattle.schema.proofs.Typing.{typed-count, field-typed}
 use Rattle.layout.specs.Reader.{_>>_, assert}
 use Rattle.layout.specs.Reading.{typeAt as typeOn}
 use Rattle.layout.proofs.Reader.{assert-yes}
-use Rattle.reading.specs.Places.{openTy, OpenIs, Both, Fields, eitherOf, lotAs, LotIs, Lots}
+use Rattle.reading.specs.Places.{openTy, OpenIs, Fields, eitherOf, Lots}
 use Rattle.reading.specs.declared.Lot.{Lot}
 use Rattle.reading.specs.declared.Lot.the-variants.{Nowhere, Of}
 use Rattle.reading.proofs.Rules.{open-type, open-is}

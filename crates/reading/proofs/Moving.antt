@@ -12,17 +12,17 @@ use lib.Seq.{take-length}
 use borrow.Author.Tests.{leb-true}
 use Rattle.words.specs.Bytes.{num, part}
 use Rattle.words.proofs.Parts.{length-part, part-part}
-use Rattle.schema.specs.Types.{Ty, fix, text, li, ma, ro, Tys, count, field}
-use Rattle.schema.specs.Walk.{Typed, typeAt, typesAt}
+use Rattle.schema.specs.Types.{Ty, fix, text, li, ma, ro, count, field}
+use Rattle.schema.specs.Walk.{typeAt, typesAt}
 use Rattle.schema.specs.declared.Opened.{Opened}
 use Rattle.schema.specs.declared.Opened.the-variants.{Fixed as OFixed, Text as OText, List as OList, Map as OMap, Struct as OStruct, Nothing as ONothing}
 use Rattle.schema.proofs.Typing.{typed-count}
 use Rattle.layout.specs.Layout.{front, slotOf, codec}
 use Rattle.layout.specs.Walk as W
-use Rattle.layout.specs.Walk.{stop, toNull, into, mustStep, stepIn}
+use Rattle.layout.specs.Walk.{stop, into, stepIn}
 use Rattle.layout.specs.Reading.{typeAt as typeOn}
-use Rattle.reading.specs.Children.{seatAs, wideOf, childAs, SeatIn, Lies, ChildIn, IsChild, Comes}
-use Rattle.reading.specs.Places.{openTy, OpenIs, Fields, OpenSmall, wideX, slotWidth, holdsOf, structHolds, Row, placeTy, bytesOf, Sized, Seated, Rests, Stands, Lots, entering, nextAs, Lands, Tells, Moves, Steps, Enters, NullIn, Into, IntoList, IntoMap, IntoStruct}
+use Rattle.reading.specs.Children.{seatAs, wideOf, childAs, SeatIn, ChildIn, IsChild, Comes}
+use Rattle.reading.specs.Places.{openTy, OpenIs, Fields, OpenSmall, wideX, slotWidth, holdsOf, structHolds, Row, placeTy, bytesOf, Sized, Seated, Rests, Stands, Lots, entering, nextAs, Tells, Moves, Steps, Enters, Into, IntoList, IntoMap, IntoStruct}
 use Rattle.reading.specs.declared.Seat.{Seat}
 use Rattle.reading.specs.declared.Place.{Place}
 use Rattle.reading.specs.declared.Child.{Child}
@@ -31,7 +31,7 @@ use Rattle.reading.specs.declared.Lot.{Lot}
 use Rattle.reading.specs.declared.Lot.the-variants.{Nowhere as LNowhere, Of}
 use Rattle.reading.specs.declared.Next.{Next}
 use Rattle.reading.specs.declared.Next.the-variants.{Nowhere, Broken, Null, To}
-use Rattle.reading.proofs.Pointing.{wide-8, slot-codec, step-yes, step-no}
+use Rattle.reading.proofs.Pointing.{wide-8, slot-codec, step-no}
 use Rattle.reading.proofs.Rules.{fixed-some, wide-open, open-small, list-says, map-says, header-is, slot-some, slot-enough, slot-most, slot-zero}
 use Rattle.reading.proofs.Kin.{assert-some, assert-none}
 

@@ -1,5 +1,5 @@
 -- A path walked a step at a time, by the schema alone and in the row: what is left of it leads to the same end. Assumes nothing.
-use mathlib.Core.Path.{_≡_, refl, sym, ap, _∙_, subst}
+use mathlib.Core.Path.{_≡_, refl, sym, _∙_}
 use mathlib.Core.Bool.{Bool, true, false}
 use mathlib.Core.Option.{Option, none, some}
 use mathlib.Core.List.{List, [], _∷_}
@@ -8,21 +8,20 @@ use native.Mathlib.Numerals.{add-one}
 use native.Mathlib.Omega.{arith}
 use native.Mathlib.Decide.{decLe, decLt}
 use lib.Dec.{eqb}
-use lib.ListN.{length, take, drop, getD, length-drop, drop-of-length-le}
+use lib.ListN.{length, drop, getD, drop-of-length-le}
 use lib.Seq.{drop-cons}
 use borrow.Author.Tests.{eqb-true, eqb-false}
-use Rattle.words.specs.Bytes.{part}
 use Rattle.words.proofs.Parts.{part-whole}
 use Rattle.schema.specs.Kinds.{pick}
-use Rattle.schema.specs.Types.{Ty, fix, text, li, ma, ro, Tys, count, field}
+use Rattle.schema.specs.Types.{Ty, fix, text, li, ma, ro, count, field}
 use Rattle.schema.specs.Reading.{judged}
-use Rattle.schema.specs.Walk.{typeAt, openAt, fieldsOf}
+use Rattle.schema.specs.Walk.{openAt, fieldsOf}
 use Rattle.schema.specs.declared.Judged.the-variants.{Accepted}
 use Rattle.schema.specs.declared.Opened.{Opened}
 use Rattle.schema.proofs.Judging.{accepted-root}
 use Rattle.layout.specs.Reader.{_>>_, assert}
 use Rattle.layout.specs.Walk as W
-use Rattle.layout.specs.Walk.{Seen, bad, nullAt, seen, stop, toNull, into, own, stepIn, goOn, rootSeat, walk}
+use Rattle.layout.specs.Walk.{Seen, bad, seen, stop, toNull, into, own, stepIn, goOn, rootSeat, walk}
 use Rattle.layout.specs.Reading.{typeAt as typeOn, placed}
 use Rattle.layout.specs.Setting.{isSome}
 use Rattle.layout.proofs.Reader.{assert-yes}
@@ -30,8 +29,8 @@ use Rattle.answers.specs.declared.Path.{Path}
 use Rattle.answers.specs.Paths.{pathOf}
 use Rattle.answers.proofs.PathLaws.{length-path, path-at}
 use Rattle.reading.specs.Children.{seatAs}
-use Rattle.reading.specs.Places.{openTy, OpenIs, holdsOf, placeTy, bytesOf, Rests, Stands, Lots, NullIn, entering, nextAs, Lands, Tells, Moves, Steps}
-use Rattle.reading.specs.Finding.{foundAs, FoundTells, FoundLands, nullAs, Open, Asked, Asks, From, Goes, Walks, seenIn, Finds}
+use Rattle.reading.specs.Places.{openTy, OpenIs, holdsOf, placeTy, bytesOf, Rests, Stands, Lots, NullIn, entering, nextAs, Steps}
+use Rattle.reading.specs.Finding.{foundAs, nullAs, Asks, From, Goes, Walks, seenIn, Finds}
 use Rattle.reading.specs.declared.Seat.{Seat}
 use Rattle.reading.specs.declared.Place.{Place}
 use Rattle.reading.specs.declared.Lot.{Lot}
@@ -39,10 +38,10 @@ use Rattle.reading.specs.declared.Lot.the-variants.{Nowhere as LNowhere,
 use Rattle.reading.specs.declared.Next.{Next}
 use Rattle.reading.specs.declared.Next.the-variants.{Nowhere, Broken, Null, To}
 use Rattle.reading.specs.declared.Found.{Found}
-use Rattle.reading.specs.declared.Found.the-variants.{NoPlace, NullBefore, Broken as FBroken, Null as FNull, At}
+use Rattle.reading.specs.declared.Found.the-variants.{NoPlace, Broken as FBroken, At}
 use Rattle.reading.proofs.Rules.{own-is, open-type, open-is}
 use Rattle.reading.proofs.Kin.{assert-no}
-use Rattle.reading.proofs.Moving.{Holder, holder}
+use Rattle.reading.proofs.Moving.{holder}
 
 -- ---- one step more, by the schema
 

@@ -1,19 +1,18 @@
 -- A child by its bit and its slot, as the code of `pointed` and `child` finds it. Assumes nothing.
 use mathlib.Core.Path.{_≡_, refl, sym, ap, _∙_}
-use mathlib.Core.Logic.{_⊎_, inl, inr}
+use mathlib.Core.Logic.{inl, inr}
 use mathlib.Core.Bool.{Bool, true, false}
 use mathlib.Core.Option.{Option, none, some}
 use mathlib.Core.List.{List}
 use Prim.Native.Nat.{ℕ, zero, suc, _+_, _*_, _-_, _/_, _%_, _^_, _≤_, _<_}
 use native.Mathlib.Nat.{mul-le-mul-right, mul-le-mul-left}
 use native.Mathlib.Omega.{arith}
-use native.Mathlib.Decide.{decLe, decLt, ℕ-discrete}
+use native.Mathlib.Decide.{decLt}
 use lib.Dec.{eqb}
-use lib.ListN.{length, getD}
+use lib.ListN.{length}
 use borrow.Author.Tests.{eqb-true, eqb-false}
-use Rattle.words.specs.Bytes.{Bytes, num, part, bitmap, pad}
+use Rattle.words.specs.Bytes.{Bytes, num, part, bitmap}
 use Rattle.words.specs.Bits.{bit}
-use Rattle.words.proofs.Numbers.{bytes-of}
 use Rattle.words.proofs.Parts.{length-part, part-part}
 use Rattle.words.proofs.BitLaws.{bit-num}
 use Rattle.schema.specs.Types.{Fixed, bo, i1, i2, i4, i8, f4, f8, Ty, fix, text, li, ma, ro, width, fixedPlace}
@@ -21,8 +20,8 @@ use Rattle.schema.specs.Marks.{types}
 use Rattle.schema.proofs.Table.{width-8}
 use Rattle.layout.specs.Layout.{front, slotOf, number, string, array, pair, struct, codec}
 use Rattle.layout.specs.Walk as W
-use Rattle.layout.specs.Walk.{stop, toNull, into, mustStep, bySlot, byFlag, seatOf}
-use Rattle.reading.specs.Children.{seatAs, wideOf, childAs, SeatIn, Lies, ChildIn, SlotOf, Points, IsChild, Comes}
+use Rattle.layout.specs.Walk.{stop, mustStep, bySlot, byFlag, seatOf}
+use Rattle.reading.specs.Children.{wideOf, childAs, SeatIn, ChildIn, SlotOf, Points, IsChild, Comes}
 use Rattle.reading.specs.Places.{slotWidth}
 use Rattle.reading.specs.declared.Seat.{Seat}
 use Rattle.reading.specs.declared.Child.{Child}
@@ -113,14 +112,23 @@ module _ (row : List ℕ) (base size f : ℕ) (s : Seat) (P : SlotOf row base si
 -- ---- the bit, and the slot's place
 
 module _ (row : List ℕ) (base size h n w v i : ℕ) (s : IsChild row base size h n w v i) where
-  pub slot-room : h + (bitmap n + i * w) + w ≤ size
+  slot-room : h + (bitmap n + i * w) + w ≤ size
   slot-room = omega (arith, s .fixed, mul-le-mul-right {m = suc i} {n = n} w (s .child))
 
-  pub count-fits : n ≤ 16384
-  count-fits = omega (arith, s .within, s .short, s .fixed, mul-le-mul-left {m = 1} {n = w} n (s .some))
+  -- the child's numbers are small
+  pub record Small : Type 0 where
+    pub count : n ≤ 16384
+    pub before : i * w ≤ 16384
+    pub slots : n * w ≤ 16384
+    pub end : base + (h + (bitmap n + i * w)) ≤ 16384
 
-  pub products-fit : (i * w ≤ 16384) × (n * w ≤ 16384)
-  products-fit = (omega (arith, slot-room, s .within, s .short), omega (arith, s .fixed, s .within, s .short))
+  pub small : Small
+  small = record {
+    count = omega (arith, s .within, s .short, s .fixed, mul-le-mul-left {m = 1} {n = w} n (s .some));
+    before = omega (arith, slot-room, s .within, s .short);
+    slots = omega (arith, s .fixed, s .within, s .short);
+    end = omega (arith, slot-room, s .within, s .short);
+  }
 
   abbrev pub seatIn : ℕ → Seat
   seatIn m = record { bits = base + h; number = i; slot = base + (h + (m + i * w)); wide = w }

@@ -1,22 +1,22 @@
 -- A type's own rules as a test, and the code's tests. Assumes nothing.
-use mathlib.Core.Path.{_≡_, refl, sym, ap, _∙_, subst}
+use mathlib.Core.Path.{_≡_, refl, sym, ap, _∙_}
 use mathlib.Core.Bool.{Bool, true, false}
 use mathlib.Core.List.{List}
 use Prim.Native.Nat.{ℕ, zero, suc, _+_, _*_, _-_, _%_, _^_, _≤_, _<_}
 use native.Mathlib.Nat.{le-mul-of-pos-right, mul-le-mul-left}
 use native.Mathlib.Omega.{arith}
-use native.Mathlib.Decide.{decLe, decLt, ℕ-discrete}
+use native.Mathlib.Decide.{decLe, ℕ-discrete}
 use lib.Dec.{eqb, leb, ltb}
 use lib.ListN.{length, take, drop, getD}
 use lib.Seq.{take-take}
-use borrow.Author.Tests.{le-leb, lt-leb, eq-eqb, ne-eqb, lt-ltb, le-ltb, leb-true, eqb-true}
+use borrow.Author.Tests.{le-leb, lt-leb, eq-eqb, ne-eqb, lt-ltb, le-ltb, leb-true}
 use Rattle.words.specs.Bytes.{Bytes, num, part, bitmap, pad}
 use Rattle.words.proofs.Parts.{length-part}
 use Rattle.words.proofs.NumLaws.{part-lt, num-one}
 use Rattle.schema.specs.Marks.{types, line}
 use Rattle.schema.specs.Kinds.{pick}
-use Rattle.schema.specs.Types.{Fixed, bo, i1, i2, i4, i8, f4, f8, Ty, fix, text, li, ma, ro, count, width, fixedAt, fixedPlace}
-use Rattle.schema.specs.Walk.{Typed, TypedAll, typeAt, typesAt, Opens, openAt}
+use Rattle.schema.specs.Types.{Ty, fix, text, li, ma, ro, width, fixedAt, fixedPlace}
+use Rattle.schema.specs.Walk.{Typed, typeAt, Opens, openAt}
 use Rattle.schema.specs.declared.Opened.{Opened}
 use Rattle.schema.specs.declared.Opened.the-variants.{Fixed as OFixed, Text as OText, List as OList, Map as OMap, Struct as OStruct, Nothing as ONothing}
 use Rattle.schema.proofs.Table.{width-pos}
@@ -24,7 +24,7 @@ use Rattle.schema.proofs.Typing.{opens, typed-count}
 use Rattle.layout.specs.Layout.{slotOf, front, limit, codec}
 use Rattle.layout.specs.Walk.{Seen, bad, must, own}
 use Rattle.reading.specs.Children.{wideOf}
-use Rattle.reading.specs.Places.{openTy, OpenIs, Both, Fields, OpenSmall, wideX, slotWidth, listHolds, mapHolds, structHolds, holdsOf, Row, Leaf, Sized, Rests, placeTy, bytesOf}
+use Rattle.reading.specs.Places.{openTy, OpenIs, Fields, OpenSmall, wideX, slotWidth, listHolds, mapHolds, structHolds, holdsOf, Row, Leaf, Rests, placeTy, bytesOf}
 use Rattle.reading.specs.declared.Place.{Place}
 use Rattle.reading.proofs.Pointing.{wide-8, slot-codec}
 

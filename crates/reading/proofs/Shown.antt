@@ -11,20 +11,18 @@ use mir.Syntax.{w64}
 use mir.Val.{toZ, ofZ}
 use lib.IntN.{ℤ}
 use lib.Dec.{eqb}
-use lib.Ieee.{Format, binary32, binary64, Float, nanBits, toBits}
-use lib.ListN.{length, take, drop, getD}
-use lib.Seq.{take-take}
+use lib.Ieee.{Format, binary32, binary64, nanBits, toBits}
+use lib.ListN.{length, getD}
 use borrow.Author.Tests.{le-leb, lt-leb}
 use Rattle.words.specs.Bytes.{Bytes, num, part}
 use Rattle.words.specs.Signed.{halfOf, toSigned}
 use Rattle.words.proofs.Parts.{length-part}
 use Rattle.words.proofs.NumLaws.{num-one, part-lt}
 use Rattle.words.proofs.SignedLaws.{passed, half-le, half-bytes, toSigned-mag}
-use Rattle.schema.specs.Marks.{types, line}
-use Rattle.schema.specs.Types.{Fixed, bo, i1, i2, i4, i8, f4, f8, Ty, fix, text, li, ma, ro, count, fixedAt, textAt}
+use Rattle.schema.specs.Marks.{types}
+use Rattle.schema.specs.Types.{Fixed, bo, i1, i2, i4, i8, f4, f8, Ty, fix, text, li, ma, ro, fixedAt}
 use Rattle.schema.specs.Reading.{judged}
 use Rattle.schema.specs.Walk.{fieldsOf}
-use Rattle.schema.specs.declared.Judged.{Judged}
 use Rattle.schema.specs.declared.Judged.the-variants.{Accepted, Refused}
 use Rattle.schema.specs.declared.Opened.{Opened}
 use Rattle.schema.specs.declared.Opened.the-variants.{Fixed as OFixed, Text as OText, List as OList, Map as OMap, Struct as OStruct, Nothing as ONothing}
@@ -37,10 +35,10 @@ use Rattle.layout.specs.Entries.{readOf}
 use Rattle.answers.specs.declared.Answer.{Answer}
 use Rattle.answers.specs.declared.Answer.the-variants as A
 use Rattle.answers.specs.declared.Refusal.the-variants as F
-use Rattle.answers.specs.Meaning.{meaning, plain, float, floatMeans, nanMeans, noAnswer}
+use Rattle.answers.specs.Meaning.{meaning, plain, float, noAnswer}
 use Rattle.reading.specs.Children.{seatAs}
-use Rattle.reading.specs.Places.{openTy, placeTy, bytesOf, Leaf, Fields, Rests, Stands}
-use Rattle.reading.specs.Finding.{foundAs, FoundTells, Open, seenIn, Finds}
+use Rattle.reading.specs.Places.{openTy, placeTy, bytesOf, Leaf, Stands}
+use Rattle.reading.specs.Finding.{foundAs, Open, seenIn, Finds}
 use Rattle.reading.specs.Texts.{Shaped, Shows, shown, showOf, InRow, Reads, PartOf, TextOf}
 use Rattle.reading.specs.declared.Place.{Place}
 use Rattle.reading.specs.declared.Found.{Found}

@@ -1,11 +1,10 @@
 -- What a place shows as an answer, and a text with its stand-in. Assumes nothing: these are definitions.
 use mathlib.Core.Path.{_≡_}
 use mathlib.Core.List.{List}
-use Prim.Native.Nat.{ℕ, _+_, _≤_, _<_}
+use Prim.Native.Nat.{ℕ, _+_, _≤_}
 use denote.Ref.{RefT, now}
 use lib.ListN.{length}
 use Rattle.words.specs.Bytes.{num, part}
-use Rattle.schema.specs.Marks.{line}
 use Rattle.schema.specs.Types.{fixedAt}
 use Rattle.schema.specs.declared.Opened.{Opened}
 use Rattle.schema.specs.declared.Opened.the-variants.{Fixed as OFixed, Text as OText, List as OList, Map as OMap, Struct as OStruct, Nothing as ONothing}
@@ -14,7 +13,7 @@ use Rattle.layout.specs.Reading.{valueOf}
 use Rattle.layout.specs.Entries.{readOf}
 use Rattle.answers.specs.declared.Answer.{Answer}
 use Rattle.answers.specs.Meaning.{meaning}
-use Rattle.reading.specs.Places.{Leaf, bytesOf}
+use Rattle.reading.specs.Places.{Leaf}
 use Rattle.reading.specs.declared.Place.{Place}
 
 -- the bytes that an answer is made of are there: a leaf's by the table, a list's header

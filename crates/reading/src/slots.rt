@@ -24,7 +24,8 @@ fn pointed(row: &[u8], base: usize, size: usize, fixed: usize, seat: Seat) -> Ch
     if (size as u64) < off + len {
         return Child::Broken;
     }
-    Child::At(seat, base + off as usize, len as usize)
+    let start = base + off as usize;
+    Child::At(seat, start, len as usize)
 }
 
 // Child i of the n in slots of w bytes, behind a header of h bytes, in the container of `size` bytes at `base`; the child has v bytes,

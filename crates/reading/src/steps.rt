@@ -114,6 +114,7 @@ fn in_map(s: &[u8], row: &[u8], p: Place, i: usize, y: Opened, e: usize) -> Next
     let size = words::nums::get8(row, p.start) as usize;
     let seat = p.seat;
     if i == 0 {
+        let first = p.start + 8;
         return settle(
             s,
             row,
@@ -121,11 +122,14 @@ fn in_map(s: &[u8], row: &[u8], p: Place, i: usize, y: Opened, e: usize) -> Next
                 opened: y,
                 depth: e,
                 seat,
-                start: p.start + 8,
+                start: first,
                 len: size,
             },
         );
     }
+    let before = 8 + size;
+    let start = p.start + before;
+    let len = p.len - before;
     settle(
         s,
         row,
@@ -133,8 +137,8 @@ fn in_map(s: &[u8], row: &[u8], p: Place, i: usize, y: Opened, e: usize) -> Next
             opened: y,
             depth: e,
             seat,
-            start: p.start + (8 + size),
-            len: p.len - (8 + size),
+            start,
+            len,
         },
     )
 }

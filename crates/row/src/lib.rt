@@ -1,10 +1,14 @@
 // The library's face: each entry takes any bytes of any length and ends with a result or a numbered refusal.
 ghost use mathlib.Core.Path.{_≡_};
-ghost use Rattle.layout.specs.Entries.{judgeOf, checkOf};
-ghost use Rattle.answers.specs.Meaning.{outcomeMeans};
+ghost use Rattle.layout.specs.Entries.{judgeOf, checkOf, readOf};
+ghost use Rattle.answers.specs.Meaning.{outcomeMeans, meaning};
+ghost use Rattle.answers.specs.Paths.{pathOf};
+ghost use Rattle.reading.specs.Texts.{TextOf};
 ghost use Rattle.row.specs.Outcomes.{ListsTo};
+use answers::Answer;
 use answers::Length;
 use answers::Outcome;
+use answers::Path;
 use answers::Refusal;
 
 // Whether the bytes are a schema: done, or refused with 1.
@@ -61,4 +65,52 @@ pub fn list(schema: &[u8], row: &[u8], out: &mut [u8]) -> Length
     } else {
         Length::Refused(Refusal::Layout)
     }
+}
+
+// One place of a row, read by its path: the answer, or refused with 1, 3, 5, 6 or 7.
+pub fn read(schema: &[u8], row: &[u8], path: Path) -> Answer
+    ensures { λ r. ⌜ meaning r ≡ readOf (now (schema .entry)) (now (row .entry)) (pathOf path) ⌝ }
+{
+    reading::read(schema, row, path)
+}
+
+// A text with a stand-in: the part of the row itself for a present string or binary, and otherwise, refusals included, the whole
+// stand-in, both under one lifetime.
+pub fn text_or<'a>(schema: &[u8], row: &'a [u8], path: Path, stand_in: &'a [u8]) -> &'a [u8]
+    ensures { λ r. ⌜ TextOf (readOf (now (schema .entry)) (now (row .entry)) (pathOf path)) (row .entry) (stand_in .entry) r ⌝ }
+{
+    reading::text_or(schema, row, path, stand_in)
+}
+
+// A row held with its schema, both lent. Opening judges nothing: each question gets the plain read's answer, refusals included.
+pub struct Opened<'a> {
+    pub schema: &'a [u8],
+    pub row: &'a [u8],
+}
+
+pub fn open<'a>(schema: &'a [u8], row: &'a [u8]) -> Opened<'a>
+    ensures { λ r. ⌜ (r .schema ≡ schema .entry) × (r .row ≡ row .entry) ⌝ }
+{
+    Opened { schema, row }
+}
+
+// The plain read of two slices at one lifetime, as an opened row holds them.
+fn read_both<'a>(schema: &'a [u8], row: &'a [u8], p: Path) -> Answer
+    ensures { λ r. ⌜ meaning r ≡ readOf (now (schema .entry)) (now (row .entry)) (pathOf p) ⌝ }
+{
+    read(schema, row, p)
+}
+
+// A question to an opened row.
+pub fn ask<'a>(o: Opened<'a>, p: Path) -> Answer
+    ensures { λ r. ⌜ meaning r ≡ readOf (now (o .entry .schema)) (now (o .entry .row)) (pathOf p) ⌝ }
+{
+    read_both(o.schema, o.row, p)
+}
+
+// An opened row asked once: its parameters are plain, so that any function may call it.
+pub fn ask_once<'a>(schema: &'a [u8], row: &'a [u8], p: Path) -> Answer
+    ensures { λ r. ⌜ meaning r ≡ readOf (now (schema .entry)) (now (row .entry)) (pathOf p) ⌝ }
+{
+    ask(open(schema, row), p)
 }

@@ -1,13 +1,8 @@
+-- `reading::find` meets its contract. Assumes nothing.
 use Rattle.reading.proofs.OnPath.{find-long, find-none, find-walks}
-use native.Mathlib.Omega.{arith}
-use mathlib.Core.Path.{_≡_, refl, sym, ap, _∙_, subst}
 use borrow.Author.Needs.{needs}
 use Rattle.reading.proofs.find.Statement.{statement}
 use Rattle.reading.proofs.find.Tie as tie
-use Rattle.reading.proofs.find.Reads as reads
-use Rattle.reading.proofs.find.Lts as lts
-use Rattle.reading.proofs.walk.from_root.Reads as from-root-reads
-use Rattle.reading.proofs.walk.is_place.Reads as is-place-reads
 
 returns : tie.Need-returns
 returns c =

@@ -1,13 +1,9 @@
+-- `reading::look` meets its contract. Assumes nothing.
 use Rattle.reading.proofs.Shown.{read-schema, read-long}
-use native.Mathlib.Omega.{arith}
-use mathlib.Core.Path.{_≡_, refl, sym, ap, _∙_, subst}
+use mathlib.Core.Path.{sym, _∙_}
 use borrow.Author.Needs.{needs}
 use Rattle.reading.proofs.look.Statement.{statement}
 use Rattle.reading.proofs.look.Tie as tie
-use Rattle.reading.proofs.look.Reads as reads
-use Rattle.reading.proofs.look.Lts as lts
-use Rattle.reading.proofs.look_in.Reads as look-in-reads
-use Rattle.schema.proofs.judge.Reads as judge-reads
 
 judge-requires : tie.Need-judge-requires
 judge-requires c κs = search needs

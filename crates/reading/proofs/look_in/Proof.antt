@@ -1,13 +1,8 @@
+-- `reading::look_in` meets its contract. Assumes nothing.
 use Rattle.reading.proofs.Shown.{read-nowhere, read-under, read-broken, read-null, found-shows, read-at}
-use native.Mathlib.Omega.{arith}
-use mathlib.Core.Path.{_≡_, refl, sym, ap, _∙_, subst}
 use borrow.Author.Needs.{needs}
 use Rattle.reading.proofs.look_in.Statement.{statement}
 use Rattle.reading.proofs.look_in.Tie as tie
-use Rattle.reading.proofs.look_in.Reads as reads
-use Rattle.reading.proofs.look_in.Lts as lts
-use Rattle.reading.proofs.find.Reads as find-reads
-use Rattle.reading.proofs.values.answer.Reads as answer-reads
 
 find-requires : tie.Need-find-requires
 find-requires c κs = search needs

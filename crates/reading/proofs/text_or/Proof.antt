@@ -1,14 +1,12 @@
+-- `reading::text_or` meets its contract. Assumes nothing.
 use Rattle.reading.proofs.Shown.{stand-in, text-room, text-is}
 use lib.ListN.{take, drop}
 use Prim.Native.Nat.{ℕ, _+_, _-_}
 use native.Mathlib.Omega.{arith}
-use mathlib.Core.Path.{_≡_, refl, sym, ap, _∙_, subst}
+use mathlib.Core.Path.{_≡_, refl, ap}
 use borrow.Author.Needs.{needs}
 use Rattle.reading.proofs.text_or.Statement.{statement}
 use Rattle.reading.proofs.text_or.Tie as tie
-use Rattle.reading.proofs.text_or.Reads as reads
-use Rattle.reading.proofs.text_or.Lts as lts
-use Rattle.reading.proofs.look.Reads as look-reads
 
 look-requires : tie.Need-look-requires
 look-requires c κs = search needs

@@ -1,15 +1,9 @@
+-- `reading::own::element_width` meets its contract. Assumes nothing.
 use Prim.Native.Nat.{_-_}
 use Rattle.reading.proofs.Rules.{open-is, open-small, element-wide}
-use native.Mathlib.Omega.{arith}
-use mathlib.Core.Path.{_≡_, refl, sym, ap, _∙_, subst}
 use borrow.Author.Needs.{needs}
 use Rattle.reading.proofs.own.element_width.Statement.{statement}
 use Rattle.reading.proofs.own.element_width.Tie as tie
-use Rattle.reading.proofs.own.element_width.Reads as reads
-use Rattle.reading.proofs.own.element_width.Lts as lts
-use Rattle.reading.proofs.own.slot_width.Reads as slot-width-reads
-use Rattle.reading.proofs.own.width.Reads as width-reads
-use Rattle.schema.proofs.open.Reads as open-reads
 
 open-requires : tie.Need-open-requires
 open-requires c κs = search needs

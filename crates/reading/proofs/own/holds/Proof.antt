@@ -1,16 +1,8 @@
+-- `reading::own::holds` meets its contract. Assumes nothing.
 use Rattle.reading.proofs.Rules.{rest-leaf, rest-row, rest-list, rest-struct, rest-not, leaf-as, text-as, list-as, map-as, struct-as, element-fits}
-use native.Mathlib.Omega.{arith}
-use mathlib.Core.Path.{_≡_, refl, sym, ap, _∙_, subst}
 use borrow.Author.Needs.{needs}
 use Rattle.reading.proofs.own.holds.Statement.{statement}
 use Rattle.reading.proofs.own.holds.Tie as tie
-use Rattle.reading.proofs.own.holds.Reads as reads
-use Rattle.reading.proofs.own.holds.Lts as lts
-use Rattle.reading.proofs.own.element_width.Reads as element-width-reads
-use Rattle.reading.proofs.own.leaf_holds.Reads as leaf-holds-reads
-use Rattle.reading.proofs.own.list_holds.Reads as list-holds-reads
-use Rattle.reading.proofs.own.map_holds.Reads as map-holds-reads
-use Rattle.reading.proofs.own.struct_holds.Reads as struct-holds-reads
 
 enum-known-x : tie.Need-enum-known-x
 enum-known-x c = search needs

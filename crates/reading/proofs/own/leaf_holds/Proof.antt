@@ -1,13 +1,9 @@
+-- `reading::own::leaf_holds` meets its contract. Assumes nothing.
 use Rattle.reading.proofs.Rules.{bool-holds, leaf-holds}
 use Rattle.words.proofs.Numbers.{bytes-of}
-use native.Mathlib.Omega.{arith}
-use mathlib.Core.Path.{_≡_, refl, sym, ap, _∙_, subst}
 use borrow.Author.Needs.{needs}
 use Rattle.reading.proofs.own.leaf_holds.Statement.{statement}
 use Rattle.reading.proofs.own.leaf_holds.Tie as tie
-use Rattle.reading.proofs.own.leaf_holds.Reads as reads
-use Rattle.reading.proofs.own.leaf_holds.Lts as lts
-use Rattle.schema.proofs.byte_at.Reads as byte-at-reads
 
 byte-at-requires : tie.Need-byte-at-requires
 byte-at-requires c κs = search needs

@@ -1,14 +1,9 @@
+-- `reading::own::list_holds` meets its contract. Assumes nothing.
 use Rattle.reading.proofs.Rules.{short-list, long-list, list-test, list-room}
 use native.Mathlib.Omega.{arith}
-use mathlib.Core.Path.{_≡_, refl, sym, ap, _∙_, subst}
 use borrow.Author.Needs.{needs}
 use Rattle.reading.proofs.own.list_holds.Statement.{statement}
 use Rattle.reading.proofs.own.list_holds.Tie as tie
-use Rattle.reading.proofs.own.list_holds.Reads as reads
-use Rattle.reading.proofs.own.list_holds.Lts as lts
-use Rattle.words.proofs.nums.get8.Reads as get8-reads
-use Rattle.words.proofs.sizes.bitmap_size.Reads as bitmap-size-reads
-use Rattle.words.proofs.sizes.pad_size.Reads as pad-size-reads
 
 returns : tie.Need-returns
 returns c =

@@ -1,12 +1,8 @@
+-- `reading::own::map_holds` meets its contract. Assumes nothing.
 use Rattle.reading.proofs.Rules.{short-map, odd-map, map-test}
-use native.Mathlib.Omega.{arith}
-use mathlib.Core.Path.{_≡_, refl, sym, ap, _∙_, subst}
 use borrow.Author.Needs.{needs}
 use Rattle.reading.proofs.own.map_holds.Statement.{statement}
 use Rattle.reading.proofs.own.map_holds.Tie as tie
-use Rattle.reading.proofs.own.map_holds.Reads as reads
-use Rattle.reading.proofs.own.map_holds.Lts as lts
-use Rattle.words.proofs.nums.get8.Reads as get8-reads
 
 returns : tie.Need-returns
 returns c =

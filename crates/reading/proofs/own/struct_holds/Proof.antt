@@ -1,13 +1,8 @@
+-- `reading::own::struct_holds` meets its contract. Assumes nothing.
 use Rattle.reading.proofs.Rules.{struct-test}
-use native.Mathlib.Omega.{arith}
-use mathlib.Core.Path.{_≡_, refl, sym, ap, _∙_, subst}
 use borrow.Author.Needs.{needs}
 use Rattle.reading.proofs.own.struct_holds.Statement.{statement}
 use Rattle.reading.proofs.own.struct_holds.Tie as tie
-use Rattle.reading.proofs.own.struct_holds.Reads as reads
-use Rattle.reading.proofs.own.struct_holds.Lts as lts
-use Rattle.words.proofs.sizes.bitmap_size.Reads as bitmap-size-reads
-use Rattle.words.proofs.sizes.pad_size.Reads as pad-size-reads
 
 bitmap-size-requires : tie.Need-bitmap-size-requires
 bitmap-size-requires c κs = search needs

@@ -1,12 +1,10 @@
+-- `reading::own::width` meets its contract. Assumes nothing.
 use Rattle.reading.specs.Places.{OpenSmall, wideX}
 use native.Mathlib.Omega.{arith}
-use mathlib.Core.Path.{_≡_, refl, sym, ap, _∙_, subst}
+use mathlib.Core.Path.{sym, ap, _∙_, subst}
 use borrow.Author.Needs.{needs}
 use Rattle.reading.proofs.own.width.Statement.{statement}
 use Rattle.reading.proofs.own.width.Tie as tie
-use Rattle.reading.proofs.own.width.Reads as reads
-use Rattle.reading.proofs.own.width.Lts as lts
-use Rattle.schema.proofs.width_of.Reads as width-of-reads
 
 enum-known-x : tie.Need-enum-known-x
 enum-known-x c = search needs

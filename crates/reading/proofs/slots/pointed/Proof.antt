@@ -1,14 +1,8 @@
+-- `reading::slots::pointed` meets its contract. Assumes nothing.
 use Rattle.reading.proofs.Pointing.{pointed-low, pointed-odd, pointed-long, pointed-at}
-use native.Mathlib.Omega.{arith}
-use mathlib.Core.Path.{_≡_, refl, sym, ap, _∙_, subst}
 use borrow.Author.Needs.{needs}
 use Rattle.reading.proofs.slots.pointed.Statement.{statement}
 use Rattle.reading.proofs.slots.pointed.Tie as tie
-use Rattle.reading.proofs.slots.pointed.Reads as reads
-use Rattle.reading.proofs.slots.pointed.Lts as lts
-use Rattle.words.proofs.nums.get8.Reads as get8-reads
-use Rattle.words.proofs.slots.slot_offset.Reads as slot-offset-reads
-use Rattle.words.proofs.slots.slot_size.Reads as slot-size-reads
 
 get8-requires : tie.Need-get8-requires
 get8-requires c κs = search needs
@@ -40,8 +34,8 @@ returns-3 c =
     let a = s .args in
     pointed-long (a .row .now) (a .base) (a .size) (a .fixed) (a .seat) (s .pre) _ (c .before .before .before .before .before .get8 .ensures .is) _ _ (c .before .before .before .before .slot-offset .ensures) (c .before .before .before .slot-size .ensures) (search needs) (search needs) (search needs)
 
-add-t14 : tie.Need-add-t14
-add-t14 c = search needs
+add-start : tie.Need-add-start
+add-start c = search needs
 
 returns-4 : tie.Need-returns-4
 returns-4 c =
@@ -60,5 +54,5 @@ pointed-spec =
     returns-2
     add-if3
     returns-3
-    add-t14
+    add-start
     returns-4)

@@ -1,11 +1,8 @@
+-- `reading::steps::either` meets its contract. Assumes nothing.
 use borrow.Author.Tests.{eq-eqb, ne-eqb}
 use borrow.Author.Needs.{needs}
-use native.Mathlib.Omega.{arith}
-use mathlib.Core.Path.{_≡_, refl, sym, ap, _∙_, subst}
 use Rattle.reading.proofs.steps.either.Statement.{statement}
 use Rattle.reading.proofs.steps.either.Tie as tie
-use Rattle.reading.proofs.steps.either.Reads as reads
-use Rattle.reading.proofs.steps.either.Lts as lts
 
 returns : tie.Need-returns
 returns c = rw (eq-eqb (c .before .args .i) 0 (search needs))

@@ -1,12 +1,8 @@
+-- `reading::steps::enter` meets its contract. Assumes nothing.
 use Rattle.reading.proofs.Moving.{enter-broken, enter-null, enter-rests, enter-at}
-use native.Mathlib.Omega.{arith}
-use mathlib.Core.Path.{_≡_, refl, sym, ap, _∙_, subst}
 use borrow.Author.Needs.{needs}
 use Rattle.reading.proofs.steps.enter.Statement.{statement}
 use Rattle.reading.proofs.steps.enter.Tie as tie
-use Rattle.reading.proofs.steps.enter.Reads as reads
-use Rattle.reading.proofs.steps.enter.Lts as lts
-use Rattle.reading.proofs.steps.settle.Reads as settle-reads
 
 enum-told : tie.Need-enum-told
 enum-told c = search needs

@@ -1,16 +1,8 @@
+-- `reading::steps::in_list` meets its contract. Assumes nothing.
 use Rattle.reading.proofs.Moving.{into-small, into-enters, header-room, list-stop, list-child, list-step}
-use native.Mathlib.Omega.{arith}
-use mathlib.Core.Path.{_≡_, refl, sym, ap, _∙_, subst}
 use borrow.Author.Needs.{needs}
 use Rattle.reading.proofs.steps.in_list.Statement.{statement}
 use Rattle.reading.proofs.steps.in_list.Tie as tie
-use Rattle.reading.proofs.steps.in_list.Reads as reads
-use Rattle.reading.proofs.steps.in_list.Lts as lts
-use Rattle.reading.proofs.own.slot_width.Reads as slot-width-reads
-use Rattle.reading.proofs.own.width.Reads as width-reads
-use Rattle.reading.proofs.slots.child.Reads as child-reads
-use Rattle.reading.proofs.steps.enter.Reads as enter-reads
-use Rattle.words.proofs.nums.get8.Reads as get8-reads
 
 get8-requires : tie.Need-get8-requires
 get8-requires c κs =

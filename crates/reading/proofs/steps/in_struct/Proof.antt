@@ -1,14 +1,7 @@
+-- `reading::steps::in_struct` meets its contract. Assumes nothing.
 use Rattle.reading.proofs.Moving.{into-small, into-enters, struct-child, struct-step}
-use borrow.Author.Needs.{needs}
-use native.Mathlib.Omega.{arith}
-use mathlib.Core.Path.{_≡_, refl, sym, ap, _∙_, subst}
 use Rattle.reading.proofs.steps.in_struct.Statement.{statement}
 use Rattle.reading.proofs.steps.in_struct.Tie as tie
-use Rattle.reading.proofs.steps.in_struct.Reads as reads
-use Rattle.reading.proofs.steps.in_struct.Lts as lts
-use Rattle.reading.proofs.own.width.Reads as width-reads
-use Rattle.reading.proofs.slots.child.Reads as child-reads
-use Rattle.reading.proofs.steps.enter.Reads as enter-reads
 
 width-requires : tie.Need-width-requires
 width-requires c κs =

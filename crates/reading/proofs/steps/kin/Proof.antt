@@ -1,14 +1,8 @@
+-- `reading::steps::kin` meets its contract. Assumes nothing.
 use Rattle.reading.proofs.Kin.{kin-fixed, kin-text, kin-nothing, list-typed, kin-list, kin-no-array, kin-array, kin-no-field, has-field, field-is, kin-field}
-use native.Mathlib.Omega.{arith}
-use mathlib.Core.Path.{_≡_, refl, sym, ap, _∙_, subst}
 use borrow.Author.Needs.{needs}
 use Rattle.reading.proofs.steps.kin.Statement.{statement}
 use Rattle.reading.proofs.steps.kin.Tie as tie
-use Rattle.reading.proofs.steps.kin.Reads as reads
-use Rattle.reading.proofs.steps.kin.Lts as lts
-use Rattle.reading.proofs.steps.either.Reads as either-reads
-use Rattle.reading.proofs.steps.opened.Reads as opened-reads
-use Rattle.schema.proofs.field_at.Reads as field-at-reads
 
 enum-told : tie.Need-enum-told
 enum-told c = search needs

@@ -1,13 +1,10 @@
+-- `reading::steps::opened` meets its contract. Assumes nothing.
 use Rattle.reading.proofs.Kin.{lots-open}
 use Rattle.schema.proofs.Typing.{typed-deep}
 use native.Mathlib.Omega.{arith}
-use mathlib.Core.Path.{_≡_, refl, sym, ap, _∙_, subst}
 use borrow.Author.Needs.{needs}
 use Rattle.reading.proofs.steps.opened.Statement.{statement}
 use Rattle.reading.proofs.steps.opened.Tie as tie
-use Rattle.reading.proofs.steps.opened.Reads as reads
-use Rattle.reading.proofs.steps.opened.Lts as lts
-use Rattle.schema.proofs.open.Reads as open-reads
 
 open-requires : tie.Need-open-requires
 open-requires c κs = search needs

@@ -1,12 +1,8 @@
+-- `reading::steps::settle` meets its contract. Assumes nothing.
 use Rattle.reading.proofs.Moving.{settled, unsettled}
-use native.Mathlib.Omega.{arith}
-use mathlib.Core.Path.{_≡_, refl, sym, ap, _∙_, subst}
 use borrow.Author.Needs.{needs}
 use Rattle.reading.proofs.steps.settle.Statement.{statement}
 use Rattle.reading.proofs.steps.settle.Tie as tie
-use Rattle.reading.proofs.steps.settle.Reads as reads
-use Rattle.reading.proofs.steps.settle.Lts as lts
-use Rattle.reading.proofs.own.holds.Reads as holds-reads
 
 holds-requires : tie.Need-holds-requires
 holds-requires c κs = search needs

@@ -1,13 +1,8 @@
+-- `reading::steps::step` meets its contract. Assumes nothing.
 use Rattle.reading.proofs.Moving.{nowhere-step, kin-into}
-use native.Mathlib.Omega.{arith}
-use mathlib.Core.Path.{_≡_, refl, sym, ap, _∙_, subst}
 use borrow.Author.Needs.{needs}
 use Rattle.reading.proofs.steps.step.Statement.{statement}
 use Rattle.reading.proofs.steps.step.Tie as tie
-use Rattle.reading.proofs.steps.step.Reads as reads
-use Rattle.reading.proofs.steps.step.Lts as lts
-use Rattle.reading.proofs.steps.kin.Reads as kin-reads
-use Rattle.reading.proofs.steps.step_into.Reads as step-into-reads
 
 kin-requires : tie.Need-kin-requires
 kin-requires c κs = search needs

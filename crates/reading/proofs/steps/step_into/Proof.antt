@@ -1,14 +1,8 @@
+-- `reading::steps::step_into` meets its contract. Assumes nothing.
 use Rattle.reading.proofs.Moving.{leaf-step, text-step, no-step}
-use native.Mathlib.Omega.{arith}
-use mathlib.Core.Path.{_≡_, refl, sym, ap, _∙_, subst}
 use borrow.Author.Needs.{needs}
 use Rattle.reading.proofs.steps.step_into.Statement.{statement}
 use Rattle.reading.proofs.steps.step_into.Tie as tie
-use Rattle.reading.proofs.steps.step_into.Reads as reads
-use Rattle.reading.proofs.steps.step_into.Lts as lts
-use Rattle.reading.proofs.steps.in_list.Reads as in-list-reads
-use Rattle.reading.proofs.steps.in_map.Reads as in-map-reads
-use Rattle.reading.proofs.steps.in_struct.Reads as in-struct-reads
 
 enum-told : tie.Need-enum-told
 enum-told c = search needs

@@ -1,13 +1,9 @@
+-- `reading::values::answer` meets its contract. Assumes nothing.
 use Rattle.reading.proofs.Shown.{show-leaf, show-header, show-not, show-is}
-use native.Mathlib.Omega.{arith}
-use mathlib.Core.Path.{_≡_, refl, sym, ap, _∙_, subst}
+use mathlib.Core.Path.{refl}
 use borrow.Author.Needs.{needs}
 use Rattle.reading.proofs.values.answer.Statement.{statement}
 use Rattle.reading.proofs.values.answer.Tie as tie
-use Rattle.reading.proofs.values.answer.Reads as reads
-use Rattle.reading.proofs.values.answer.Lts as lts
-use Rattle.reading.proofs.values.value.Reads as value-reads
-use Rattle.words.proofs.nums.get8.Reads as get8-reads
 
 enum-known-x : tie.Need-enum-known-x
 enum-known-x c = search needs

@@ -1,18 +1,10 @@
+-- `reading::values::value` meets its contract. Assumes nothing.
 use Rattle.reading.proofs.Shown.{bool-value, signed-size, signed-passed, signed-value, float32-size, float32-value, float64-size, float64-value}
 use Rattle.words.proofs.Numbers.{bytes-of}
 use native.Mathlib.Omega.{arith}
-use mathlib.Core.Path.{_≡_, refl, sym, ap, _∙_, subst}
 use borrow.Author.Needs.{needs}
 use Rattle.reading.proofs.values.value.Statement.{statement}
 use Rattle.reading.proofs.values.value.Tie as tie
-use Rattle.reading.proofs.values.value.Reads as reads
-use Rattle.reading.proofs.values.value.Lts as lts
-use Rattle.answers.proofs.floats.float32_of.Reads as float32-of-reads
-use Rattle.answers.proofs.floats.float64_of.Reads as float64-of-reads
-use Rattle.schema.proofs.byte_at.Reads as byte-at-reads
-use Rattle.words.proofs.nums.get4.Reads as get4-reads
-use Rattle.words.proofs.nums.get8.Reads as get8-reads
-use Rattle.words.proofs.signed.get_signed.Reads as get-signed-reads
 
 byte-at-requires : tie.Need-byte-at-requires
 byte-at-requires c κs = search needs

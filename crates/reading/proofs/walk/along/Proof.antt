@@ -1,15 +1,12 @@
+-- `reading::walk::along` meets its contract. Assumes nothing.
 use Rattle.reading.proofs.OnPath.{OnWalk, walk-start, walk-done, walk-nowhere, walk-broken, walk-null, walk-to}
 use lib.ListN.{length}
 use Prim.Native.Nat.{_-_}
 use borrow.Author.Needs.{needs}
 use native.Mathlib.Omega.{arith}
-use mathlib.Core.Path.{_≡_, refl, sym, ap, _∙_, subst}
+use mathlib.Core.Path.{_≡_, refl}
 use Rattle.reading.proofs.walk.along.Statement.{statement}
 use Rattle.reading.proofs.walk.along.Tie as tie
-use Rattle.reading.proofs.walk.along.Reads as reads
-use Rattle.reading.proofs.walk.along.Lts as lts
-use Rattle.reading.proofs.steps.step.Reads as step-reads
-use Rattle.reading.proofs.walk.null_at.Reads as null-at-reads
 
 abbrev Inv-loop : tie.InvT-loop
 Inv-loop s row n numbers at₀ k₀ at k = OnWalk s row (record { steps = numbers; len = n }) at₀ at k × (length numbers ≡ 16)
@@ -45,7 +42,8 @@ returns : tie.Need-returns Inv-loop μ-loop
 returns c =
     let s = c .before .before .before .before .before .before .before .before in
     let a = s .args in
-    walk-nowhere (a .s .now) (a .row .now) (a .path) (a .from) (c .before .before .before .before .loop .at) (c .before .before .before .before .loop .k) (c .before .before .before .before .loop .inv .0) (c .before .before .before .loop-test .taken) _ refl _ (c .before .before .step .ensures) (c .enum-told .given .1)
+    let l = c .before .before .before .before .loop in
+    walk-nowhere (a .s .now) (a .row .now) (a .path) (a .from) (l .at) (l .k) (l .inv .0) (c .before .before .before .loop-test .taken) _ refl _ (c .before .before .step .ensures) (c .enum-told .given .1)
 
 enum-told-2 : tie.Need-enum-told-2 Inv-loop μ-loop
 enum-told-2 c = search needs
@@ -54,7 +52,8 @@ returns-2 : tie.Need-returns-2 Inv-loop μ-loop
 returns-2 c =
     let s = c .before .before .before .before .before .before .before .before in
     let a = s .args in
-    walk-broken (a .s .now) (a .row .now) (a .path) (a .from) (c .before .before .before .before .loop .at) (c .before .before .before .before .loop .k) (c .before .before .before .before .loop .inv .0) (c .before .before .before .loop-test .taken) _ refl _ (c .before .before .step .ensures) (c .enum-told2 .given .1)
+    let l = c .before .before .before .before .loop in
+    walk-broken (a .s .now) (a .row .now) (a .path) (a .from) (l .at) (l .k) (l .inv .0) (c .before .before .before .loop-test .taken) _ refl _ (c .before .before .step .ensures) (c .enum-told2 .given .1)
 
 enum-known-x : tie.Need-enum-known-x Inv-loop μ-loop
 enum-known-x c = search needs
@@ -66,7 +65,8 @@ returns-3 : tie.Need-returns-3 Inv-loop μ-loop
 returns-3 c =
     let s = c .before .before .before .before .before .before .before .before .before .before in
     let a = s .args in
-    walk-null (a .s .now) (a .row .now) (a .path) (a .from) (c .before .before .before .before .before .before .loop .at) (c .before .before .before .before .before .before .loop .k) (c .before .before .before .before .before .before .loop .inv .0) (c .before .before .before .before .before .loop-test .taken) _ refl _ (c .before .before .before .before .step .ensures) _ _ _ (c .before .before .x .given .1) _ refl _ (c .null-at .ensures)
+    let l = c .before .before .before .before .before .before .loop in
+    walk-null (a .s .now) (a .row .now) (a .path) (a .from) (l .at) (l .k) (l .inv .0) (c .before .before .before .before .before .loop-test .taken) _ refl _ (c .before .before .before .before .step .ensures) _ _ _ (c .before .before .x .given .1) _ refl _ (c .null-at .ensures)
 
 enum-known-p : tie.Need-enum-known-p Inv-loop μ-loop
 enum-known-p c = search needs
@@ -78,7 +78,8 @@ loop-again : tie.Need-loop-again Inv-loop μ-loop
 loop-again c =
     let s = c .before .before .before .before .before .before .before .before .before in
     let a = s .args in
-    (walk-to (a .s .now) (a .row .now) (a .path) (a .from) (c .before .before .before .before .before .loop .at) (c .before .before .before .before .before .loop .k) (c .before .before .before .before .before .loop .inv .0) (c .before .before .before .before .loop-test .taken) _ refl _ (c .before .before .before .step .ensures) _ (c .before .p .given .1), c .before .before .before .before .before .loop .inv .1)
+    let l = c .before .before .before .before .before .loop in
+    (walk-to (a .s .now) (a .row .now) (a .path) (a .from) (l .at) (l .k) (l .inv .0) (c .before .before .before .before .loop-test .taken) _ refl _ (c .before .before .before .step .ensures) _ (c .before .p .given .1), l .inv .1)
 
 returns-4 : tie.Need-returns-4 Inv-loop μ-loop
 returns-4 c =

@@ -1,15 +1,8 @@
+-- `reading::walk::from_root` meets its contract. Assumes nothing.
 use Rattle.reading.proofs.OnPath.{root-rests, root-from, root-walks, root-broken}
 use Rattle.schema.proofs.Judging.{accepted-root}
-use borrow.Author.Needs.{needs}
-use native.Mathlib.Omega.{arith}
-use mathlib.Core.Path.{_≡_, refl, sym, ap, _∙_, subst}
 use Rattle.reading.proofs.walk.from_root.Statement.{statement}
 use Rattle.reading.proofs.walk.from_root.Tie as tie
-use Rattle.reading.proofs.walk.from_root.Reads as reads
-use Rattle.reading.proofs.walk.from_root.Lts as lts
-use Rattle.reading.proofs.own.holds.Reads as holds-reads
-use Rattle.reading.proofs.walk.along.Reads as along-reads
-use Rattle.schema.proofs.open.Reads as open-reads
 
 open-requires : tie.Need-open-requires
 open-requires c κs =

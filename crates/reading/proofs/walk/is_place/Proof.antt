@@ -1,16 +1,13 @@
+-- `reading::walk::is_place` meets its contract. Assumes nothing.
 use Rattle.reading.proofs.OnPath.{OnKin, kin-start, kin-end, kin-off, kin-on}
 use Rattle.schema.proofs.Judging.{accepted-root}
 use lib.ListN.{length}
 use Prim.Native.Nat.{_-_}
 use borrow.Author.Needs.{needs}
 use native.Mathlib.Omega.{arith}
-use mathlib.Core.Path.{_≡_, refl, sym, ap, _∙_, subst}
+use mathlib.Core.Path.{_≡_, refl}
 use Rattle.reading.proofs.walk.is_place.Statement.{statement}
 use Rattle.reading.proofs.walk.is_place.Tie as tie
-use Rattle.reading.proofs.walk.is_place.Reads as reads
-use Rattle.reading.proofs.walk.is_place.Lts as lts
-use Rattle.reading.proofs.steps.kin.Reads as kin-reads
-use Rattle.schema.proofs.open.Reads as open-reads
 
 abbrev Inv-loop : tie.InvT-loop
 Inv-loop s n numbers x₀ d₀ k₀ x d k = OnKin s (record { steps = numbers; len = n }) x d k × (length numbers ≡ 16)
@@ -52,7 +49,8 @@ returns : tie.Need-returns Inv-loop μ-loop
 returns c =
     let s = c .before .before .before .before .before .before .before .before in
     let a = s .args in
-    kin-off (a .s .now) (a .path) (c .before .before .before .before .loop .x) (c .before .before .before .before .loop .d) (c .before .before .before .before .loop .k) (c .before .before .before .before .loop .inv .0) (c .before .before .before .loop-test .taken) _ refl _ (c .before .before .kin .ensures) (c .enum-told .given .1)
+    let l = c .before .before .before .before .loop in
+    kin-off (a .s .now) (a .path) (l .x) (l .d) (l .k) (l .inv .0) (c .before .before .before .loop-test .taken) _ refl _ (c .before .before .kin .ensures) (c .enum-told .given .1)
 
 enum-known-y : tie.Need-enum-known-y Inv-loop μ-loop
 enum-known-y c = search needs
@@ -64,7 +62,8 @@ loop-again : tie.Need-loop-again Inv-loop μ-loop
 loop-again c =
     let s = c .before .before .before .before .before .before .before .before .before in
     let a = s .args in
-    (kin-on (a .s .now) (a .path) (c .before .before .before .before .before .loop .x) (c .before .before .before .before .before .loop .d) (c .before .before .before .before .before .loop .k) (c .before .before .before .before .before .loop .inv .0) (c .before .before .before .before .loop-test .taken) _ refl _ (c .before .before .before .kin .ensures) _ _ (c .before .y .given .1), c .before .before .before .before .before .loop .inv .1)
+    let l = c .before .before .before .before .before .loop in
+    (kin-on (a .s .now) (a .path) (l .x) (l .d) (l .k) (l .inv .0) (c .before .before .before .before .loop-test .taken) _ refl _ (c .before .before .before .kin .ensures) _ _ (c .before .y .given .1), l .inv .1)
 
 returns-2 : tie.Need-returns-2 Inv-loop μ-loop
 returns-2 c =

@@ -1,11 +1,6 @@
-use Rattle.reading.specs.Finding.{nullAs}
-use native.Mathlib.Omega.{arith}
-use mathlib.Core.Path.{_≡_, refl, sym, ap, _∙_, subst}
-use borrow.Author.Needs.{needs}
+-- `reading::walk::null_at` meets its contract. Assumes nothing.
 use Rattle.reading.proofs.walk.null_at.Statement.{statement}
 use Rattle.reading.proofs.walk.null_at.Tie as tie
-use Rattle.reading.proofs.walk.null_at.Reads as reads
-use Rattle.reading.proofs.walk.null_at.Lts as lts
 
 returns : tie.Need-returns
 returns c = rw (c .if1 .taken)
