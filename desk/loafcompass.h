@@ -1,0 +1,52 @@
+/* Loafcompass for a desk's program, in C or C++: rows of the Fory standard row format.
+ *
+ * A slice is a pointer and a length; a pointer to no byte may be any but NULL. Every function takes any bytes of any length and ends
+ * with a result or a numbered refusal, and a refusal alters no lent byte.
+ *
+ * Each answers one number: the refusal's number in the upper half, 0 there for done, and a length in the lower half. */
+#ifndef LOAFCOMPASS_H
+#define LOAFCOMPASS_H
+
+#include <stddef.h>
+#include <stdint.h>
+
+#ifdef __cplusplus
+extern "C" {
+#endif
+
+enum loaf_refusal {
+    LOAF_DONE = 0,
+    LOAF_SCHEMA = 1,      /* the schema breaks its rules */
+    LOAF_LISTING = 2,     /* the listing breaks its rules or does not fit the schema */
+    LOAF_TOO_LONG = 3,    /* the row is over 16,384 bytes */
+    LOAF_ROOM = 4,        /* the output is too small; the length is the length needed */
+    LOAF_NO_PLACE = 5,    /* there is no such place */
+    LOAF_NULL_BEFORE = 6, /* a null stands before the path's end */
+    LOAF_LAYOUT = 7,      /* the row breaks the layout */
+    LOAF_UNFIT = 8,       /* the value does not fit the place */
+    LOAF_RESIZE = 9       /* the value would change the place's size, or the nullness of a string or binary */
+};
+
+static inline uint32_t loaf_number(uint64_t answer) { return (uint32_t)(answer >> 32); }
+static inline uint32_t loaf_length(uint64_t answer) { return (uint32_t)answer; }
+
+/* Whether the bytes are a schema: done, or 1. */
+uint64_t loaf_judge(const uint8_t *schema, size_t schema_length);
+
+/* Whether the row stands for contents of the schema: done, or 1, 3, 7. */
+uint64_t loaf_check(const uint8_t *schema, size_t schema_length, const uint8_t *row, size_t row_length);
+
+/* The row's listing at the start of out, and its length: done, or 1, 3, 7, 4. */
+uint64_t loaf_list(const uint8_t *schema, size_t schema_length, const uint8_t *row, size_t row_length, uint8_t *out, size_t out_length);
+
+enum loaf_kind { LOAF_NULL = 0, LOAF_BOOL = 1, LOAF_NUMBER = 2, LOAF_FLOAT32 = 3, LOAF_FLOAT64 = 4, LOAF_BYTES = 5, LOAF_CONTAINER = 6 };
+
+/* One place, by its path: done, or 1, 3, 5, 6, 7, and 4 with the length 4 if the answer has fewer than 4 words.
+ * answer[0] is the kind; answer[1] the bool, the number's 64 bits or the float's bits, or the start of a byte range or container;
+ * answer[2] the range's length; answer[3] a container's count; unused words are 0. */
+uint64_t loaf_read(const uint8_t *schema, size_t schema_length, const uint8_t *row, size_t row_length, const uint32_t *path, size_t path_length, uint64_t *answer, size_t answer_length);
+
+#ifdef __cplusplus
+}
+#endif
+#endif

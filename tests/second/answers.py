@@ -1,0 +1,125 @@
+"""From a request of the driver to the line that it must print."""
+
+import struct
+from collections import namedtuple
+
+import rows
+
+# A request: `second` is the listing or the row, `third` the stand-in or the
+# setting's bytes, `room` the length of the lent output.
+Request = namedtuple('Request', 'op schema second steps room third kind value')
+
+HEAD = struct.Struct('<c5IBQ')
+
+# What the driver takes; beyond these a request ends its run.
+SCHEMA_ROOM, SECOND_ROOM, STEPS_ROOM, OUT_ROOM, THIRD_ROOM = 2048, 70000, 64, 70000, 20000
+
+FILL = 0xAA
+
+
+def request(op, schema=b'', second=b'', steps=(), room=0, third=b'', kind=0, value=0):
+    return Request(op, schema, second, tuple(steps), room, third, kind, value)
+
+
+def within_rooms(req):
+    return (len(req.schema) <= SCHEMA_ROOM and len(req.second) <= SECOND_ROOM
+            and len(req.steps) <= STEPS_ROOM and req.room <= OUT_ROOM
+            and len(req.third) <= THIRD_ROOM)
+
+
+def encode(req):
+    head = HEAD.pack(req.op.encode(), len(req.schema), len(req.second), len(req.steps),
+                     req.room, len(req.third), req.kind, req.value)
+    steps = struct.pack('<%dI' % len(req.steps), *req.steps)
+    return b''.join((head, req.schema, req.second, steps, req.third))
+
+
+def decode(data):
+    """The request that `encode` made these bytes from, to repeat it by hand."""
+    if len(data) < HEAD.size:
+        raise ValueError('shorter than its head')
+    op, schema, second, steps, room, third, kind, value = HEAD.unpack_from(data)
+    at = HEAD.size
+    parts = []
+    for size in (schema, second, 4 * steps, third):
+        parts.append(data[at:at + size])
+        at += size
+    if at != len(data):
+        raise ValueError('%d bytes where its head announces %d' % (len(data), at))
+    numbers = struct.unpack('<%dI' % steps, parts[2])
+    return Request(op.decode(), parts[0], parts[1], numbers, room, parts[3], kind, value)
+
+
+def setting_of(kind, value, third):
+    """The setting by the C convention; None for a kind or a value that is none.
+
+    A null and bytes have no use for the value, so any value will do there.
+    """
+    if kind == 0:
+        return ('null',)
+    if kind == 1:
+        return ('bool', value) if value <= 1 else None
+    if kind == 2:
+        return ('number', value - (1 << 64) if value >> 63 else value)
+    if kind == 3:
+        return ('float32', value) if value < 1 << 32 else None
+    if kind == 4:
+        return ('float64', value)
+    if kind == 5:
+        return ('bytes', third)
+    return None
+
+
+def hex_or_dash(data):
+    return data.hex() or '-'
+
+
+def refusal(r):
+    return 'refused %d %d' % (r.number, r.length)
+
+
+def output_line(call, req):
+    """Write and list: the lent output is shown whole, with what it held before."""
+    out = bytes([FILL]) * req.room
+    try:
+        result = call(req.schema, req.second, req.room)
+    except rows.Refused as r:
+        return '%s %s' % (refusal(r), hex_or_dash(out))
+    return 'done %d %s' % (len(result), hex_or_dash(result + out[len(result):]))
+
+
+def value_line(value):
+    name = value[0]
+    if name == 'float32':
+        return 'float32 %08x' % value[1]
+    if name == 'float64':
+        return 'float64 %016x' % value[1]
+    return ' '.join(map(str, value))
+
+
+def answer(req):
+    op = req.op
+    if op == 'w':
+        return output_line(rows.write, req)
+    if op == 'l':
+        return output_line(rows.list_back, req)
+    if op == 't':
+        return hex_or_dash(rows.text_or(req.schema, req.second, req.steps, req.third))
+    row = req.second
+    try:
+        if op == 'j':
+            rows.judge(req.schema)
+            return 'done'
+        if op == 'c':
+            rows.check(req.schema, row)
+            return 'done'
+        if op == 's':
+            setting = setting_of(req.kind, req.value, req.third)
+            return 'done ' + hex_or_dash(rows.set_leaf(req.schema, row, req.steps, setting))
+        if op in ('r', 'o'):
+            return value_line(rows.read(req.schema, row, req.steps))
+    except rows.Refused as r:
+        if op == 's':
+            return '%s %s' % (refusal(r), hex_or_dash(row))
+        return refusal(r)
+    raise ValueError('no such op: %r' % op)

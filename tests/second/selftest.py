@@ -1,0 +1,289 @@
+#!/usr/bin/env python3
+"""What must hold of the second reading by itself, on random input.
+
+    selftest.py [--seed S] [--scenes N]
+
+A comparison says only that two programs differ; these checks make it likely
+that this one is right, so that a difference is worth following.
+"""
+
+import argparse
+import random
+
+import answers
+import cases
+import requests
+import rows
+from rows import BOOL, BYTES, FLOAT, INT, LIST, MAP, STRUCT, Null
+
+
+def refusal(call, *args):
+    """The number that a call is refused with, None if it answers."""
+    try:
+        call(*args)
+    except rows.Refused as r:
+        assert r.length == 0 or r.number == 4
+        return r.number
+    return None
+
+
+def tree_values(t, cell, path, found):
+    """What each path of the contents must read as, without ranges."""
+    if isinstance(cell, Null):
+        found[path] = ('null',)
+    elif t.kind == BOOL:
+        found[path] = ('bool', cell[0])
+    elif t.kind == INT:
+        found[path] = ('number', int.from_bytes(cell, 'little', signed=True))
+    elif t.kind == FLOAT:
+        found[path] = ('float%d' % (8 * t.width), int.from_bytes(cell, 'little'))
+    elif t.kind == BYTES:
+        found[path] = ('bytes', cell)
+    else:
+        found[path] = ('container', len(cell))
+        for i, part in enumerate(cell):
+            tree_values(t.parts[0] if t.kind == LIST else t.parts[i], part, path + (i,), found)
+
+
+def plain(row, value):
+    """An answer without its ranges: a string's bytes, a container's count."""
+    if value[0] == 'bytes':
+        return ('bytes', row[value[1]:value[1] + value[2]])
+    if value[0] == 'container':
+        return ('container', value[3])
+    return value
+
+
+def all_values(schema, row, paths):
+    return {path: plain(row, rows.read(schema, row, path)) for path in paths}
+
+
+class TooMany(Exception):
+    pass
+
+
+def rebuilt(root, row):
+    """The row that the contents found by reading alone would give, or None.
+
+    A row is sound exactly if this is the row itself: reading finds the contents
+    of a sound row, and the layout has one row for them.  So the strict judge is
+    held against the walk and the writer, which follow other rules.
+    """
+    # A sound row has fewer places than bytes; an unsound one may lead to
+    # endlessly many.
+    left = [2 * len(row) + 16]
+
+    def cell(path):
+        left[0] -= 1
+        if left[0] < 0:
+            raise TooMany
+        place = rows.walk(root, row, path)
+        if place.null:
+            return Null(row[place.slot:place.slot + place.room])
+        if place.type.kind == BYTES:
+            return row[place.start:place.start + place.size]
+        if not place.type.varying:
+            return row[place.slot:place.slot + place.type.width]
+        if place.count > left[0]:
+            raise TooMany
+        return [cell(path + (i,)) for i in range(place.count)]
+
+    def equal_counts(t, c):
+        if isinstance(c, Null) or not t.parts:
+            return True
+        if t.kind == MAP and len(c[0]) != len(c[1]):
+            return False
+        return all(equal_counts(t.parts[0] if t.kind == LIST else t.parts[i], part)
+                   for i, part in enumerate(c))
+
+    try:
+        tree = cell(())
+    except (rows.Refused, TooMany):
+        return None
+    return rows.content(root, tree) if equal_counts(root, tree) else None
+
+
+def replaced(root, cell, path, setting):
+    """The contents with one leaf set, or a refusal; by the tree, not by the bytes."""
+    if not path:
+        raise rows.Refused(8)
+    cell = list(cell)
+    step = path[0]
+    t = root.parts[0] if root.kind == LIST else root.parts[step]
+    if step >= len(cell):
+        raise rows.Refused(5)
+    part = cell[step]
+    if len(path) > 1:
+        if isinstance(part, Null):
+            raise rows.Refused(6)
+        cell[step] = replaced(t, part, path[1:], setting)
+        return cell
+    if root.kind == MAP or not rows.fits(t, setting):
+        raise rows.Refused(8)
+    room = 8 if root.kind == STRUCT else t.room
+    if setting[0] == 'null':
+        if t.kind == BYTES and not isinstance(part, Null):
+            raise rows.Refused(9)
+        cell[step] = Null(bytes(room))
+    elif t.kind == BYTES:
+        if isinstance(part, Null) or len(part) != len(setting[1]):
+            raise rows.Refused(9)
+        cell[step] = setting[1]
+    else:
+        cell[step] = (setting[1] % (1 << 8 * t.width)).to_bytes(t.width, 'little')
+    return cell
+
+
+def check_contents(root, schema, cells, row, listing):
+    """Writing, listing back and reading of sound contents."""
+    assert rows.decode(root, row, 0, len(row)) == cells
+    assert refusal(rows.check, schema, row) is None
+    cleaned = rows.clean(cells)
+    assert rows.parse_listing(root, listing) == cleaned
+    assert rows.listing_of(root, cleaned) == listing
+    clean_row = rows.content(root, cleaned)
+    assert rows.write(schema, listing, len(row)) == clean_row
+    assert rows.list_back(schema, row, len(listing)) == listing
+    assert rows.list_back(schema, clean_row, len(listing)) == listing
+    assert refusal(rows.write, schema, listing, len(row) - 1) == 4
+    assert refusal(rows.list_back, schema, row, len(listing) - 1) == 4
+    assert len(listing) <= 3 * len(row)
+    values = {}
+    tree_values(root, cells, (), values)
+    assert all_values(schema, row, values) == values
+    assert all_values(schema, clean_row, values) == values
+    return values
+
+
+def check_row(root, schema, row):
+    """Any row: accepted exactly if it is the row of its own contents."""
+    number = refusal(rows.check, schema, row)
+    if len(row) > rows.ROW_LIMIT:
+        assert number == 3
+        return False
+    again = rebuilt(root, row)
+    assert number == (None if again == row else 7), (schema, row, number)
+    if number is not None:
+        assert refusal(rows.list_back, schema, row, 70000) == 7
+        return False
+    cells = rows.decode(root, row, 0, len(row))
+    check_contents(root, schema, cells, row, rows.listing_of(root, cells))
+    return True
+
+
+def check_set(maker, scene, cells, values):
+    """One or two settings in a sound row."""
+    schema, root, row = scene.schema, scene.root, scene.row
+
+    def any_setting():
+        path = maker.path(scene)
+        if maker.chance(0.6):
+            path = maker.one(list(values))
+        kind, value, third = maker.setting(scene, path)
+        return path, answers.setting_of(kind, value, third)
+
+    path, setting = any_setting()
+    try:
+        rows.type_at(root, path)
+        by_tree = rows.content(root, replaced(root, cells, path, setting))
+    except rows.Refused as r:
+        by_tree = r.number
+    try:
+        after = rows.set_leaf(schema, row, path, setting)
+    except rows.Refused as r:
+        assert r.number == by_tree, (schema, row, path, setting)
+        return None
+    assert after == by_tree
+    assert refusal(rows.check, schema, after) is None
+    expected = dict(values)
+    expected[path] = setting
+    assert all_values(schema, after, values) == expected
+    # The last of two settings of one place alone counts.
+    kind, value, third = maker.setting(scene, path)
+    other = answers.setting_of(kind, value, third)
+    if refusal(rows.set_leaf, schema, row, path, other) is None:
+        assert (rows.set_leaf(schema, after, path, other)
+                == rows.set_leaf(schema, row, path, other))
+    # Settings of two places commute, refused ones too.
+    path2, setting2 = any_setting()
+    if path2 != path:
+        number = refusal(rows.set_leaf, schema, row, path2, setting2)
+        assert refusal(rows.set_leaf, schema, after, path2, setting2) == number
+        if number is None:
+            assert (rows.set_leaf(schema, after, path2, setting2)
+                    == rows.set_leaf(schema, rows.set_leaf(schema, row, path2, setting2), path, setting))
+    return after
+
+
+def check_scene(maker, tally):
+    schema = maker.sound_schema()
+    root = rows.judge(schema)
+    cells = maker.root_cell(root, 20 + maker.below(60))
+    scene = requests.Scene(schema, root, cells)
+    if len(scene.row) > rows.ROW_LIMIT:
+        assert refusal(rows.write, schema, scene.listing, 70000) == 3
+        assert refusal(rows.check, schema, scene.row) == 3
+        return
+    values = check_contents(root, schema, cells, scene.row, scene.listing)
+    tally['places'] += len(values)
+    for _ in range(8):
+        row, _ = maker.bad_row(scene)
+        tally['damaged rows'] += 1
+        tally['of them sound'] += check_row(root, schema, row)
+    for _ in range(8):
+        tally['settings'] += 1
+        tally['of them done'] += check_set(maker, scene, cells, values) is not None
+    # A damaged listing that is taken after all is the listing of what it gives.
+    for _ in range(4):
+        listing = maker.bad_listing(scene)
+        tally['damaged listings'] += 1
+        if refusal(rows.write, schema, listing, 70000) is None:
+            tally['of them taken'] += 1
+            row = rows.write(schema, listing, 70000)
+            assert rows.list_back(schema, row, 70000) == listing
+    # Requests of every kind are answered and survive their encoding.
+    for req in maker.requests(scene, 8):
+        answers.answer(req)
+        assert answers.decode(answers.encode(req)) == req
+        assert answers.within_rooms(req)
+
+
+def check_junk(rng):
+    """Any bytes at all: an answer or a refusal, never anything else."""
+    schema = rng.choice((b'ro\x02stli', b'ro\x01st', b'ro\x01mastst', b'ro\x01liro\x01bo',
+                         rng.randbytes(rng.randrange(8))))
+    data = rng.randbytes(rng.randrange(60))
+    path = tuple(rng.randrange(3) for _ in range(rng.randrange(20)))
+    refusal(rows.judge, schema)
+    refusal(rows.check, schema, data)
+    refusal(rows.write, schema, data, 100)
+    refusal(rows.list_back, schema, data, 100)
+    refusal(rows.read, schema, data, path)
+    rows.text_or(schema, data, path, b'')
+    for setting in (None, ('null',), ('bool', 1), ('number', 5), ('float32', 1), ('bytes', b'x')):
+        refusal(rows.set_leaf, schema, data, path, setting)
+
+
+def main():
+    parser = argparse.ArgumentParser()
+    parser.add_argument('--seed', type=int, default=1)
+    parser.add_argument('--scenes', type=int, default=3000)
+    args = parser.parse_args()
+    print('%d cases hold' % len(cases.requests_and_answers()))
+    rng = random.Random('selftest/%d' % args.seed)
+    maker = requests.Maker(rng)
+    tally = dict.fromkeys(('places', 'damaged rows', 'of them sound', 'settings', 'of them done',
+                           'damaged listings', 'of them taken'), 0)
+    for _ in range(args.scenes):
+        check_scene(maker, tally)
+        check_junk(rng)
+    for number in range(3):
+        for req in requests.batch(args.seed, number):
+            assert answers.within_rooms(req)
+            assert answers.decode(answers.encode(req)) == req
+    print(', '.join('%s %d' % item for item in tally.items()))
+    print('%d scenes hold' % args.scenes)
+
+
+if __name__ == '__main__':
+    main()
