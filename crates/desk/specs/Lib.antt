@@ -1,2 +1,4 @@
 -- What the contracts of `desk` cite.
 pub mod Codes
+pub mod Words
+pub mod Steps

@@ -1,11 +1,16 @@
 // The entries under C names. Each answers the refusal's number times 2^32, plus the length; 0 in the upper half is done.
 ghost use mathlib.Core.Path.{_≡_};
-ghost use Rattle.layout.specs.Entries.{judgeOf, checkOf, listOf, listedOf};
+ghost use Rattle.layout.specs.Entries.{judgeOf, checkOf, listOf, listedOf, readOf};
 ghost use Rattle.answers.specs.Meaning.{outcomeMeans, lengthMeans};
 ghost use Rattle.desk.specs.Codes.{verdictCode, sizedCode, Halved, Fills};
+ghost use Rattle.desk.specs.Steps.{Taken};
+ghost use Rattle.desk.specs.Words.{Tells};
 ghost use lib.ListN.{length};
 use answers::Length;
 use answers::Outcome;
+use answers::Path;
+
+pub mod told;
 
 // An outcome's code.
 fn outcome_code(o: Outcome) -> u64
@@ -31,6 +36,26 @@ fn length_code(l: Length) -> u64
     }
 }
 
+// Lent steps as a path: of more than 16 the first 16 are kept, and the length says how many there were.
+fn path_of(steps: &[u32]) -> Path
+    ensures { λ r. ⌜ Taken (now (steps .entry)) r ⌝ }
+{
+    let mut held = [0u32; 16];
+    let n = steps.len();
+    let mut i = 0;
+    while i < n {
+        if 16 <= i {
+            break;
+        }
+        held[i] = steps[i];
+        i += 1;
+    }
+    Path {
+        steps: held,
+        len: n,
+    }
+}
+
 #[no_mangle]
 pub extern "C" fn loaf_judge(schema: &[u8]) -> u64
     ensures { λ r. ⌜ r ≡ verdictCode (judgeOf (now (schema .entry))) ⌝ }
@@ -50,4 +75,11 @@ pub extern "C" fn loaf_list(schema: &[u8], row: &[u8], out: &mut [u8]) -> u64
     ensures { λ r. ⌜ Fills (listOf (now (schema .entry)) (now (row .entry)) (length (now (out .entry)))) (listedOf (now (schema .entry)) (now (row .entry)) (now (out .entry))) r (now (out .exit)) ⌝ }
 {
     length_code(row::list(schema, row, out))
+}
+
+#[no_mangle]
+pub extern "C" fn loaf_read(schema: &[u8], row: &[u8], path: &[u32], answer: &mut [u64]) -> u64
+    ensures { λ r. ⌜ Tells (readOf (now (schema .entry)) (now (row .entry)) (now (path .entry))) (now (answer .entry)) r (now (answer .exit)) ⌝ }
+{
+    told::put_answer(answer, row::read(schema, row, path_of(path)))
 }

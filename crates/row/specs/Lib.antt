@@ -1,3 +1,4 @@
 -- The demands as statements over definitions alone. `proofs/` proves them.
+pub mod Demand1
 pub mod Demand2
 pub mod Outcomes

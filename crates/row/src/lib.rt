@@ -98,7 +98,7 @@ pub fn open<'a>(schema: &'a [u8], row: &'a [u8]) -> Opened<'a>
 fn read_both<'a>(schema: &'a [u8], row: &'a [u8], p: Path) -> Answer
     ensures { λ r. ⌜ meaning r ≡ readOf (now (schema .entry)) (now (row .entry)) (pathOf p) ⌝ }
 {
-    read(schema, row, p)
+    reading::read(schema, row, p)
 }
 
 // A question to an opened row.

@@ -27,7 +27,7 @@ returns c = check-no (c .before .before .before .before .before .args .schema .n
 
 -- src/lib.rt:29:9
 returns-2 : tie.Need-returns-2
-returns-2 c = check-long (c .before .before .before .before .before .before .args .schema .now) (c .before .before .before .before .before .before .args .row .now) (sym (c .before .before .before .judge .ensures) ∙ c .before .enum-told .given .1) (c .if1 .taken)
+returns-2 c = check-long (c .before .before .before .before .before .before .args .schema .now) (c .before .before .before .before .before .before .args .row .now) (sym (c .before .before .before .judge .ensures) ∙ c .before .enum-told .given .1) (omega (arith, c .if1 .taken))
 
 -- src/lib.rt:31:8
 check-row-requires : tie.Need-check-row-requires

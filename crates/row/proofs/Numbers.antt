@@ -1,0 +1,138 @@
+-- The numbers that reading refuses with are 1, 3, 5, 6 and 7. Assumes nothing.
+use mathlib.Core.Path.{_≡_, refl, sym, ap, _∙_}
+use mathlib.Core.Bool.{Bool, true, false}
+use mathlib.Core.Option.{Option, none, some}
+use mathlib.Core.List.{List, [], _∷_}
+use Prim.Native.Nat.{ℕ, zero, suc, _+_, _*_, _/_, _%_, _^_}
+use native.Mathlib.Decide.{decLe, decLt, ℕ-discrete}
+use native.Mathlib.Omega.{arith}
+use lib.ListN.{length, take, drop}
+use lib.Dec.{leb}
+use Rattle.words.specs.Bytes.{num, part, bitmap}
+use Rattle.schema.specs.Types.{Fixed, bo, i1, i2, i4, i8, f4, f8, Ty, fix, text, li, ma, ro, Tys, count, field}
+use Rattle.schema.specs.Reading.{judged}
+use Rattle.schema.specs.Walk.{fieldsOf}
+use Rattle.schema.specs.declared.Judged.{Judged}
+use Rattle.schema.specs.declared.Judged.the-variants.{Accepted, Refused}
+use Rattle.layout.specs.Layout.{slotOf, front, limit, codec}
+use Rattle.layout.specs.Walk.{Seat, Seen, bad, nullAt, seen, Step, stop, toNull, into, must, mustStep, own, bySlot, byFlag, seatOf, child, stepIn, goOn, rootSeat, walk}
+use Rattle.layout.specs.Reading as R
+use Rattle.layout.specs.Reading.{Answer, valueOf, placed, answerOf, found, readIn}
+use Rattle.layout.specs.Entries.{readOf}
+use Rattle.answers.specs.Meaning.{Numbered}
+use Rattle.row.specs.Demand1.{ReadNumber, one, three, five, six, seven, ReadGives}
+use Rattle.row.specs.Demand1 as D
+
+-- what a walk may find
+data Fair : Seen → Type 0 where
+  refuses : {n : ℕ} → ReadNumber n → Fair (bad n)
+  absent : {z : Seat} → Fair (nullAt z)
+  present : {z : Seat} {o : ℕ} {b : List ℕ} → Fair (seen z o b)
+
+data FairStep : Step → Type 0 where
+  refuses : {n : ℕ} → ReadNumber n → FairStep (stop n)
+  absent : {z : Seat} → FairStep (toNull z)
+  present : {t : Ty} {z : Seat} {o : ℕ} {b : List ℕ} → FairStep (into t z o b)
+
+fair-must : {P : Type 0} (d : Dec P) (n : ℕ) (v : Seen) → ReadNumber n → Fair v → Fair (must d n v)
+unfolding must
+fair-must (yes _) n v q f = f
+fair-must (no _) n v q f = Fair.refuses q
+
+fair-step : {P : Type 0} (d : Dec P) (n : ℕ) (v : Step) → ReadNumber n → FairStep v → FairStep (mustStep d n v)
+unfolding mustStep
+fair-step (yes _) n v q f = f
+fair-step (no _) n v q f = FairStep.refuses q
+
+own-fair : (t : Ty) (b : List ℕ) (v : Seen) → Fair v → Fair (own t b v)
+unfolding own
+own-fair (fix g) b v f = fair-must (decLt (num b) (limit g)) 7 v seven f
+own-fair (text k) b v f = f
+own-fair (li t) b v f = fair-must (decLe 8 (length b)) 7 _ seven (fair-must (decLe (front 8 (slotOf (codec t .wide)) (num (take 8 b))) (length b)) 7 v seven f)
+own-fair (ma k w) b v f =
+    fair-must (decLe 8 (length b)) 7 _ seven (fair-must (ℕ-discrete (num (take 8 b) % 8) 0) 7 _ seven (fair-must (decLe (8 + num (take 8 b)) (length b)) 7 v seven f))
+own-fair (ro ts) b v f = fair-must (decLe (front 0 8 (count ts)) (length b)) 7 v seven f
+
+slot-fair : (w : Option ℕ) (t : Ty) (z : Seat) (f o j : ℕ) (b : List ℕ) → FairStep (bySlot w t z f o j b)
+unfolding bySlot
+slot-fair (some v) t z f o j b = FairStep.present
+slot-fair none t z f o j b =
+    fair-step (decLe f (num (part b j 8) / 2 ^ 32)) 7 _ seven
+    (fair-step (ℕ-discrete (num (part b j 8) / 2 ^ 32 % 8) 0) 7 _ seven
+    (fair-step (decLe (num (part b j 8) / 2 ^ 32 + num (part b j 8) % 2 ^ 32) (length b)) 7 _ seven FairStep.present))
+
+flag-fair : (n : ℕ) (z : Seat) (r : Step) → FairStep r → FairStep (byFlag n z r)
+unfolding byFlag
+flag-fair zero z r f = f
+flag-fair (suc n) z r f = FairStep.absent
+
+child-fair : (h w n : ℕ) (t : Ty) (i o : ℕ) (b : List ℕ) → FairStep (child h w n t i o b)
+unfolding child
+child-fair h w n t i o b =
+    fair-step (decLt i n) 5 _ five (flag-fair (num (part b h (bitmap n)) / 2 ^ i % 2) (seatOf h w n i o) _ (slot-fair (codec t .wide) t (seatOf h w n i o) (front h w n) o (h + (bitmap n + i * w)) b))
+
+step-fair : (t : Ty) (i : ℕ) (z : Seat) (o : ℕ) (b : List ℕ) → FairStep (stepIn t i z o b)
+unfolding stepIn
+step-fair (fix f) i z o b = FairStep.refuses five
+step-fair (text k) i z o b = FairStep.refuses five
+step-fair (li t) i z o b = child-fair 8 (slotOf (codec t .wide)) (num (take 8 b)) t i o b
+step-fair (ma k v) zero z o b = FairStep.present
+step-fair (ma k v) (suc zero) z o b = FairStep.present
+step-fair (ma k v) (suc (suc i)) z o b = FairStep.refuses five
+step-fair (ro ts) i z o b = child-fair 0 8 (count ts) (field ts i) i o b
+
+on-fair : (p : List ℕ) (next : Ty → Seat → ℕ → List ℕ → Seen) → ((t : Ty) (z : Seat) (o : ℕ) (b : List ℕ) → Fair (next t z o b)) → (r : Step) → FairStep r → Fair (goOn p next r)
+unfolding goOn
+on-fair p next f r (FairStep.refuses q) = Fair.refuses q
+on-fair [] next f r FairStep.absent = Fair.absent
+on-fair (i ∷ p) next f r FairStep.absent = Fair.refuses six
+on-fair p next f r (FairStep.present {t = t} {z = z} {o = o} {b = b}) = f t z o b
+
+walk-fair : (p : List ℕ) (t : Ty) (z : Seat) (o : ℕ) (b : List ℕ) → Fair (walk p t z o b)
+unfolding walk
+walk-fair [] t z o b = own-fair t b _ Fair.present
+walk-fair (i ∷ p) t z o b = own-fair t b _ (on-fair p (λ t s o b. walk p t s o b) (λ t z o b. walk-fair p t z o b) (stepIn t i z o b) (step-fair t i z o b))
+
+-- ---- answers
+
+value-gives : (f : Fixed) (b : List ℕ) → ReadGives (valueOf f b)
+unfolding valueOf
+value-gives bo b = D.bool
+value-gives i1 b = D.signed
+value-gives i2 b = D.signed
+value-gives i4 b = D.signed
+value-gives i8 b = D.signed
+value-gives f4 b = D.float32
+value-gives f8 b = D.float64
+
+answer-gives : (t : Ty) (v : Seen) → Fair v → ReadGives (answerOf t v)
+unfolding answerOf
+answer-gives t v (Fair.refuses q) = D.refused q
+answer-gives t v Fair.absent = D.null
+answer-gives (fix f) v (Fair.present {b = b}) = value-gives f b
+answer-gives (text k) v Fair.present = D.bytes
+answer-gives (li t) v Fair.present = D.container
+answer-gives (ma k w) v Fair.present = D.container
+answer-gives (ro ts) v Fair.present = D.container
+
+found-gives : (o : Option Ty) (v : Seen) → Fair v → ReadGives (found o v)
+unfolding found
+found-gives none v f = D.refused five
+found-gives (some t) v f = answer-gives t v f
+
+pub read-gives : (s row p : List ℕ) → ReadGives (readOf s row p)
+unfolding readOf readIn
+read-gives s row p = by-schema (judged s) refl (leb (length row) 16384) refl
+  where
+    by-schema : (j : Judged) → judged s ≡ j → (v : Bool) → leb (length row) 16384 ≡ v → ReadGives (readOf s row p)
+    by-schema Refused a v h = rw a (D.refused one)
+    by-schema Accepted a false h = rw (a, h) (D.refused three)
+    by-schema Accepted a true h = rw (a, h) (found-gives (placed p (ro (fieldsOf s))) _ (walk-fair p (ro (fieldsOf s)) rootSeat 0 row))
+
+-- so none has the number 0, which is no refusal, nor 4, which has a length
+number-not : {n : ℕ} → ReadNumber n → (n ≡ 0 → ⊥) × (n ≡ 4 → ⊥)
+number-not one = (λ e. omega arith, λ e. omega arith)
+number-not three = (λ e. omega arith, λ e. omega arith)
+number-not five = (λ e. omega arith, λ e. omega arith)
+number-not six = (λ e. omega arith, λ e. omega arith)
+number-not seven = (λ e. omega arith, λ e. omega arith)

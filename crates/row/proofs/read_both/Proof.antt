@@ -1,0 +1,16 @@
+-- `row::read_both` meets its contract. Assumes nothing.
+use borrow.Author.Needs.{needs}
+use Rattle.row.proofs.read_both.Statement.{statement}
+use Rattle.row.proofs.read_both.Tie as tie
+use Rattle.row.proofs.read_both.Reads as reads
+use Rattle.row.proofs.read_both.Lts as lts
+use Rattle.reading.proofs.read.Reads as read-reads
+
+read-requires : tie.Need-read-requires
+read-requires c κs = search needs
+
+returns : tie.Need-returns
+returns c = c .read .ensures
+
+pub read-both-spec : {M : Type 1} → statement M
+read-both-spec = tie.close (tie.spec read-requires returns)
