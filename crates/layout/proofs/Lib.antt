@@ -18,3 +18,5 @@ pub mod Walked
 pub mod Tree
 pub mod Updated
 pub mod Cases
+pub mod Landed
+pub mod Judged
