@@ -20,3 +20,5 @@ pub mod Updated
 pub mod Cases
 pub mod Landed
 pub mod Judged
+pub mod After
+pub mod Told
