@@ -96,13 +96,17 @@ changed-at : (ts : Tys) (x : Setting) (T : Ty) (p : List ℕ) (c : Cell) (b : Li
 changed-at ts x T [] c b e y lim g = absurd (subst Leafy (sym (type-end (ro ts) T e)) (fine-leaf (g .fine)))
 changed-at ts x T (i ∷ p) c b e y lim g = set-at x T i p (ro ts) c b e y lim g
 
--- a setting that is done
+-- a setting of a place of type T that is done
+pub record Made (ts : Tys) (p : List ℕ) (x : Setting) (T : Ty) (c : Cell) (row row′ : List ℕ) : Type 0 where
+  pub granted : Granted x T p c
+  pub lays : Lays (ro ts) (after ts p T x c) row′
+  pub size : length row′ ≡ length row
+
 pub record Done (ts : Tys) (p : List ℕ) (x : Setting) (c : Cell) (row row′ : List ℕ) : Type 0 where
   pub type : Ty
   pub place : placed p (ro ts) ≡ some type
-  pub granted : Granted x type p c
-  pub lays : Lays (ro ts) (after ts p type x c) row′
-  pub size : length row′ ≡ length row
+  pub judged : judgeAt (some type) (answerOf type (walk p (ro ts) rootSeat 0 row)) x ≡ none
+  pub made : Made ts p x type c row row′
 
 module _ (ts : Tys) (row : List ℕ) (a : Accepted ts row) where
   pub row-lays : Lays (ro ts) (a .tree) row
@@ -132,11 +136,11 @@ module _ (ts : Tys) (row : List ℕ) (a : Accepted ts row) where
   allowed p x T e j = rw (a .reads, read-at p T e, e, j)
 
   pub written : (p : List ℕ) (x : Setting) (T : Ty) → Proper x → placed p (ro ts) ≡ some T → Judged T (answerOf T (walk p (ro ts) rootSeat 0 row)) x
-      → Done ts p x (a .tree) row (write T x (walk p (ro ts) rootSeat 0 row) row)
+      → Made ts p x T (a .tree) row (write T x (walk p (ro ts) rootSeat 0 row) row)
   written p x T b e j =
       let g = granted-by row T p (a .tree) (walk p (ro ts) rootSeat 0 row) x b (row-lands p T e) (j .present) (j .suits) (j .keeps) in
       let d = changed-at ts x T p (a .tree) row (placed-type p (ro ts) T e) row-lays row-short g in
-      record { type = T; place = e; granted = g; lays = d .lays; size = d .size }
+      record { granted = g; lays = d .lays; size = d .size }
 
   pub done : (p : List ℕ) (x : Setting) (row′ : List ℕ) → Proper x → setIn ts row p x ≡ becomes row′ → Done ts p x (a .tree) row row′
   unfolding setIn readIn
@@ -144,7 +148,12 @@ module _ (ts : Tys) (row : List ℕ) (a : Accepted ts row) where
       let o = outcome-done (a .tree) _ _ row′ (rw (a .reads) at e) in
       let f = found-by (placed p (ro ts)) (walk p (ro ts) rootSeat 0 row) x (o .0) in
       let s : write (f .type) x (walk p (ro ts) rootSeat 0 row) row ≡ row′ = written-by (placed p (ro ts)) (f .type) x (walk p (ro ts) rootSeat 0 row) row (f .place) ∙ o .1 in
-      subst (Done ts p x (a .tree) row) s (written p x (f .type) b (f .place) (f .judged))
+      record {
+        type = f .type;
+        place = f .place;
+        judged = judged-fine (f .type) (answerOf (f .type) (walk p (ro ts) rootSeat 0 row)) x (f .judged);
+        made = subst (Made ts p x (f .type) (a .tree) row) s (written p x (f .type) b (f .place) (f .judged));
+      }
 
   -- what a row that stands for a tree is known by
   abbrev pub accepted-as : (c : Cell) (row′ : List ℕ) → Lays (ro ts) c row′ → length row′ ≡ length row → Accepted ts row′

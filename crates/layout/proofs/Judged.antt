@@ -89,7 +89,7 @@ pub record Granted (x : Setting) (T : Ty) (p : List ℕ) (c : Cell) : Type 0 whe
   pub valid : Valid p c
   pub fine : Fine x T (look p c)
 
-text-lays-flag : (k : Text) (e : Cell) (u : List ℕ) → Lays (text k) e u → (flag e ≡ 0) × (length u ≡ length (bytes e))
+pub text-lays-flag : (k : Text) (e : Cell) (u : List ℕ) → Lays (text k) e u → (flag e ≡ 0) × (length u ≡ length (bytes e))
 unfolding codec string
 text-lays-flag k e u y = (leaf-here e (y .fits .plain), ap length (sym (y .is)))
 

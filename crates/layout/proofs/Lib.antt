@@ -22,3 +22,6 @@ pub mod Landed
 pub mod Judged
 pub mod After
 pub mod Told
+pub mod Twice
+pub mod Refused
+pub mod Demanded

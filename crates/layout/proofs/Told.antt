@@ -216,7 +216,7 @@ value-tells row i8 e u x y g = subst (Tells i8 u) (Option·some-injective _ _ g)
 value-tells row f4 e u x y g = let h = fixed-wide f4 4 e u refl y in subst (Tells f4 u) (Option·some-injective _ _ g) (record { bytes = ap some (wide-le h); proper = wide-lt h; present = refl })
 value-tells row f8 e u x y g = let h = fixed-wide f8 8 e u refl y in subst (Tells f8 u) (Option·some-injective _ _ g) (record { bytes = ap some (wide-le h); proper = wide-lt h; present = refl })
 
-value-present : (f : Fixed) (u : List ℕ) → refusalIn (valueOf f u) ≡ none
+pub value-present : (f : Fixed) (u : List ℕ) → refusalIn (valueOf f u) ≡ none
 unfolding valueOf refusalIn
 value-present bo u = refl
 value-present i1 u = refl
