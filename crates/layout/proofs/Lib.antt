@@ -25,3 +25,4 @@ pub mod Told
 pub mod Twice
 pub mod Refused
 pub mod Demanded
+pub mod Starts
