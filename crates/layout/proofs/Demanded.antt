@@ -12,16 +12,29 @@ use Rattle.layout.specs.Cells.{Cell}
 use Rattle.layout.specs.Layout.{Lays}
 use Rattle.layout.specs.Walk.{Seen, bad, nullAt, seen, rootSeat, walk}
 use Rattle.layout.specs.Reading as R
-use Rattle.layout.specs.Reading.{Answer, placed, valueOf, answerOf, found, readIn}
+use Rattle.layout.specs.Reading.{Answer, placed, answerOf, found, readIn, held, Alike}
 use Rattle.layout.specs.Setting as S
 use Rattle.layout.specs.Setting.{Setting, suits, keeps, unless, _or_, refusalIn, judgeAt, write, Outcome, refuses, becomes, outcome, setIn}
 use Rattle.layout.specs.Demand.{told, Proper, Accepted, Grounds, nowhere, underNull, unfit, moves, numberIn, Meet, Demand3}
 use Rattle.layout.proofs.Tree.{look, update, Valid, look-update, update-last}
-use Rattle.layout.proofs.Landed.{Landing, off, atNull, atSeen}
-use Rattle.layout.proofs.Judged.{Granted, slotAt, cellOf, valid-update}
-use Rattle.layout.proofs.After.{outcome-done, outcome-refused, Judged, judged, judged-fine, after, Made, Done, row-lays, row-lands, read-at, turned-down, allowed, written, done, accepted-as}
-use Rattle.layout.proofs.Told.{told-set, told-same, value-present}
-use Rattle.layout.proofs.Twice.{update-look, same-bytes, judge-again}
+use Rattle.layout.proofs.Landed.{placed-type, two-leaves}
+use Rattle.layout.proofs.Judged.{fine-leaf, slotAt, cellOf, valid-update}
+use Rattle.layout.proofs.After.{outcome-done, outcome-refused, Judged, judged, judged-fine, after, Made, Done, row-lays, row-short, row-lands, read-at, turned-down, allowed, written, done, accepted-as}
+use Rattle.layout.proofs.Told.{told-set, told-same}
+use Rattle.layout.proofs.Twice.{update-look, update-comm, same-bytes, judge-again}
+use Rattle.layout.proofs.Seen.{spot, walk-spot, Like, bare-like, held-shown}
+use Rattle.layout.proofs.Changed.{spot-like}
+use Rattle.layout.proofs.Refused.{refused-only, refused-there}
+
+-- a path that the schema hasn't reads alike in any two rows
+nowhere-alike : (ts : Tys) (row row′ q : List ℕ) → placed q (ro ts) ≡ none → Alike ts row row′ q
+unfolding readIn found held
+nowhere-alike ts row row′ q e = record { same = rw e; bytes = rw e }
+
+outcome-number : (c c′ : Cell) (r : Option ℕ) (row row′ : List ℕ) → numberIn (outcome (some c) r row) ≡ numberIn (outcome (some c′) r row′)
+unfolding outcome numberIn
+outcome-number c c′ none row row′ = refl
+outcome-number c c′ (some n) row row′ = refl
 
 module _ (ts : Tys) (row : List ℕ) (a : Accepted ts row) where
   abbrev seenAt : List ℕ → Seen
@@ -76,6 +89,43 @@ module _ (ts : Tys) (row : List ℕ) (a : Accepted ts row) where
     last-alone : (y : Setting) → Proper y → setIn ts row′ p y ≡ setIn ts row p y
     last-alone y by = last-by y by _ refl
 
+    -- ---- elsewhere
+
+    like : (q : List ℕ) (U : Ty) → placed q (ro ts) ≡ some U → p ≢ q → Like U (walk q (ro ts) rootSeat 0 row′) (seenAt q)
+    like q U h n =
+        bare-like U (walk q (ro ts) rootSeat 0 row′) (seenAt q) (spot q (ro ts) 0 c′) (spot q (ro ts) 0 (a .tree)) (walk-spot q (ro ts) c′ rootSeat 0 row′ (d .made .lays) (row-short ts row′ still))
+        (walk-spot q (ro ts) (a .tree) rootSeat 0 row (row-lays ts row a) (row-short ts row a))
+        (spot-like x (d .type) U p q (ro ts) (a .tree) row 0 (placed-type p (ro ts) (d .type) (d .place)) (row-lays ts row a) (row-short ts row a) (d .made .granted) (placed-type q (ro ts) U h) n)
+
+    others-by : (q : List ℕ) → p ≢ q → (m : Option Ty) → placed q (ro ts) ≡ m → Alike ts row′ row q
+    others-by q n none h = nowhere-alike ts row′ row q h
+    others-by q n (some U) h =
+        let l = like q U h n in
+        let s : readIn ts row′ q ≡ readIn ts row q = read-at ts row′ still q U h ∙ l .answers ∙ sym (read-at ts row a q U h) in
+        record {
+          same = s;
+          bytes = ap (held row′) (read-at ts row′ still q U h)
+              ∙ held-shown row′ U q c′ (walk q (ro ts) rootSeat 0 row′) (row-lands ts row′ still q U h)
+              ∙ l .shows
+              ∙ sym (held-shown row U q (a .tree) (seenAt q) (row-lands ts row a q U h))
+              ∙ sym (ap (held row) (read-at ts row a q U h));
+        }
+
+    others : (q : List ℕ) → p ≢ q → Alike ts row′ row q
+    others q n = others-by q n (placed q (ro ts)) refl
+
+    unmoved : (q : List ℕ) (y : Setting) → p ≢ q → numberIn (setIn ts row′ q y) ≡ numberIn (setIn ts row q y)
+    unfolding setIn
+    unmoved q y n = rw (a .reads, still .reads, others q n .same) (outcome-number c′ (a .tree) (judgeAt (placed q (ro ts)) (readIn ts row q) y) _ _)
+
+    -- the other setting, made after this one
+    then-other : (q : List ℕ) (y : Setting) (row₂ : List ℕ) → Proper y → p ≢ q → (f : Done ts q y (a .tree) row row₂)
+        → (setIn ts row′ q y ≡ becomes (write (f .type) y (walk q (ro ts) rootSeat 0 row′) row′)) × Lays (ro ts) (after ts q (f .type) y c′) (write (f .type) y (walk q (ro ts) rootSeat 0 row′) row′)
+    then-other q y row₂ by n f =
+        let U = f .type in
+        let j : judgeAt (some U) (answerOf U (walk q (ro ts) rootSeat 0 row′)) y ≡ none = ap (λ (z : Answer). judgeAt (some U) z y) (like q U (f .place) n .answers) ∙ f .judged in
+        (allowed ts row′ still q y U (f .place) j, written ts row′ still q y U by (f .place) (judged U (answerOf U (walk q (ro ts) rootSeat 0 row′)) y j) .lays)
+
   -- ---- a leaf set to what it reads
 
   abbrev Told : List ℕ → Setting → Option Ty → Type 0
@@ -94,3 +144,33 @@ module _ (ts : Tys) (row : List ℕ) (a : Accepted ts row) where
   no-change : (p : List ℕ) (x : Setting) → told row (readIn ts row p) ≡ some x → x ≢ S.null → setIn ts row p x ≡ becomes row
   unfolding readIn
   no-change p x e n = no-change-by p x (placed p (ro ts)) refl e n
+
+  -- ---- settings of two leaves
+
+  either-order : (p q : List ℕ) (x y : Setting) (row₁ row₂ : List ℕ) → Proper x → Proper y → p ≢ q → setIn ts row p x ≡ becomes row₁ → setIn ts row q y ≡ becomes row₂ → Meet ts row₁ row₂ p q x y
+  either-order p q x y row₁ row₂ bx by n e₁ e₂ =
+      let d₁ = done ts row a p x row₁ bx e₁ in
+      let d₂ = done ts row a q y row₂ by e₂ in
+      let T = d₁ .type in
+      let U = d₂ .type in
+      let part = two-leaves p q (ro ts) T U (placed-type p (ro ts) T (d₁ .place)) (fine-leaf (d₁ .made .granted .fine)) (placed-type q (ro ts) U (d₂ .place)) (fine-leaf (d₂ .made .granted .fine)) n in
+      let o₁ = then-other p x row₁ bx e₁ q y row₂ by n d₂ in
+      let o₂ = then-other q y row₂ by e₂ p x row₁ bx (λ m. n (sym m)) d₁ in
+      record {
+        end = write U y (walk q (ro ts) rootSeat 0 row₁) row₁;
+        one = o₁ .0;
+        other = o₂ .0 ∙ ap becomes (sym (same-bytes (ro ts) _ _ _ _ (o₁ .1) (o₂ .1) (update-comm p q _ _ (a .tree) part (d₁ .made .granted .valid))));
+      }
+
+pub demand3 : (ts : Tys) (row : List ℕ) → Accepted ts row → Demand3 ts row
+demand3 ts row a = record {
+  still = λ p x row′ b e. still ts row a p x row′ b e;
+  reads-as-set = λ p x row′ b e. reads-as-set ts row a p x row′ b e;
+  others = λ p q x row′ b e n. others ts row a p x row′ b e q n;
+  no-change = λ p x e n. no-change ts row a p x e n;
+  last-alone = λ p x y row′ b by e. last-alone ts row a p x row′ b e y by;
+  either-order = λ p q x y row₁ row₂ b by n e₁ e₂. either-order ts row a p q x y row₁ row₂ b by n e₁ e₂;
+  refused-only = λ p x n e. refused-only ts row a p x n e;
+  refused-there = λ p x n g. refused-there ts row a p x n g;
+  unmoved = λ p q x y row′ b n e. unmoved ts row a p x row′ b e q y n;
+}

@@ -23,6 +23,8 @@ pub mod Judged
 pub mod After
 pub mod Told
 pub mod Twice
+pub mod Starts
+pub mod Seen
+pub mod Changed
 pub mod Refused
 pub mod Demanded
-pub mod Starts

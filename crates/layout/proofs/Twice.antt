@@ -104,7 +104,7 @@ leaf-alike : (a b : Cell) (u : List ℕ) → flag a ≡ 0 → length u ≡ lengt
 unfolding onNull bytes
 leaf-alike a b u f n e = record { null = f ∙ sym (ap (λ (z : Cell). flag z) e); size = sym n ∙ sym (ap (λ (z : Cell). length (bytes z)) e) }
 
-text-cell : (w : ℕ) (T : Ty) (k : Text) (x : Setting) (u : List ℕ) → T ≡ text k → x ≡ S.bytes u → cellOf w T x ≡ leaf u
+pub text-cell : (w : ℕ) (T : Ty) (k : Text) (x : Setting) (u : List ℕ) → T ≡ text k → x ≡ S.bytes u → cellOf w T x ≡ leaf u
 unfolding given
 text-cell w T k x u q h = cell-given w T x (ap isNull h) ∙ ap leaf (ap (λ (t : Ty). given t x) q ∙ ap textOf h)
 
