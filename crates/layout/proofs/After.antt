@@ -1,38 +1,26 @@
 -- An accepted setting of an accepted row: the tree that the row then stands for, and that the leaf reads as set. Assumes nothing.
-use mathlib.Core.Path.{_≡_, refl, sym, ap, _∙_, subst}
-use mathlib.Core.Logic.{_≢_, _⊎_, inl, inr}
-use mathlib.Core.Bool.{Bool, true, false, cond}
-use mathlib.Core.Option.{Option, none, some, Option·none-ne-some, Option·some-injective}
+use mathlib.Core.Path.{_≡_, refl, sym, _∙_, subst}
+use mathlib.Core.Bool.{Bool, true, false}
+use mathlib.Core.Option.{Option, none, some, Option·none-ne-some}
 use mathlib.Core.List.{List, [], _∷_}
-use Prim.Native.Nat.{ℕ, zero, suc, _+_, _*_, _≤_, _<_, _^_}
+use Prim.Native.Nat.{ℕ, _<_, _^_}
 use native.Mathlib.Omega.{arith}
-use lib.Dec.{eqb}
-use lib.IntN.{ℤ}
 use lib.ListN.{length}
-use lib.Signed.{mag}
-use borrow.Author.Tests.{eqb-true, ltb-true}
-use Rattle.words.specs.Bytes.{Bytes, le, num, zeros, part}
-use Rattle.words.specs.Bits.{digit}
-use Rattle.words.specs.Signed.{halfOf, toSigned, ofSigned, inRange}
-use Rattle.words.proofs.Numbers.{num-le}
 use Rattle.words.proofs.Parts.{part-whole}
-use Rattle.words.proofs.SignedLaws.{signed-back}
-use Rattle.schema.specs.Types.{Fixed, bo, i1, i2, i4, i8, f4, f8, Text, Ty, fix, text, li, ma, ro, Tys}
-use Rattle.layout.specs.Cells.{Cell, null, leaf, onNull, flag, bytes}
-use Rattle.layout.specs.Layout.{number, string, codec, content, Lays, decode}
-use Rattle.layout.specs.Walk.{Seen, bad, nullAt, seen, rootSeat, walk}
-use Rattle.layout.specs.Reading as R
-use Rattle.layout.specs.Reading.{Answer, typeAt, placed, valueOf, answerOf, found, readIn}
-use Rattle.layout.specs.Setting as S
-use Rattle.layout.specs.Setting.{Setting, isNull, boolBytes, signedBytes, float32Bytes, float64Bytes, inBytes, suits, keeps, unless, _or_, refusalIn, judgeAt, orEmpty, textOf, write, Outcome, refuses, becomes, writeAt, outcome, setIn}
-use Rattle.layout.specs.Demand.{told, Proper, Accepted}
-use Rattle.layout.proofs.Containers.{codec-lawful, decode-lays, lays-decode, lays-fits, bytes-content}
+use Rattle.schema.specs.Types.{Ty, ro, Tys}
+use Rattle.layout.specs.Cells.{Cell, bytes}
+use Rattle.layout.specs.Layout.{Lays}
+use Rattle.layout.specs.Walk.{Seen, rootSeat, walk}
+use Rattle.layout.specs.Reading.{Answer, typeAt, placed, answerOf, found, readIn}
+use Rattle.layout.specs.Setting.{Setting, suits, keeps, unless, _or_, refusalIn, judgeAt, write, refuses, becomes, writeAt, outcome, setIn}
+use Rattle.layout.specs.Demand.{Proper, Accepted}
+use Rattle.layout.proofs.Containers.{decode-lays, lays-decode, lays-fits, bytes-content}
 use Rattle.layout.proofs.Exact.{content-lays}
 use Rattle.layout.proofs.Stepped.{Leafy}
-use Rattle.layout.proofs.Walked.{Sits, walk-finds}
-use Rattle.layout.proofs.Tree.{look, update, Valid, look-update}
-use Rattle.layout.proofs.Landed.{type-end, placed-type, Landing, off, atNull, atSeen, lands}
-use Rattle.layout.proofs.Judged.{Fine, numberNull, numberGiven, textNull, textGiven, fine-leaf, Granted, granted-by, slotAt, given, cellOf, valid-update, Changed, set-at}
+use Rattle.layout.proofs.Walked.{walk-finds}
+use Rattle.layout.proofs.Tree.{update}
+use Rattle.layout.proofs.Landed.{type-end, placed-type, Landing, lands}
+use Rattle.layout.proofs.Judged.{fine-leaf, Granted, granted-by, slotAt, cellOf, Changed, set-at}
 
 -- ---- outcomes
 

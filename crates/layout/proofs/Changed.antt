@@ -1,23 +1,21 @@
 -- Every other path reads as before after a leaf is set: positions, counts and bytes elsewhere stay. Assumes nothing.
 use mathlib.Core.Path.{_≡_, refl, sym, ap, _∙_, subst}
 use mathlib.Core.Logic.{_≢_}
-use mathlib.Core.Bool.{Bool, true, false}
 use mathlib.Core.Option.{Option, none, some}
 use mathlib.Core.List.{List, [], _∷_}
-use Prim.Native.Nat.{ℕ, zero, suc, _+_, _*_, _≤_, _<_, _^_}
+use Prim.Native.Nat.{ℕ, zero, suc, _+_, _<_, _^_}
 use native.Mathlib.Omega.{arith}
 use native.Mathlib.Decide.{decLt, ℕ-discrete}
-use lib.ListN.{length, replicate, getD, set, take, length-set, getD-replicate}
+use lib.ListN.{length, replicate, set, take, length-set, getD-replicate}
 use lib.Seq.{take-at}
-use Rattle.words.specs.Bytes.{Bytes, le, num, pad, zeros, padded}
+use Rattle.words.specs.Bytes.{le, pad, zeros}
 use Rattle.words.proofs.Numbers.{length-le}
-use Rattle.schema.specs.Types.{Fixed, Text, Ty, fix, text, li, ma, ro, Tys, count, field}
+use Rattle.schema.specs.Types.{Fixed, Text, Ty, fix, text, li, ma, ro, Tys, field}
 use Rattle.layout.specs.Cells.{Cell, null, leaf, nodes, node, onNull, flag, bytes, parts, part}
-use Rattle.layout.specs.Layout.{Codec, Kid, number, string, inside, outside, kidOf, kid, slotOf, kidTail, struct, array, pair, codec, kids, content, Lays}
-use Rattle.layout.specs.Walk.{Seen, bad, nullAt, seen, rootSeat, must, walk}
+use Rattle.layout.specs.Layout.{Kid, number, string, inside, kidOf, kid, slotOf, kidTail, struct, array, codec, kids, content, Lays}
+use Rattle.layout.specs.Walk.{Seen, seen, rootSeat}
 use Rattle.layout.specs.Reading.{typeAt, answerOf}
-use Rattle.layout.specs.Setting as S
-use Rattle.layout.specs.Setting.{Setting, isNull, textOf}
+use Rattle.layout.specs.Setting.{Setting}
 use Rattle.layout.proofs.Cells.{parts-node, leaf-bytes}
 use Rattle.layout.proofs.Children.{all-length}
 use Rattle.layout.proofs.Containers.{lays-fits}
@@ -25,15 +23,15 @@ use Rattle.layout.proofs.Exact.{content-lays}
 use Rattle.layout.proofs.Steps.{nobody, kidAt}
 use Rattle.layout.proofs.Bitmaps.{cellAt}
 use Rattle.layout.proofs.Stepped.{Leafy}
-use Rattle.layout.proofs.Walked.{childTy, list-says, kids-at, must-yes}
+use Rattle.layout.proofs.Walked.{childTy, kids-at, must-yes}
 use Rattle.layout.proofs.Tree.{look, update, Valid, part-set, update-count}
 use Rattle.layout.proofs.Updated.{varies}
-use Rattle.layout.proofs.Landed.{type-child, type-end, past-leaf, first-flag, Below, below}
-use Rattle.layout.proofs.Judged.{Fine, numberNull, numberGiven, textNull, textGiven, fine-leaf, Granted, slotIn, slotAt, given, cellOf, Changed, set-at}
+use Rattle.layout.proofs.Landed.{type-child, type-end, past-leaf, first-flag, below}
+use Rattle.layout.proofs.Judged.{Fine, numberNull, numberGiven, textNull, textGiven, fine-leaf, Granted, slotIn, slotAt, cellOf, set-at}
 use Rattle.layout.proofs.Told.{cell-null}
 use Rattle.layout.proofs.Twice.{part-other, text-cell}
 use Rattle.layout.proofs.Starts.{dataAt, bodyStart, startIn, outside-tail, kid-as-outside}
-use Rattle.layout.proofs.Seen.{bare, byNull, spot, shown, Like, like-refl}
+use Rattle.layout.proofs.Seen.{byNull, spot, shown, Like, like-refl}
 
 -- ---- a child replaced by one whose data is as long
 

@@ -1,25 +1,21 @@
 -- Demand 3 holds. Assumes nothing.
-use mathlib.Core.Path.{_≡_, refl, sym, ap, _∙_, subst}
-use mathlib.Core.Logic.{_≢_, _⊎_, inl, inr}
-use mathlib.Core.Bool.{Bool, true, false}
-use mathlib.Core.Option.{Option, none, some, Option·none-ne-some, Option·some-injective}
-use mathlib.Core.List.{List, [], _∷_}
-use Prim.Native.Nat.{ℕ, zero, suc, _<_}
-use native.Mathlib.Omega.{arith}
-use lib.ListN.{length}
-use Rattle.schema.specs.Types.{Fixed, Text, Ty, fix, text, li, ma, ro, Tys}
+use mathlib.Core.Path.{_≡_, refl, sym, ap, _∙_}
+use mathlib.Core.Logic.{_≢_}
+use mathlib.Core.Option.{Option, none, some, Option·none-ne-some}
+use mathlib.Core.List.{List}
+use Prim.Native.Nat.{ℕ}
+use Rattle.schema.specs.Types.{Ty, ro, Tys}
 use Rattle.layout.specs.Cells.{Cell}
 use Rattle.layout.specs.Layout.{Lays}
-use Rattle.layout.specs.Walk.{Seen, bad, nullAt, seen, rootSeat, walk}
-use Rattle.layout.specs.Reading as R
+use Rattle.layout.specs.Walk.{Seen, rootSeat, walk}
 use Rattle.layout.specs.Reading.{Answer, placed, answerOf, found, readIn, held, Alike}
 use Rattle.layout.specs.Setting as S
-use Rattle.layout.specs.Setting.{Setting, suits, keeps, unless, _or_, refusalIn, judgeAt, write, Outcome, refuses, becomes, outcome, setIn}
-use Rattle.layout.specs.Demand.{told, Proper, Accepted, Grounds, nowhere, underNull, unfit, moves, numberIn, Meet, Demand3}
-use Rattle.layout.proofs.Tree.{look, update, Valid, look-update, update-last}
+use Rattle.layout.specs.Setting.{Setting, suits, keeps, judgeAt, write, becomes, outcome, setIn}
+use Rattle.layout.specs.Demand.{told, Proper, Accepted, numberIn, Meet, Demand3}
+use Rattle.layout.proofs.Tree.{look, update, Valid, Parted, look-update, update-last}
 use Rattle.layout.proofs.Landed.{placed-type, two-leaves}
 use Rattle.layout.proofs.Judged.{fine-leaf, slotAt, cellOf, valid-update}
-use Rattle.layout.proofs.After.{outcome-done, outcome-refused, Judged, judged, judged-fine, after, Made, Done, row-lays, row-short, row-lands, read-at, turned-down, allowed, written, done, accepted-as}
+use Rattle.layout.proofs.After.{Judged, judged, judged-fine, after, Done, row-lays, row-short, row-lands, read-at, turned-down, allowed, written, done, accepted-as}
 use Rattle.layout.proofs.Told.{told-set, told-same}
 use Rattle.layout.proofs.Twice.{update-look, update-comm, same-bytes, judge-again}
 use Rattle.layout.proofs.Seen.{spot, walk-spot, Like, bare-like, held-shown}
@@ -79,8 +75,6 @@ module _ (ts : Tys) (row : List ℕ) (a : Accepted ts row) where
         ∙ ap becomes (same-bytes (ro ts) (after ts p T y c′) (after ts p T y (a .tree)) (write T y (walk p (ro ts) rootSeat 0 row′) row′) (write T y (seenAt p) row) (w′ .lays) (w .lays) (update-last p _ _ (a .tree) (d .made .granted .valid)))
         ∙ sym (allowed ts row a p y T q j)
     last-by y by (some n) j =
-        let T = d .type in
-        let q = d .place in
         turned-down ts row′ still p y n (down row′ still (again y ∙ j)) ∙ sym (turned-down ts row a p y n (down row a j))
       where
         down : (row : List ℕ) → Accepted ts row → judgeAt (some (d .type)) (answerOf (d .type) (walk p (ro ts) rootSeat 0 row)) y ≡ some n → judgeAt (placed p (ro ts)) (readIn ts row p) y ≡ some n
@@ -147,19 +141,24 @@ module _ (ts : Tys) (row : List ℕ) (a : Accepted ts row) where
 
   -- ---- settings of two leaves
 
+  -- two different paths at which settings are done are two leaves
+  pub two-places : (p q : List ℕ) (x y : Setting) (row₁ row₂ : List ℕ) → Done ts p x (a .tree) row row₁ → Done ts q y (a .tree) row row₂ → p ≢ q → Parted p q
+  two-places p q x y row₁ row₂ d₁ d₂ n =
+      two-leaves p q (ro ts) (d₁ .type) (d₂ .type) (placed-type p (ro ts) (d₁ .type) (d₁ .place)) (fine-leaf (d₁ .made .granted .fine)) (placed-type q (ro ts) (d₂ .type) (d₂ .place)) (fine-leaf (d₂ .made .granted .fine)) n
+
   either-order : (p q : List ℕ) (x y : Setting) (row₁ row₂ : List ℕ) → Proper x → Proper y → p ≢ q → setIn ts row p x ≡ becomes row₁ → setIn ts row q y ≡ becomes row₂ → Meet ts row₁ row₂ p q x y
   either-order p q x y row₁ row₂ bx by n e₁ e₂ =
       let d₁ = done ts row a p x row₁ bx e₁ in
       let d₂ = done ts row a q y row₂ by e₂ in
       let T = d₁ .type in
       let U = d₂ .type in
-      let part = two-leaves p q (ro ts) T U (placed-type p (ro ts) T (d₁ .place)) (fine-leaf (d₁ .made .granted .fine)) (placed-type q (ro ts) U (d₂ .place)) (fine-leaf (d₂ .made .granted .fine)) n in
+      let part = two-places p q x y row₁ row₂ d₁ d₂ n in
       let o₁ = then-other p x row₁ bx e₁ q y row₂ by n d₂ in
       let o₂ = then-other q y row₂ by e₂ p x row₁ bx (λ m. n (sym m)) d₁ in
       record {
         end = write U y (walk q (ro ts) rootSeat 0 row₁) row₁;
-        one = o₁ .0;
-        other = o₂ .0 ∙ ap becomes (sym (same-bytes (ro ts) _ _ _ _ (o₁ .1) (o₂ .1) (update-comm p q _ _ (a .tree) part (d₁ .made .granted .valid))));
+        p-first = o₁ .0;
+        q-first = o₂ .0 ∙ ap becomes (sym (same-bytes (ro ts) _ _ _ _ (o₁ .1) (o₂ .1) (update-comm p q _ _ (a .tree) part (d₁ .made .granted .valid))));
       }
 
 pub demand3 : (ts : Tys) (row : List ℕ) → Accepted ts row → Demand3 ts row

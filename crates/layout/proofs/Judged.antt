@@ -2,28 +2,25 @@
 -- Assumes nothing.
 use mathlib.Core.Path.{_≡_, refl, sym, ap, _∙_, subst}
 use mathlib.Core.Bool.{Bool, true, false, cond}
-use mathlib.Core.Option.{Option, none, some, Option·none-ne-some, Option·some-injective}
+use mathlib.Core.Option.{Option, none, some, Option·none-ne-some}
 use mathlib.Core.List.{List, [], _∷_}
-use Prim.Native.Nat.{ℕ, zero, suc, _+_, _≤_, _<_, _^_}
+use Prim.Native.Nat.{ℕ, zero, suc, _<_, _^_}
 use native.Mathlib.Omega.{arith}
-use lib.Dec.{eqb}
 use borrow.Author.Tests.{eqb-true}
-use lib.ListN.{length, replicate, length-replicate, getD-replicate}
+use lib.ListN.{length, replicate, length-replicate}
 use Rattle.words.specs.Bytes.{Bytes, zeros}
 use Rattle.words.proofs.Parts.{part-whole}
 use Rattle.words.proofs.Runs.{sets-whole}
-use Rattle.schema.specs.Types.{Fixed, Text, Ty, fix, text, li, ma, ro, Tys}
-use Rattle.layout.specs.Cells.{Cell, null, leaf, nodes, node, onNull, flag, bytes, parts, part}
+use Rattle.schema.specs.Types.{Fixed, Text, Ty, fix, text, li, ma, ro}
+use Rattle.layout.specs.Cells.{Cell, null, leaf, node, onNull, flag, bytes, parts, part}
 use Rattle.layout.specs.Layout.{Kid, NullFits, number, string, kid, slotOf, kidFits, AllFit, struct, array, pair, codec, kids, Lays}
-use Rattle.layout.specs.Walk.{Seen, bad, nullAt, seen, rootSeat, walk}
-use Rattle.layout.specs.Reading as R
-use Rattle.layout.specs.Reading.{Answer, typeAt, valueOf, answerOf}
+use Rattle.layout.specs.Walk.{Seen, rootSeat, walk}
+use Rattle.layout.specs.Reading.{typeAt, answerOf}
 use Rattle.layout.specs.Setting as S
-use Rattle.layout.specs.Setting.{Setting, isNull, inBytes, isSome, fitsText, suits, keepsSize, keepsText, keeps, unless, _or_, refusalIn, judgeAt, orEmpty, textOf, write}
+use Rattle.layout.specs.Setting.{Setting, isNull, inBytes, isSome, fitsText, suits, keepsSize, keepsText, keeps, refusalIn, orEmpty, textOf, write}
 use Rattle.layout.specs.Demand.{Proper}
 use Rattle.layout.proofs.Cells.{parts-node, leaf-here}
-use Rattle.layout.proofs.Children.{all-length}
-use Rattle.layout.proofs.Containers.{codec-lawful, lays-fits, kids-lawful}
+use Rattle.layout.proofs.Containers.{codec-lawful, lays-fits}
 use Rattle.layout.proofs.Steps.{kidAt}
 use Rattle.layout.proofs.Bitmaps.{cellAt}
 use Rattle.layout.proofs.Stepped.{Leafy}
@@ -31,7 +28,7 @@ use Rattle.layout.proofs.Walked.{childTy}
 use Rattle.layout.proofs.Tree.{look, update, Valid, part-set, look-update, update-count}
 use Rattle.layout.proofs.Updated as Updated
 use Rattle.layout.proofs.Updated.{Settable, Becomes, set-lays}
-use Rattle.layout.proofs.Landed.{type-child, type-end, parts-flag, first-flag, Below, below, Landing, off, atNull, atSeen}
+use Rattle.layout.proofs.Landed.{type-child, type-end, first-flag, below, Landing, off, atNull, atSeen}
 
 -- ---- what a leaf takes
 

@@ -1,23 +1,23 @@
 -- What the walk comes to at the end of a path, by what the tree holds there; and a child's bytes in its container's. Assumes nothing.
-use mathlib.Core.Path.{_≡_, refl, sym, ap, _∙_, subst}
+use mathlib.Core.Path.{_≡_, refl, sym, subst}
 use mathlib.Core.Logic.{_≢_, _⊎_, inl, inr}
-use mathlib.Core.Option.{Option, none, some, Option·none-ne-some, Option·some-injective}
+use mathlib.Core.Option.{Option, some, Option·none-ne-some, Option·some-injective}
 use mathlib.Core.List.{List, [], _∷_}
-use Prim.Native.Nat.{ℕ, zero, suc, _+_, _≤_, _<_, _^_}
+use Prim.Native.Nat.{ℕ, zero, suc, _≤_, _<_, _^_}
 use native.Mathlib.Omega.{arith}
 use native.Mathlib.Decide.{decLe, decLt, ℕ-discrete}
 use lib.ListN.{length}
-use Rattle.schema.specs.Types.{Fixed, Text, Ty, fix, text, li, ma, ro, Tys, count, field}
+use Rattle.schema.specs.Types.{Ty, fix, text, li, ma, ro, count, field}
 use Rattle.layout.specs.Reader.{_>>_, assert}
 use Rattle.layout.specs.Cells.{Cell, null, leaf, nodes, onNull, flag, parts, part}
 use Rattle.layout.specs.Layout.{Lays}
-use Rattle.layout.specs.Walk.{Seat, Seen, bad, nullAt, seen, rootSeat, Step, stepIn}
+use Rattle.layout.specs.Walk.{Seat, Seen, bad, nullAt, seen, rootSeat, Step}
 use Rattle.layout.specs.Reading.{typeAt, placed}
 use Rattle.layout.proofs.Stepped as Stepped
-use Rattle.layout.proofs.Stepped.{Leafy, Held, Comes}
+use Rattle.layout.proofs.Stepped.{Leafy, Comes}
 use Rattle.layout.proofs.Walked as Walked
 use Rattle.layout.proofs.Walked.{childTy, comes, Sits, Finds}
-use Rattle.layout.proofs.Tree.{look, update, Valid, Parted}
+use Rattle.layout.proofs.Tree.{look, Valid, Parted}
 
 -- ---- types along a path
 

@@ -1,17 +1,17 @@
 -- A setting of an accepted row is refused where document 01 says so, and only there. Assumes nothing.
-use mathlib.Core.Path.{_≡_, refl, sym, ap, _∙_, subst}
+use mathlib.Core.Path.{_≡_, refl, sym, ap, _∙_}
 use mathlib.Core.Logic.{_⊎_, inl, inr}
 use mathlib.Core.Bool.{Bool, true, false}
 use mathlib.Core.Option.{Option, none, some, Option·none-ne-some, Option·some-injective}
-use mathlib.Core.List.{List, [], _∷_}
+use mathlib.Core.List.{List}
 use Prim.Native.Nat.{ℕ}
 use native.Mathlib.Omega.{arith}
-use Rattle.schema.specs.Types.{Fixed, Text, Ty, fix, text, li, ma, ro, Tys}
+use Rattle.schema.specs.Types.{Ty, fix, text, li, ma, ro, Tys}
 use Rattle.layout.specs.Cells.{Cell}
 use Rattle.layout.specs.Walk.{Seen, bad, nullAt, seen, rootSeat, walk}
 use Rattle.layout.specs.Reading as R
-use Rattle.layout.specs.Reading.{Answer, placed, valueOf, answerOf, found, readIn}
-use Rattle.layout.specs.Setting.{Setting, suits, keeps, unless, _or_, refusalIn, judgeAt, refuses, outcome, setIn}
+use Rattle.layout.specs.Reading.{Answer, placed, answerOf, found, readIn}
+use Rattle.layout.specs.Setting.{Setting, suits, keeps, unless, _or_, refusalIn, judgeAt, refuses, setIn}
 use Rattle.layout.specs.Demand.{Accepted, Grounds, nowhere, underNull, unfit, moves}
 use Rattle.layout.proofs.Landed.{Landing, off, atNull, atSeen}
 use Rattle.layout.proofs.After.{outcome-refused, row-lands, read-at, turned-down}

@@ -1,18 +1,15 @@
 -- What the walk finds is a function of the tree, the seat apart: the walk over trees. Assumes nothing.
-use mathlib.Core.Path.{_≡_, refl, sym, ap, _∙_, subst}
-use mathlib.Core.Option.{Option, none, some}
+use mathlib.Core.Path.{_≡_, refl, sym, ap, _∙_}
 use mathlib.Core.List.{List, [], _∷_}
-use Prim.Native.Nat.{ℕ, zero, suc, _+_, _≤_, _<_, _^_}
+use Prim.Native.Nat.{ℕ, zero, suc, _+_, _<_, _^_}
 use native.Mathlib.Omega.{arith}
 use native.Mathlib.Decide.{decLt}
 use lib.ListN.{length}
-use Rattle.words.specs.Bytes.{part}
-use Rattle.schema.specs.Types.{Fixed, bo, i1, i2, i4, i8, f4, f8, Text, Ty, fix, text, li, ma, ro, Tys}
+use Rattle.schema.specs.Types.{Fixed, bo, i1, i2, i4, i8, f4, f8, Ty, fix, text, li, ma, ro}
 use Rattle.layout.specs.Cells.{Cell, flag, parts, part as partOf}
 use Rattle.layout.specs.Layout.{content, Lays}
-use Rattle.layout.specs.Walk.{Seat, Seen, bad, nullAt, seen, rootSeat, Step, stop, toNull, into, must, own, stepIn, goOn, walk}
-use Rattle.layout.specs.Reading as R
-use Rattle.layout.specs.Reading.{Answer, valueOf, answerOf, held}
+use Rattle.layout.specs.Walk.{Seat, Seen, bad, nullAt, seen, rootSeat, Step, toNull, must, stepIn, goOn, walk}
+use Rattle.layout.specs.Reading.{valueOf, answerOf, held}
 use Rattle.layout.proofs.Exact.{content-lays}
 use Rattle.layout.proofs.Stepped as Stepped
 use Rattle.layout.proofs.Stepped.{Comes}

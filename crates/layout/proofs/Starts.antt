@@ -2,16 +2,16 @@
 use mathlib.Core.Path.{_≡_, refl, sym, ap, _∙_, subst}
 use mathlib.Core.Option.{Option, none, some}
 use mathlib.Core.List.{List, [], _∷_, _++_}
-use Prim.Native.Nat.{ℕ, zero, suc, _+_, _*_, _-_, _/_, _%_, _≤_, _<_, _^_}
+use Prim.Native.Nat.{ℕ, zero, suc, _+_, _*_, _-_, _/_, _≤_, _<_, _^_}
 use native.Mathlib.Nat.{mul-le-mul-right, add-assoc, add-zero}
 use native.Mathlib.Omega.{arith}
-use native.Mathlib.Decide.{decLe, decLt, ℕ-discrete}
+use native.Mathlib.Decide.{decLt}
 use lib.ListN.{length, replicate, take, drop, length-append, length-replicate, getD-replicate}
 use lib.Seq.{take-at, drop-append-add}
-use Rattle.words.specs.Bytes.{le, num, zeros, fill, pad, padded, bitmap, part}
+use Rattle.words.specs.Bytes.{le, num, zeros, fill, pad, bitmap, part}
 use Rattle.words.proofs.Numbers.{length-le, num-le, length-padded}
 use Rattle.schema.specs.Types.{Ty, fix, text, li, ma, ro, Tys, count, field}
-use Rattle.layout.specs.Cells.{Cell, onNull, flag, parts, part as partOf}
+use Rattle.layout.specs.Cells.{Cell, flag, parts, part as partOf}
 use Rattle.layout.specs.Layout.{Codec, Kid, outside, kidOf, kid, slotOf, kidSlot, kidTail, AllFit, flags, slots, tails, front, bodyPut, struct, array, pair, codec, kids, content, Lays}
 use Rattle.layout.specs.Walk.{Seat, Step, stop, toNull, into, mustStep, byFlag, bySlot, seatOf, child, stepIn}
 use Rattle.layout.proofs.Cells.{present}
@@ -22,7 +22,7 @@ use Rattle.layout.proofs.Steps.{nobody, kidAt}
 use Rattle.layout.proofs.Bitmaps.{cellAt}
 use Rattle.layout.proofs.Bodies.{in-middle}
 use Rattle.layout.proofs.Stepped.{Holds}
-use Rattle.layout.proofs.Walked.{childTy, list-says, map-says, kids-at, array-holds, struct-holds}
+use Rattle.layout.proofs.Walked.{list-says, map-says, kids-at, array-holds, struct-holds}
 
 -- the data of the children before child i
 unfoldable pub dataAt : List Kid → List Cell → ℕ → ℕ

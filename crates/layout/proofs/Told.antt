@@ -1,38 +1,38 @@
 -- What a leaf that holds a setting tells is that setting; and what a present leaf tells is a setting of the bytes that it holds.
 -- Assumes nothing.
 use mathlib.Core.Path.{_≡_, refl, sym, ap, _∙_, subst}
-use mathlib.Core.Logic.{_≢_, _⊎_, inl, inr}
+use mathlib.Core.Logic.{_≢_}
 use mathlib.Core.Bool.{Bool, true, false, cond}
-use mathlib.Core.Option.{Option, none, some, Option·none-ne-some, Option·some-injective}
+use mathlib.Core.Option.{none, some, Option·none-ne-some, Option·some-injective}
 use mathlib.Core.List.{List, [], _∷_}
-use Prim.Native.Nat.{ℕ, zero, suc, _+_, _*_, _%_, _≤_, _<_, _^_}
+use Prim.Native.Nat.{ℕ, zero, suc, _%_, _<_, _^_}
 use native.Mathlib.Omega.{arith}
 use lib.Dec.{eqb}
 use lib.IntN.{ℤ}
 use lib.ListN.{length}
 use lib.Signed.{mag}
-use borrow.Author.Tests.{eqb-true, ltb-true, lt-ltb, eq-eqb}
-use Rattle.words.specs.Bytes.{Bytes, le, num, zeros, part}
+use borrow.Author.Tests.{ltb-true, lt-ltb, eq-eqb}
+use Rattle.words.specs.Bytes.{Bytes, le, num, zeros}
 use Rattle.words.specs.Bits.{digit}
 use Rattle.words.specs.Signed.{halfOf, toSigned, ofSigned, inRange}
 use Rattle.words.proofs.Numbers.{num-le, le-num, num-lt}
 use Rattle.words.proofs.SignedLaws.{signed-back, bytes-back, toSigned-mag, half-bytes}
 use Rattle.schema.specs.Marks.{types}
-use Rattle.schema.specs.Types.{Fixed, bo, i1, i2, i4, i8, f4, f8, fixedPlace, width, Text, Ty, fix, text, li, ma, ro, Tys}
-use Rattle.layout.specs.Cells.{Cell, null, leaf, nodes, onNull, flag, bytes}
-use Rattle.layout.specs.Layout.{NumberFits, number, string, limit, codec, Lays}
-use Rattle.layout.specs.Walk.{Seat, Seen, bad, nullAt, seen}
+use Rattle.schema.specs.Types.{Fixed, bo, i1, i2, i4, i8, f4, f8, fixedPlace, width, Text, Ty, fix, text, li, ma, ro}
+use Rattle.layout.specs.Cells.{Cell, null, leaf, onNull, flag, bytes}
+use Rattle.layout.specs.Layout.{number, string, limit, codec, Lays}
+use Rattle.layout.specs.Walk.{Seat, Seen, seen}
 use Rattle.layout.specs.Reading as R
 use Rattle.layout.specs.Reading.{Answer, valueOf, answerOf}
 use Rattle.layout.specs.Setting as S
-use Rattle.layout.specs.Setting.{Setting, isNull, boolBytes, signedBytes, float32Bytes, float64Bytes, inBytes, suits, keeps, keepsText, refusalIn, orEmpty, textOf}
+use Rattle.layout.specs.Setting.{Setting, isNull, boolBytes, signedBytes, float32Bytes, float64Bytes, inBytes, suits, keeps, keepsText, refusalIn}
 use Rattle.layout.specs.Demand.{told, Proper}
 use Rattle.layout.proofs.Containers.{codec-lawful, lays-fits}
 use Rattle.layout.proofs.Stepped.{Leafy}
 use Rattle.layout.proofs.Walked.{Sits}
 use Rattle.layout.proofs.Tree.{look, Valid}
 use Rattle.layout.proofs.Landed.{Landing, off, atNull, atSeen}
-use Rattle.layout.proofs.Judged.{Fine, numberNull, numberGiven, textNull, textGiven, fine-leaf, given, cellOf}
+use Rattle.layout.proofs.Judged.{Fine, numberNull, numberGiven, textNull, textGiven, given, cellOf}
 
 -- ---- a fixed-width leaf's bytes tell the setting that wrote them
 

@@ -1,27 +1,26 @@
 -- Two settings: of one leaf, and of two leaves; and a leaf set to what it holds. Assumes nothing.
 use mathlib.Core.Path.{_≡_, refl, sym, ap, _∙_, subst}
-use mathlib.Core.Logic.{_≢_, _⊎_, inl, inr}
-use mathlib.Core.Bool.{Bool, true, false}
-use mathlib.Core.Option.{Option, none, some, Option·none-ne-some, Option·some-injective}
+use mathlib.Core.Logic.{_≢_, inl, inr}
+use mathlib.Core.Option.{some}
 use mathlib.Core.List.{List, [], _∷_}
-use Prim.Native.Nat.{ℕ, zero, suc, _<_}
+use Prim.Native.Nat.{ℕ, _<_}
 use native.Mathlib.Omega.{arith}
-use lib.ListN.{length, getD, set}
+use lib.ListN.{length, set}
 use lib.Seq.{getD-set-other, set-set, set-comm, set-getD}
-use Rattle.schema.specs.Types.{Fixed, Text, Ty, fix, text, li, ma, ro, Tys}
+use Rattle.schema.specs.Types.{Fixed, Text, Ty, fix, text}
 use Rattle.layout.specs.Cells.{Cell, null, leaf, nodes, Cells, nil, cons, fromCells, toCells, node, onNull, flag, bytes, parts, part}
 use Rattle.layout.specs.Layout.{Lays, content}
-use Rattle.layout.specs.Walk.{Seen, bad, nullAt, seen}
+use Rattle.layout.specs.Walk.{Seen}
 use Rattle.layout.specs.Reading as R
-use Rattle.layout.specs.Reading.{Answer, valueOf, answerOf}
+use Rattle.layout.specs.Reading.{answerOf}
 use Rattle.layout.specs.Setting as S
-use Rattle.layout.specs.Setting.{Setting, isNull, suits, keeps, keepsText, unless, _or_, refusalIn, judgeAt, textOf}
+use Rattle.layout.specs.Setting.{Setting, isNull, keeps, keepsText, refusalIn, judgeAt, textOf}
 use Rattle.layout.proofs.Cells.{parts-node}
 use Rattle.layout.proofs.Exact.{content-lays}
 use Rattle.layout.proofs.Tree.{look, update, Valid, Parted, part-set}
 use Rattle.layout.proofs.Landed.{Landing, off, atNull, atSeen}
 use Rattle.layout.proofs.Judged.{Fine, numberNull, numberGiven, textNull, textGiven, text-lays-flag, given, cellOf}
-use Rattle.layout.proofs.Told.{cell-null, cell-given, lays-flag, value-present}
+use Rattle.layout.proofs.Told.{cell-null, cell-given, value-present}
 
 -- ---- trees
 

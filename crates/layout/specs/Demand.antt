@@ -55,11 +55,11 @@ unfoldable pub numberIn : Outcome → Option ℕ
 numberIn (refuses n) = some n
 numberIn (becomes row) = none
 
--- y at q in the one row and x at p in the other leave the same bytes
+-- Of a row, x set at p made row₁ and y set at q made row₂. Setting each where the other was set first leaves the same bytes.
 pub record Meet (ts : Tys) (row₁ row₂ p q : List ℕ) (x y : Setting) : Type 0 where
   pub end : List ℕ
-  pub one : setIn ts row₁ q y ≡ becomes end
-  pub other : setIn ts row₂ p x ≡ becomes end
+  pub p-first : setIn ts row₁ q y ≡ becomes end
+  pub q-first : setIn ts row₂ p x ≡ becomes end
 
 pub record Demand3 (ts : Tys) (row : List ℕ) : Type 0 where
   -- the row is still accepted
