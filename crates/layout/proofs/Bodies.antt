@@ -44,7 +44,7 @@ unfolding fill
 padded-sets u i v h = rw (length-sets u i v) (sym (sets-ahead u _ i v h))
 
 -- v bytes at j in the middle of three regions
-in-middle : (xs s z zs : List ℕ) (j v : ℕ) → j + v ≤ length s → part (xs ++ ((s ++ z) ++ zs)) (length xs + j) v ≡ part s j v
+pub in-middle : (xs s z zs : List ℕ) (j v : ℕ) → j + v ≤ length s → part (xs ++ ((s ++ z) ++ zs)) (length xs + j) v ≡ part s j v
 in-middle xs s z zs j v h =
     let e : v ≤ length (drop j s) = rw length-drop (omega arith) in
     rw (drop-append-add xs ((s ++ z) ++ zs) j, append-assoc, drop-append-le j s (z ++ zs) (omega arith), take-append-le v (drop j s) (z ++ zs) e)

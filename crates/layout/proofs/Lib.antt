@@ -18,3 +18,13 @@ pub mod Walked
 pub mod Tree
 pub mod Updated
 pub mod Cases
+pub mod Landed
+pub mod Judged
+pub mod After
+pub mod Told
+pub mod Twice
+pub mod Starts
+pub mod Seen
+pub mod Changed
+pub mod Refused
+pub mod Demanded

@@ -29,7 +29,7 @@ Parted [] q = ⊥
 Parted (i ∷ p) [] = ⊥
 Parted (i ∷ p) (j ∷ q) = (i ≢ j) ⊎ ((i ≡ j) × Parted p q)
 
-part-set : (i : ℕ) (c x : Cell) → i < length (parts c) → part i (node (set (parts c) i x)) ≡ x
+pub part-set : (i : ℕ) (c x : Cell) → i < length (parts c) → part i (node (set (parts c) i x)) ≡ x
 part-set i c x h = rw parts-node (getD-set-same (parts c) i x (leaf []) h)
 
 pub look-update : (p : List ℕ) (x c : Cell) → Valid p c → look p (update p x c) ≡ x

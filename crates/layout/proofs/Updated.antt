@@ -269,7 +269,7 @@ text-edit x T k row i t c o b r q h e lim st z f n hb (Stepped.on {s = s} {j = j
 
 -- ---- paths
 
-varies : (t : Ty) (c : Cell) (b : List ℕ) → Lays t c b → 0 < length (parts c) → codec t .wide ≡ none
+pub varies : (t : Ty) (c : Cell) (b : List ℕ) → Lays t c b → 0 < length (parts c) → codec t .wide ≡ none
 unfolding codec number string array pair struct parts
 varies (fix f) c b y h = absurd (omega (arith, ap (λ (z : Cell). length (parts z)) (y .fits .plain)))
 varies (text t) c b y h = refl

@@ -81,12 +81,12 @@ map-says c b p q z lim =
 
 -- ---- one step
 
-array-holds : (o : Option ℕ) → Holds (slotOf o) o
+pub array-holds : (o : Option ℕ) → Holds (slotOf o) o
 unfolding slotOf
 array-holds none = refl
 array-holds (some v) = omega arith
 
-struct-holds : (o : Option ℕ) (c : Codec) → Sized o (c .Fits) (c .put) → Holds 8 o
+pub struct-holds : (o : Option ℕ) (c : Codec) → Sized o (c .Fits) (c .put) → Holds 8 o
 struct-holds none c s = refl
 struct-holds (some v) c s = s .small
 
@@ -195,7 +195,7 @@ comes (ro ts) c i s o b y lim = struct-comes ts c i o b y lim
 
 -- ---- a type's own rules hold of bytes that stand for contents
 
-must-yes : {P : Type 0} (d : Dec P) (n : ℕ) (s : Seen) → P → must d n s ≡ s
+pub must-yes : {P : Type 0} (d : Dec P) (n : ℕ) (s : Seen) → P → must d n s ≡ s
 unfolding must
 must-yes (yes p) n s h = refl
 must-yes (no q) n s h = absurd (q h)

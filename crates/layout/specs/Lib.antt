@@ -8,3 +8,4 @@ pub mod Walk
 pub mod Reading
 pub mod Setting
 pub mod Entries
+pub mod Demand

@@ -1,0 +1,175 @@
+-- Demand 3 holds. Assumes nothing.
+use mathlib.Core.Path.{_≡_, refl, sym, ap, _∙_}
+use mathlib.Core.Logic.{_≢_}
+use mathlib.Core.Option.{Option, none, some, Option·none-ne-some}
+use mathlib.Core.List.{List}
+use Prim.Native.Nat.{ℕ}
+use Rattle.schema.specs.Types.{Ty, ro, Tys}
+use Rattle.layout.specs.Cells.{Cell}
+use Rattle.layout.specs.Layout.{Lays}
+use Rattle.layout.specs.Walk.{Seen, rootSeat, walk}
+use Rattle.layout.specs.Reading.{Answer, placed, answerOf, found, readIn, held, Alike}
+use Rattle.layout.specs.Setting as S
+use Rattle.layout.specs.Setting.{Setting, suits, keeps, judgeAt, write, becomes, outcome, setIn}
+use Rattle.layout.specs.Demand.{told, Proper, Accepted, numberIn, Meet, Demand3}
+use Rattle.layout.proofs.Tree.{look, update, Valid, Parted, look-update, update-last}
+use Rattle.layout.proofs.Landed.{placed-type, two-leaves}
+use Rattle.layout.proofs.Judged.{fine-leaf, slotAt, cellOf, valid-update}
+use Rattle.layout.proofs.After.{Judged, judged, judged-fine, after, Done, row-lays, row-short, row-lands, read-at, turned-down, allowed, written, done, accepted-as}
+use Rattle.layout.proofs.Told.{told-set, told-same}
+use Rattle.layout.proofs.Twice.{update-look, update-comm, same-bytes, judge-again}
+use Rattle.layout.proofs.Seen.{spot, walk-spot, Like, bare-like, held-shown}
+use Rattle.layout.proofs.Changed.{spot-like}
+use Rattle.layout.proofs.Refused.{refused-only, refused-there}
+
+-- a path that the schema hasn't reads alike in any two rows
+nowhere-alike : (ts : Tys) (row row′ q : List ℕ) → placed q (ro ts) ≡ none → Alike ts row row′ q
+unfolding readIn found held
+nowhere-alike ts row row′ q e = record { same = rw e; bytes = rw e }
+
+outcome-number : (c c′ : Cell) (r : Option ℕ) (row row′ : List ℕ) → numberIn (outcome (some c) r row) ≡ numberIn (outcome (some c′) r row′)
+unfolding outcome numberIn
+outcome-number c c′ none row row′ = refl
+outcome-number c c′ (some n) row row′ = refl
+
+module _ (ts : Tys) (row : List ℕ) (a : Accepted ts row) where
+  abbrev seenAt : List ℕ → Seen
+  seenAt p = walk p (ro ts) rootSeat 0 row
+
+  -- ---- after an accepted setting
+
+  module _ (p : List ℕ) (x : Setting) (row′ : List ℕ) (b : Proper x) (e : setIn ts row p x ≡ becomes row′) where
+    abbrev d : Done ts p x (a .tree) row row′
+    d = done ts row a p x row′ b e
+
+    abbrev c′ : Cell
+    c′ = after ts p (d .type) x (a .tree)
+
+    abbrev still : Accepted ts row′
+    still = accepted-as ts row a c′ row′ (d .made .lays) (d .made .size)
+
+    valid′ : Valid p c′
+    valid′ = valid-update p _ (a .tree) (d .made .granted .valid)
+
+    look′ : look p c′ ≡ cellOf (slotAt 0 p (ro ts)) (d .type) x
+    look′ = look-update p _ (a .tree) (d .made .granted .valid)
+
+    reads-as-set : told row′ (readIn ts row′ p) ≡ some x
+    reads-as-set =
+        ap (told row′) (read-at ts row′ still p (d .type) (d .place))
+        ∙ told-set row′ (d .type) p c′ (walk p (ro ts) rootSeat 0 row′) x _ (look p (a .tree)) b (d .made .granted .fine) (row-lands ts row′ still p (d .type) (d .place)) valid′ look′
+
+    -- the same is judged of another setting there
+    again : (y : Setting) → judgeAt (some (d .type)) (answerOf (d .type) (walk p (ro ts) rootSeat 0 row′)) y ≡ judgeAt (some (d .type)) (answerOf (d .type) (seenAt p)) y
+    again y =
+        judge-again row row′ (d .type) p (a .tree) c′ (seenAt p) (walk p (ro ts) rootSeat 0 row′) x y _ (d .made .granted .valid) valid′ (d .made .granted .fine) look′ (row-lands ts row a p (d .type) (d .place)) (row-lands ts row′ still p (d .type) (d .place))
+
+    last-by : (y : Setting) → Proper y → (r : Option ℕ) → judgeAt (some (d .type)) (answerOf (d .type) (seenAt p)) y ≡ r → setIn ts row′ p y ≡ setIn ts row p y
+    last-by y by none j =
+        let T = d .type in
+        let q = d .place in
+        let j′ = again y ∙ j in
+        let w = written ts row a p y T by q (judged T (answerOf T (seenAt p)) y j) in
+        let w′ = written ts row′ still p y T by q (judged T (answerOf T (walk p (ro ts) rootSeat 0 row′)) y j′) in
+        allowed ts row′ still p y T q j′
+        ∙ ap becomes (same-bytes (ro ts) (after ts p T y c′) (after ts p T y (a .tree)) (write T y (walk p (ro ts) rootSeat 0 row′) row′) (write T y (seenAt p) row) (w′ .lays) (w .lays) (update-last p _ _ (a .tree) (d .made .granted .valid)))
+        ∙ sym (allowed ts row a p y T q j)
+    last-by y by (some n) j =
+        turned-down ts row′ still p y n (down row′ still (again y ∙ j)) ∙ sym (turned-down ts row a p y n (down row a j))
+      where
+        down : (row : List ℕ) → Accepted ts row → judgeAt (some (d .type)) (answerOf (d .type) (walk p (ro ts) rootSeat 0 row)) y ≡ some n → judgeAt (placed p (ro ts)) (readIn ts row p) y ≡ some n
+        down row a j = rw (read-at ts row a p (d .type) (d .place), d .place) j
+
+    last-alone : (y : Setting) → Proper y → setIn ts row′ p y ≡ setIn ts row p y
+    last-alone y by = last-by y by _ refl
+
+    -- ---- elsewhere
+
+    like : (q : List ℕ) (U : Ty) → placed q (ro ts) ≡ some U → p ≢ q → Like U (walk q (ro ts) rootSeat 0 row′) (seenAt q)
+    like q U h n =
+        bare-like U (walk q (ro ts) rootSeat 0 row′) (seenAt q) (spot q (ro ts) 0 c′) (spot q (ro ts) 0 (a .tree)) (walk-spot q (ro ts) c′ rootSeat 0 row′ (d .made .lays) (row-short ts row′ still))
+        (walk-spot q (ro ts) (a .tree) rootSeat 0 row (row-lays ts row a) (row-short ts row a))
+        (spot-like x (d .type) U p q (ro ts) (a .tree) row 0 (placed-type p (ro ts) (d .type) (d .place)) (row-lays ts row a) (row-short ts row a) (d .made .granted) (placed-type q (ro ts) U h) n)
+
+    others-by : (q : List ℕ) → p ≢ q → (m : Option Ty) → placed q (ro ts) ≡ m → Alike ts row′ row q
+    others-by q n none h = nowhere-alike ts row′ row q h
+    others-by q n (some U) h =
+        let l = like q U h n in
+        let s : readIn ts row′ q ≡ readIn ts row q = read-at ts row′ still q U h ∙ l .answers ∙ sym (read-at ts row a q U h) in
+        record {
+          same = s;
+          bytes = ap (held row′) (read-at ts row′ still q U h)
+              ∙ held-shown row′ U q c′ (walk q (ro ts) rootSeat 0 row′) (row-lands ts row′ still q U h)
+              ∙ l .shows
+              ∙ sym (held-shown row U q (a .tree) (seenAt q) (row-lands ts row a q U h))
+              ∙ sym (ap (held row) (read-at ts row a q U h));
+        }
+
+    others : (q : List ℕ) → p ≢ q → Alike ts row′ row q
+    others q n = others-by q n (placed q (ro ts)) refl
+
+    unmoved : (q : List ℕ) (y : Setting) → p ≢ q → numberIn (setIn ts row′ q y) ≡ numberIn (setIn ts row q y)
+    unfolding setIn
+    unmoved q y n = rw (a .reads, still .reads, others q n .same) (outcome-number c′ (a .tree) (judgeAt (placed q (ro ts)) (readIn ts row q) y) _ _)
+
+    -- the other setting, made after this one
+    then-other : (q : List ℕ) (y : Setting) (row₂ : List ℕ) → Proper y → p ≢ q → (f : Done ts q y (a .tree) row row₂)
+        → (setIn ts row′ q y ≡ becomes (write (f .type) y (walk q (ro ts) rootSeat 0 row′) row′)) × Lays (ro ts) (after ts q (f .type) y c′) (write (f .type) y (walk q (ro ts) rootSeat 0 row′) row′)
+    then-other q y row₂ by n f =
+        let U = f .type in
+        let j : judgeAt (some U) (answerOf U (walk q (ro ts) rootSeat 0 row′)) y ≡ none = ap (λ (z : Answer). judgeAt (some U) z y) (like q U (f .place) n .answers) ∙ f .judged in
+        (allowed ts row′ still q y U (f .place) j, written ts row′ still q y U by (f .place) (judged U (answerOf U (walk q (ro ts) rootSeat 0 row′)) y j) .lays)
+
+  -- ---- a leaf set to what it reads
+
+  abbrev Told : List ℕ → Setting → Option Ty → Type 0
+  Told p x m = told row (found m (seenAt p)) ≡ some x
+
+  no-change-by : (p : List ℕ) (x : Setting) (m : Option Ty) → placed p (ro ts) ≡ m → Told p x m → x ≢ S.null → setIn ts row p x ≡ becomes row
+  unfolding found told
+  no-change-by p x none q e n = absurd (Option·none-ne-some _ e)
+  no-change-by p x (some T) q e n =
+      let s = told-same row T p (a .tree) (seenAt p) x (row-lands ts row a p T q) e n in
+      let j : Judged T (answerOf T (seenAt p)) x = record { present = s .1 .present; suits = s .1 .suits; keeps = s .1 .keeps } in
+      let w = written ts row a p x T (s .1 .proper) q j in
+      let t : after ts p T x (a .tree) ≡ a .tree = ap (λ (z : Cell). update p z (a .tree)) (s .1 .is _) ∙ update-look p (a .tree) (s .0) in
+      allowed ts row a p x T q (judged-fine T (answerOf T (seenAt p)) x j) ∙ ap becomes (same-bytes (ro ts) _ (a .tree) (write T x (seenAt p) row) row (w .lays) (row-lays ts row a) t)
+
+  no-change : (p : List ℕ) (x : Setting) → told row (readIn ts row p) ≡ some x → x ≢ S.null → setIn ts row p x ≡ becomes row
+  unfolding readIn
+  no-change p x e n = no-change-by p x (placed p (ro ts)) refl e n
+
+  -- ---- settings of two leaves
+
+  -- two different paths at which settings are done are two leaves
+  pub two-places : (p q : List ℕ) (x y : Setting) (row₁ row₂ : List ℕ) → Done ts p x (a .tree) row row₁ → Done ts q y (a .tree) row row₂ → p ≢ q → Parted p q
+  two-places p q x y row₁ row₂ d₁ d₂ n =
+      two-leaves p q (ro ts) (d₁ .type) (d₂ .type) (placed-type p (ro ts) (d₁ .type) (d₁ .place)) (fine-leaf (d₁ .made .granted .fine)) (placed-type q (ro ts) (d₂ .type) (d₂ .place)) (fine-leaf (d₂ .made .granted .fine)) n
+
+  either-order : (p q : List ℕ) (x y : Setting) (row₁ row₂ : List ℕ) → Proper x → Proper y → p ≢ q → setIn ts row p x ≡ becomes row₁ → setIn ts row q y ≡ becomes row₂ → Meet ts row₁ row₂ p q x y
+  either-order p q x y row₁ row₂ bx by n e₁ e₂ =
+      let d₁ = done ts row a p x row₁ bx e₁ in
+      let d₂ = done ts row a q y row₂ by e₂ in
+      let T = d₁ .type in
+      let U = d₂ .type in
+      let part = two-places p q x y row₁ row₂ d₁ d₂ n in
+      let o₁ = then-other p x row₁ bx e₁ q y row₂ by n d₂ in
+      let o₂ = then-other q y row₂ by e₂ p x row₁ bx (λ m. n (sym m)) d₁ in
+      record {
+        end = write U y (walk q (ro ts) rootSeat 0 row₁) row₁;
+        p-first = o₁ .0;
+        q-first = o₂ .0 ∙ ap becomes (sym (same-bytes (ro ts) _ _ _ _ (o₁ .1) (o₂ .1) (update-comm p q _ _ (a .tree) part (d₁ .made .granted .valid))));
+      }
+
+pub demand3 : (ts : Tys) (row : List ℕ) → Accepted ts row → Demand3 ts row
+demand3 ts row a = record {
+  still = λ p x row′ b e. still ts row a p x row′ b e;
+  reads-as-set = λ p x row′ b e. reads-as-set ts row a p x row′ b e;
+  others = λ p q x row′ b e n. others ts row a p x row′ b e q n;
+  no-change = λ p x e n. no-change ts row a p x e n;
+  last-alone = λ p x y row′ b by e. last-alone ts row a p x row′ b e y by;
+  either-order = λ p q x y row₁ row₂ b by n e₁ e₂. either-order ts row a p q x y row₁ row₂ b by n e₁ e₂;
+  refused-only = λ p x n e. refused-only ts row a p x n e;
+  refused-there = λ p x n g. refused-there ts row a p x n g;
+  unmoved = λ p q x y row′ b n e. unmoved ts row a p x row′ b e q y n;
+}

@@ -1,0 +1,82 @@
+-- Demand 3, as it is read: what setting one leaf of an accepted row does, and what it leaves. Assumes nothing: these are definitions.
+use mathlib.Core.Path.{_≡_}
+use mathlib.Core.Logic.{_≢_}
+use mathlib.Core.Bool.{true, false}
+use mathlib.Core.Option.{Option, none, some}
+use mathlib.Core.List.{List}
+use Prim.Native.Nat.{ℕ, _^_, _≤_, _<_}
+use lib.ListN.{length}
+use Rattle.words.specs.Bytes.{Bytes, part}
+use Rattle.schema.specs.Types.{Ty, ro, Tys}
+use Rattle.layout.specs.Cells.{Cell}
+use Rattle.layout.specs.Layout.{decode}
+use Rattle.layout.specs.Reading as R
+use Rattle.layout.specs.Reading.{Answer, placed, readIn, Alike}
+use Rattle.layout.specs.Setting as S
+use Rattle.layout.specs.Setting.{Setting, suits, keeps, refusalIn, Outcome, refuses, becomes, setIn}
+
+-- an answer as the setting that it shows; a byte range as the bytes that the row holds there
+unfoldable pub told : List ℕ → Answer → Option Setting
+told row R.null = some S.null
+told row (R.bool v) = some (S.bool v)
+told row (R.signed z) = some (S.signed z)
+told row (R.float32 n) = some (S.float32 n)
+told row (R.float64 n) = some (S.float64 n)
+told row (R.bytes o n) = some (S.bytes (part row o n))
+told row (R.container o n k) = none
+told row (R.refused n) = none
+
+-- what code can pass: 32 and 64 bits of a float, and bytes
+abbrev pub Proper : Setting → Type 0
+Proper S.null = Unit {0}
+Proper (S.bool v) = Unit {0}
+Proper (S.signed z) = Unit {0}
+Proper (S.float32 n) = n < 2 ^ 32
+Proper (S.float64 n) = n < 2 ^ 64
+Proper (S.bytes u) = Bytes u
+
+-- check accepts the row
+pub record Accepted (ts : Tys) (row : List ℕ) : Type 0 where
+  pub bytes : Bytes row
+  pub size : length row ≤ 16384
+  pub tree : Cell
+  pub reads : decode (ro ts) row ≡ some tree
+
+-- Where document 01 says that a setting of an accepted row is refused: no such place; a null before the path's end; the setting doesn't
+-- fit the place's type, or the place is a container; the place's byte size, or a varying place's nullness, would change.
+pub data Grounds (ts : Tys) (row p : List ℕ) (x : Setting) : ℕ → Type 0 where
+  nowhere : readIn ts row p ≡ R.refused 5 → Grounds ts row p x 5
+  underNull : readIn ts row p ≡ R.refused 6 → Grounds ts row p x 6
+  unfit : {t : Ty} → placed p (ro ts) ≡ some t → refusalIn (readIn ts row p) ≡ none → suits t x ≡ false → Grounds ts row p x 8
+  moves : {t : Ty} → placed p (ro ts) ≡ some t → refusalIn (readIn ts row p) ≡ none → suits t x ≡ true → keeps t (readIn ts row p) x ≡ false → Grounds ts row p x 9
+
+-- the number of a refused setting
+unfoldable pub numberIn : Outcome → Option ℕ
+numberIn (refuses n) = some n
+numberIn (becomes row) = none
+
+-- Of a row, x set at p made row₁ and y set at q made row₂. Setting each where the other was set first leaves the same bytes.
+pub record Meet (ts : Tys) (row₁ row₂ p q : List ℕ) (x y : Setting) : Type 0 where
+  pub end : List ℕ
+  pub p-first : setIn ts row₁ q y ≡ becomes end
+  pub q-first : setIn ts row₂ p x ≡ becomes end
+
+pub record Demand3 (ts : Tys) (row : List ℕ) : Type 0 where
+  -- the row is still accepted
+  pub still : (p : List ℕ) (x : Setting) (row′ : List ℕ) → Proper x → setIn ts row p x ≡ becomes row′ → Accepted ts row′
+  -- the leaf reads as set, float bits included
+  pub reads-as-set : (p : List ℕ) (x : Setting) (row′ : List ℕ) → Proper x → setIn ts row p x ≡ becomes row′ → told row′ (readIn ts row′ p) ≡ some x
+  -- every other path reads as before
+  pub others : (p q : List ℕ) (x : Setting) (row′ : List ℕ) → Proper x → setIn ts row p x ≡ becomes row′ → p ≢ q → Alike ts row′ row q
+  -- setting a present leaf to what it reads alters no byte
+  pub no-change : (p : List ℕ) (x : Setting) → told row (readIn ts row p) ≡ some x → x ≢ S.null → setIn ts row p x ≡ becomes row
+  -- two settings of one leaf leave what the last alone leaves
+  pub last-alone : (p : List ℕ) (x y : Setting) (row′ : List ℕ) → Proper x → Proper y → setIn ts row p x ≡ becomes row′ → setIn ts row′ p y ≡ setIn ts row p y
+  -- settings of two different leaves leave the same bytes in either order
+  pub either-order : (p q : List ℕ) (x y : Setting) (row₁ row₂ : List ℕ) → Proper x → Proper y → p ≢ q → setIn ts row p x ≡ becomes row₁ → setIn ts row q y ≡ becomes row₂ → Meet ts row₁ row₂ p q x y
+  -- a setting is refused only where document 01 says so
+  pub refused-only : (p : List ℕ) (x : Setting) (n : ℕ) → setIn ts row p x ≡ refuses n → Grounds ts row p x n
+  -- and there it is refused, with that number
+  pub refused-there : (p : List ℕ) (x : Setting) (n : ℕ) → Grounds ts row p x n → setIn ts row p x ≡ refuses n
+  -- and no accepted setting made before it at another leaf changes that
+  pub unmoved : (p q : List ℕ) (x y : Setting) (row′ : List ℕ) → Proper x → p ≢ q → setIn ts row p x ≡ becomes row′ → numberIn (setIn ts row′ q y) ≡ numberIn (setIn ts row q y)
