@@ -13,7 +13,6 @@ use Rattle.words.proofs.Numbers.{length-le}
 use Rattle.schema.specs.Types.{Fixed, Text, Ty, fix, text, li, ma, ro, Tys, field}
 use Rattle.layout.specs.Cells.{Cell, null, leaf, nodes, node, onNull, flag, bytes, parts, part}
 use Rattle.layout.specs.Layout.{Kid, number, string, inside, kidOf, kid, slotOf, kidTail, struct, array, codec, kids, content, Lays}
-use Rattle.layout.specs.Walk.{Seen, seen, rootSeat}
 use Rattle.layout.specs.Reading.{typeAt, answerOf}
 use Rattle.layout.specs.Setting.{Setting}
 use Rattle.layout.proofs.Cells.{parts-node, leaf-bytes}
@@ -23,7 +22,8 @@ use Rattle.layout.proofs.Exact.{content-lays}
 use Rattle.layout.proofs.Steps.{nobody, kidAt}
 use Rattle.layout.proofs.Bitmaps.{cellAt}
 use Rattle.layout.proofs.Stepped.{Leafy}
-use Rattle.layout.proofs.Walked.{childTy, kids-at, must-yes}
+use Rattle.layout.specs.Walk.{Seen, seen, rootSeat, childTy}
+use Rattle.layout.proofs.Walked.{kids-at, must-yes}
 use Rattle.layout.proofs.Tree.{look, update, Valid, part-set, update-count}
 use Rattle.layout.proofs.Updated.{varies}
 use Rattle.layout.proofs.Landed.{type-child, type-end, past-leaf, first-flag, below}

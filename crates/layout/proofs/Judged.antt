@@ -14,7 +14,6 @@ use Rattle.words.proofs.Runs.{sets-whole}
 use Rattle.schema.specs.Types.{Fixed, Text, Ty, fix, text, li, ma, ro}
 use Rattle.layout.specs.Cells.{Cell, null, leaf, node, onNull, flag, bytes, parts, part}
 use Rattle.layout.specs.Layout.{Kid, NullFits, number, string, kid, slotOf, kidFits, AllFit, struct, array, pair, codec, kids, Lays}
-use Rattle.layout.specs.Walk.{Seen, rootSeat, walk}
 use Rattle.layout.specs.Reading.{typeAt, answerOf}
 use Rattle.layout.specs.Setting as S
 use Rattle.layout.specs.Setting.{Setting, isNull, inBytes, isSome, fitsText, suits, keepsSize, keepsText, keeps, refusalIn, orEmpty, textOf, write}
@@ -24,7 +23,7 @@ use Rattle.layout.proofs.Containers.{codec-lawful, lays-fits}
 use Rattle.layout.proofs.Steps.{kidAt}
 use Rattle.layout.proofs.Bitmaps.{cellAt}
 use Rattle.layout.proofs.Stepped.{Leafy}
-use Rattle.layout.proofs.Walked.{childTy}
+use Rattle.layout.specs.Walk.{Seen, rootSeat, walk, childTy}
 use Rattle.layout.proofs.Tree.{look, update, Valid, part-set, look-update, update-count}
 use Rattle.layout.proofs.Updated as Updated
 use Rattle.layout.proofs.Updated.{Settable, Becomes, set-lays}

@@ -11,12 +11,12 @@ use Rattle.schema.specs.Types.{Ty, fix, text, li, ma, ro, count, field}
 use Rattle.layout.specs.Reader.{_>>_, assert}
 use Rattle.layout.specs.Cells.{Cell, null, leaf, nodes, onNull, flag, parts, part}
 use Rattle.layout.specs.Layout.{Lays}
-use Rattle.layout.specs.Walk.{Seat, Seen, bad, nullAt, seen, rootSeat, Step}
 use Rattle.layout.specs.Reading.{typeAt, placed}
 use Rattle.layout.proofs.Stepped as Stepped
 use Rattle.layout.proofs.Stepped.{Leafy, Comes}
 use Rattle.layout.proofs.Walked as Walked
-use Rattle.layout.proofs.Walked.{childTy, comes, Sits, Finds}
+use Rattle.layout.specs.Walk.{Seat, Seen, bad, nullAt, seen, rootSeat, Step, childTy}
+use Rattle.layout.proofs.Walked.{comes, Sits, Finds}
 use Rattle.layout.proofs.Tree.{look, Valid, Parted}
 
 -- ---- types along a path

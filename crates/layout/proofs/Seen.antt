@@ -8,12 +8,12 @@ use lib.ListN.{length}
 use Rattle.schema.specs.Types.{Fixed, bo, i1, i2, i4, i8, f4, f8, Ty, fix, text, li, ma, ro}
 use Rattle.layout.specs.Cells.{Cell, flag, parts, part as partOf}
 use Rattle.layout.specs.Layout.{content, Lays}
-use Rattle.layout.specs.Walk.{Seat, Seen, bad, nullAt, seen, rootSeat, Step, toNull, must, stepIn, goOn, walk}
 use Rattle.layout.specs.Reading.{valueOf, answerOf, held}
 use Rattle.layout.proofs.Exact.{content-lays}
 use Rattle.layout.proofs.Stepped as Stepped
 use Rattle.layout.proofs.Stepped.{Comes}
-use Rattle.layout.proofs.Walked.{childTy, comes, must-yes, own-holds, Sits}
+use Rattle.layout.specs.Walk.{Seat, Seen, bad, nullAt, seen, rootSeat, Step, toNull, must, stepIn, goOn, walk, childTy}
+use Rattle.layout.proofs.Walked.{comes, must-yes, own-holds, Sits}
 use Rattle.layout.proofs.Landed.{Landing, off, atNull, atSeen}
 use Rattle.layout.proofs.Starts.{startIn, Starts, step-starts}
 

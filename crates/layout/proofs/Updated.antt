@@ -19,7 +19,6 @@ use Rattle.schema.specs.Marks.{types}
 use Rattle.schema.specs.Types.{Fixed, bo, i1, i2, i4, i8, f4, f8, fixedPlace, width, Text, Ty, fix, text, li, ma, ro}
 use Rattle.layout.specs.Cells.{Cell, null, leaf, nodes, node, onNull, flag, bytes, parts, part as partOf}
 use Rattle.layout.specs.Layout.{Codec, NumberFits, number, string, struct, array, pair, limit, codec, Lays}
-use Rattle.layout.specs.Walk.{Seat, Seen, bad, nullAt, seen, Step, stop, toNull, into, own, stepIn, goOn, walk}
 use Rattle.layout.specs.Setting as S
 use Rattle.layout.specs.Setting.{Setting, isNull, boolBytes, signedBytes, float32Bytes, float64Bytes, inBytes, orEmpty, writeFixed, textOf, write}
 use Rattle.layout.proofs.Cells.{leaf-bytes, parts-node}
@@ -27,7 +26,8 @@ use Rattle.layout.proofs.Stepped as Stepped
 use Rattle.layout.proofs.Stepped.{FixedSlot, Seated, Held, Comes, Leafy}
 use Rattle.layout.proofs.Bitmaps.{nulled}
 use Rattle.layout.proofs.Tree.{update, update-count}
-use Rattle.layout.proofs.Walked.{childTy, comes, own-holds, Sits, sits-in}
+use Rattle.layout.specs.Walk.{Seat, Seen, bad, nullAt, seen, Step, stop, toNull, into, own, stepIn, goOn, walk, childTy}
+use Rattle.layout.proofs.Walked.{comes, own-holds, Sits, sits-in}
 
 -- ---- what a setting writes fits the leaf
 

@@ -17,7 +17,7 @@ use Rattle.schema.specs.Types.{Fixed, Text, Ty, fix, text, li, ma, ro, Tys, end
 use Rattle.layout.specs.Tiles.{total}
 use Rattle.layout.specs.Cells.{Cell, leaf, node, flag, bytes, parts, part as partOf}
 use Rattle.layout.specs.Layout.{Codec, Kid, number, string, kid, slotOf, kidOf, struct, array, pair, list, front, BodyLays, ListLays, limit, codec, kids, Lays}
-use Rattle.layout.specs.Walk.{Seat, Seen, bad, nullAt, seen, Step, stop, toNull, into, must, own, child, stepIn, goOn, walk}
+use Rattle.layout.specs.Walk.{childTy, Seat, Seen, bad, nullAt, seen, Step, stop, toNull, into, must, own, child, stepIn, goOn, walk}
 use Rattle.layout.proofs.Cells.{parts-node}
 use Rattle.layout.proofs.Kids.{Lawful, LawfulKid, Sized}
 use Rattle.layout.proofs.Children.{AllLawful, all-length, tails-eight}
@@ -25,15 +25,6 @@ use Rattle.layout.proofs.Containers.{repeat, body-total, body-take, bod
 use Rattle.layout.proofs.Steps.{nobody, kidAt}
 use Rattle.layout.proofs.Stepped as Stepped
 use Rattle.layout.proofs.Stepped.{Seated, Held, Comes, Holds, Leafy, child-comes}
-
--- the type of child i of a container; of a map 0 is the keys, the others the values
-unfoldable pub childTy : Ty → ℕ → Ty
-childTy (fix f) i = fix f
-childTy (text t) i = text t
-childTy (li t) i = t
-childTy (ma k v) zero = li k
-childTy (ma k v) (suc i) = li v
-childTy (ro ts) i = field ts i
 
 -- ---- headers
 

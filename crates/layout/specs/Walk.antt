@@ -87,6 +87,15 @@ stepIn (ma k v) (suc zero) s o b = into (li v) s (o + (8 + num (take 8 b))) (dro
 stepIn (ma k v) (suc (suc i)) s o b = stop 5
 stepIn (ro ts) i s o b = child 0 8 (count ts) (field ts i) i o b
 
+-- the type of child i of a container; of a map 0 is the keys, the others the values
+unfoldable pub childTy : Ty → ℕ → Ty
+childTy (fix f) i = fix f
+childTy (text t) i = text t
+childTy (li t) i = t
+childTy (ma k v) zero = li k
+childTy (ma k v) (suc i) = li v
+childTy (ro ts) i = field ts i
+
 -- A null child is the answer at the path's end, and refused with 6 before it.
 unfoldable pub goOn : List ℕ → (Ty → Seat → ℕ → List ℕ → Seen) → Step → Seen
 goOn p next (stop n) = bad n

@@ -1,29 +1,28 @@
 -- A child by the place of its type in the table, and a container taken apart: one law for each way through the code. Assumes nothing.
 use mathlib.Core.Path.{_≡_, refl, sym, ap, _∙_, subst}
-use mathlib.Core.Bool.{Bool, true, false, cond}
-use mathlib.Core.Option.{Option, none, some}
-use mathlib.Core.List.{List, [], _∷_, _++_, append-assoc}
-use Prim.Native.Nat.{ℕ, zero, suc, _+_, _*_, _-_, _/_, _%_, _^_, _≤_, _<_}
+use mathlib.Core.Bool.{true, false, cond}
+use mathlib.Core.Option.{Option, none}
+use mathlib.Core.List.{List, _++_, append-assoc}
+use Prim.Native.Nat.{ℕ, _+_, _-_, _/_, _%_, _^_, _≤_, _<_}
 use native.Mathlib.Decide.{decLt}
 use native.Mathlib.Omega.{arith}
 use lib.Dec.{ltb}
-use lib.ListN.{length, take, drop, length-append}
+use lib.ListN.{length, take, drop}
 use borrow.Author.Tests.{lt-ltb, le-ltb}
-use Rattle.words.specs.Bytes.{Bytes, le, num, part, bitmap}
+use Rattle.words.specs.Bytes.{le, num, part}
 use Rattle.words.specs.Bits.{bit}
 use Rattle.words.specs.Reads.{Reads}
-use Rattle.words.proofs.Numbers.{length-le}
 use Rattle.words.proofs.Parts.{length-part}
 use Rattle.schema.specs.Marks.{markAt, line}
-use Rattle.schema.specs.Types.{Ty, fix, text, li, ma, ro, Tys, width, fixedAt, textAt, place, mark}
+use Rattle.schema.specs.Types.{Ty, fix, text, li, ma, ro, width, fixedAt, textAt, place, mark}
 use Rattle.schema.specs.Kinds.{placeAt}
-use Rattle.schema.specs.Walk.{Typed, typeAt}
+use Rattle.schema.specs.Walk.{typeAt}
 use Rattle.schema.proofs.Table.{fixed-high, line-width, place-fixed, place-text}
 use Rattle.schema.proofs.Places.{typed-place, fixed-of, text-of}
-use Rattle.layout.specs.Layout.{slotOf, number, string, array, pair, struct, codec, Lays}
+use Rattle.layout.specs.Layout.{slotOf, number, string, array, pair, struct, codec}
 use Rattle.layout.specs.Listing.{nu}
 use Rattle.listing.specs.Lines.{lines, itemLines, ownBytes, childLines}
-use Rattle.listing.specs.Room.{elementWidth, leafAt, Holds, Within, Own, Seated, Leaf, Child, Container, Items, Leaves, Elements}
+use Rattle.listing.specs.Room.{elementWidth, leafAt, Holds, Within, Own, Seated, Leaf, Child, Container, Items, Numbers, Texts, Leaves, Elements}
 use Rattle.listing.proofs.Held.{fixed-lines, text-lines, mark-at}
 use Rattle.listing.proofs.Children.{Counted, counted}
 
@@ -148,8 +147,12 @@ place-leaf k l = go (decLt k 7)
     go (yes m) = rw (lt-ltb k 7 m) (sym (place-fixed k m))
     go (no m) = rw (le-ltb k 7 (omega arith)) (sym (place-text k (omega arith) l))
 
-pub leaves-counted : {k : ℕ} {b : List ℕ} {pos n w : ℕ} → Leaves k b pos → n ≡ num (part b 0 8) → w ≡ elementWidth k → Counted (leafAt k) b pos n k w
-leaves-counted {k} r en ew = counted (r .items) en (place-leaf k (r .low)) ew
+pub numbers-counted : {k : ℕ} {b : List ℕ} {pos n w : ℕ} → Numbers k b pos → n ≡ num (part b 0 8) → w ≡ elementWidth k → Counted (leafAt k) b pos n k w
+numbers-counted {k} r en ew = counted (r .items) en (place-leaf k (omega (arith, r .fixed))) ew
+
+pub texts-counted : {k : ℕ} {b : List ℕ} {pos n : ℕ} → Texts k b pos → n ≡ num (part b 0 8) → Counted (leafAt k) b pos n k 8
+unfolding elementWidth
+texts-counted {k} r en = counted (r .items) en (place-leaf k (r .low)) (rw (le-ltb k 7 (r .varies)))
 
 -- a list of containers, in slots of 8
 pub elements-counted : {s : List ℕ} {at d : ℕ} {b : List ℕ} {pos n k : ℕ} → Elements s at d b pos → n ≡ num (part b 0 8) → k ≡ placeAt s at → 9 ≤ k → Counted (typeAt s at d) b pos n k 8

@@ -1,34 +1,25 @@
 -- The children of a list and of a struct, as a loop over them meets them. Assumes nothing.
-use mathlib.Core.Path.{_≡_, refl, sym, ap, _∙_, subst}
-use mathlib.Core.Bool.{Bool, true, false, cond}
-use mathlib.Core.Option.{Option, none, some}
-use mathlib.Core.List.{List, [], _∷_, _++_}
-use Prim.Native.Nat.{ℕ, zero, suc, _+_, _*_, _-_, _/_, _%_, _^_, _≤_, _<_}
+use mathlib.Core.Path.{_≡_, refl, ap, _∙_, subst}
+use mathlib.Core.Bool.{false}
+use mathlib.Core.Option.{none}
+use mathlib.Core.List.{List, [], _++_}
+use Prim.Native.Nat.{ℕ, suc, _+_, _*_, _^_, _≤_, _<_}
 use native.Mathlib.Nat.{mul-le-mul-right}
 use native.Mathlib.Omega.{arith}
-use native.Mathlib.Numerals.{add-one}
-use lib.Dec.{ltb}
-use lib.ListN.{length, getD, drop, replicate, length-replicate, getD-replicate}
+use lib.ListN.{length, getD, replicate, length-replicate, getD-replicate}
 use borrow.Author.Tests.{lt-ltb, le-ltb}
-use Rattle.words.specs.Bytes.{Bytes, num, pad, bitmap, part}
+use Rattle.words.specs.Bytes.{num, pad, bitmap, part}
 use Rattle.words.specs.Bits.{bit}
-use Rattle.schema.specs.Marks.{line}
-use Rattle.schema.specs.Types.{Ty, fix, text, li, ma, ro, Tys, end, _then_, count, field, width, place, mark}
-use Rattle.schema.specs.Kinds.{placeAt}
-use Rattle.schema.specs.Walk.{Typed, TypedAll, typeAt, typesAt, nextAt, fieldAt}
+use Rattle.schema.specs.Types.{Ty, fix, text, li, ma, ro, count, width, place, mark}
 use Rattle.schema.proofs.Table.{fixed-high, text-low, width-8}
-use Rattle.schema.proofs.Places.{typed-place}
-use Rattle.schema.proofs.Typing.{typed-count, field-typed}
 use Rattle.layout.specs.Cells.{Cell, leaf, onNull, parts, part as partOf}
-use Rattle.layout.specs.Layout.{slotOf, front, codec, kids, number, string, list, array, pair, struct, Lays}
-use Rattle.layout.specs.Listing.{nu, Script, item, runPut, element, script, scripts}
-use Rattle.layout.specs.Walk.{rootSeat, stepIn, child}
-use Rattle.layout.proofs.Children.{all-length}
-use Rattle.layout.proofs.Containers.{body-total, body-fit, kids-lawful, kids-count}
+use Rattle.layout.specs.Layout.{slotOf, codec, number, string, array, pair, struct, Lays}
+use Rattle.layout.specs.Listing.{nu, Script, item, element, script}
+use Rattle.layout.specs.Walk.{rootSeat, stepIn, child, childTy}
 use Rattle.layout.proofs.Stepped.{Comes}
-use Rattle.layout.proofs.Walked.{childTy, list-says, comes}
-use Rattle.listing.specs.Lines.{cellOf, lines, itemLines, fieldLines, ownBytes, childLines, Written}
-use Rattle.listing.specs.Room.{elementWidth, Holds, Own, Seated, Items}
+use Rattle.layout.proofs.Walked.{list-says, comes}
+use Rattle.listing.specs.Lines.{cellOf, itemLines, childLines, Written}
+use Rattle.listing.specs.Room.{elementWidth, Own, Seated, Items}
 use Rattle.listing.proofs.Found.{There, there-child, lines-child}
 use Rattle.listing.proofs.Turns.{Going, going-start, going-end, going-room, going-next}
 

@@ -1,28 +1,25 @@
 -- A list, a map and a struct taken apart: what the code's calls ask, and that their records together are the container's.
 -- Assumes nothing.
-use mathlib.Core.Path.{_≡_, refl, sym, ap, _∙_, subst}
-use mathlib.Core.List.{List, [], _∷_, _++_, append-assoc}
-use Prim.Native.Nat.{ℕ, zero, suc, _+_, _*_, _-_, _/_, _%_, _^_, _≤_, _<_}
+use mathlib.Core.Path.{_≡_, refl, sym, ap, _∙_}
+use mathlib.Core.List.{List, _++_, append-assoc}
+use Prim.Native.Nat.{ℕ, _+_, _-_, _^_, _≤_, _<_}
 use native.Mathlib.Omega.{arith}
-use lib.ListN.{length, getD, take, drop, length-append, length-take, length-drop}
+use lib.ListN.{length, getD, take, drop, length-append, length-take}
 use lib.Seq.{take-take, take-length}
-use Rattle.words.specs.Bytes.{Bytes, le, num, part, bitmap, pad}
-use Rattle.words.proofs.Numbers.{length-le}
-use Rattle.words.proofs.Parts.{bytes-part, length-part, part-part}
+use Rattle.words.specs.Bytes.{le, num, part}
+use Rattle.words.proofs.Parts.{bytes-part}
 use Rattle.schema.specs.Marks.{markAt}
 use Rattle.schema.specs.Types.{Ty, li, ma, ro, Tys, place, mark}
-use Rattle.schema.specs.Kinds.{placeAt}
-use Rattle.schema.specs.Walk.{Typed, TypedAll, typeAt, typesAt, nextAt, ListAt, MapAt, StructAt}
+use Rattle.schema.specs.Walk.{typeAt, typesAt, nextAt}
 use Rattle.schema.proofs.Places.{typed-marked, place-li, place-ma, place-ro}
 use Rattle.schema.proofs.Typing.{typed-deep}
 use Rattle.schema.proofs.Laws.{byte-room}
 use Rattle.layout.specs.Cells.{Cell, parts, part as partOf}
-use Rattle.layout.specs.Layout.{slotOf, front, array, pair, codec, Lays}
-use Rattle.layout.specs.Listing.{runPut, structScript, listScript, mapScript, element, script, scripts, listing}
-use Rattle.layout.proofs.Walked.{ListSays, MapSays, list-says, map-says}
-use Rattle.listing.specs.Lines.{cellOf, lines, itemLines, fieldLines, Written}
+use Rattle.layout.specs.Layout.{pair, codec, Lays}
+use Rattle.layout.specs.Listing.{structScript, listScript, mapScript, element, script, listing}
+use Rattle.layout.proofs.Walked.{ListSays, list-says, map-says}
+use Rattle.listing.specs.Lines.{cellOf, lines, itemLines, fieldLines}
 use Rattle.listing.specs.Room.{Holds, Container, Elements, Pair, Fields}
-use Rattle.listing.proofs.Wrote.{mark-two}
 use Rattle.listing.proofs.Held.{cell-is, holds-lays}
 
 -- ---- the records of each

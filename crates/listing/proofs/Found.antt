@@ -2,27 +2,26 @@
 use mathlib.Core.Path.{_≡_, refl, sym, ap, _∙_, subst}
 use mathlib.Core.Bool.{Bool, true, false, cond}
 use mathlib.Core.Option.{Option, none, some}
-use mathlib.Core.List.{List, [], _∷_, _++_}
+use mathlib.Core.List.{List, [], _++_}
 use Prim.Native.Nat.{ℕ, zero, suc, _+_, _*_, _/_, _%_, _^_, _≤_, _<_}
 use native.Mathlib.Decide.{decLe, decLt, ℕ-discrete}
 use native.Mathlib.Omega.{arith}
-use lib.Dec.{eqb}
 use lib.ListN.{length, length-take, length-drop}
-use borrow.Author.Tests.{eq-eqb, eqb-true, eqb-false}
+use borrow.Author.Tests.{eqb-true, eqb-false}
 use Rattle.words.specs.Bytes.{Bytes, num, bitmap, part}
 use Rattle.words.specs.Bits.{bitOf, bit}
 use Rattle.words.proofs.BitLaws.{bit-num}
 use Rattle.words.proofs.Parts.{bytes-part}
 use Rattle.schema.specs.Types.{Ty, mark}
-use Rattle.layout.specs.Cells.{Cell, null, leaf, nodes, onNull, flag, parts, part as partOf}
+use Rattle.layout.specs.Cells.{Cell, null, leaf, nodes, onNull, flag, part as partOf}
 use Rattle.layout.specs.Layout.{front, codec, Lays}
 use Rattle.layout.specs.Listing.{nu, script}
 use Rattle.layout.specs.Walk.{Seat, Step, stop, toNull, into, mustStep, bySlot, byFlag, seatOf, child}
 use Rattle.layout.proofs.Cells.{present}
 use Rattle.layout.proofs.Stepped as Stepped
-use Rattle.layout.proofs.Stepped.{Comes, Held}
-use Rattle.listing.specs.Lines.{cellOf, lines, ownBytes, childLines}
-use Rattle.listing.specs.Room.{Holds, Within, Own}
+use Rattle.layout.proofs.Stepped.{Comes}
+use Rattle.listing.specs.Lines.{lines, ownBytes, childLines}
+use Rattle.listing.specs.Room.{Within, Own}
 use Rattle.listing.proofs.Held.{holds-lays, lines-of}
 
 -- ---- what a step shows of the child it comes to

@@ -1,16 +1,16 @@
 -- Bytes that stand for contents, and the contents: each is found from the other. Assumes nothing.
-use mathlib.Core.Path.{_≡_, refl, sym, ap, _∙_, subst}
-use mathlib.Core.Bool.{true, false}
+use mathlib.Core.Path.{_≡_, refl, ap}
+use mathlib.Core.Bool.{true}
 use mathlib.Core.Option.{Option, none, some}
-use mathlib.Core.List.{List, [], _∷_, _++_}
-use Prim.Native.Nat.{ℕ, _+_, _≤_, _<_, _^_}
+use mathlib.Core.List.{List, _++_}
+use Prim.Native.Nat.{ℕ, _≤_}
 use native.Mathlib.Omega.{arith}
 use lib.ListN.{length}
 use Rattle.words.specs.Bytes.{Bytes, le}
 use Rattle.schema.specs.Marks.{markAt}
-use Rattle.schema.specs.Types.{Fixed, Text, width, Ty, fix, text, li, ma, ro, Tys, place, mark}
+use Rattle.schema.specs.Types.{Fixed, Text, Ty, fix, text, place, mark}
 use Rattle.layout.specs.Cells.{Cell, bytes}
-use Rattle.layout.specs.Layout.{number, string, limit, codec, Lays, decode}
+use Rattle.layout.specs.Layout.{number, string, codec, Lays, decode}
 use Rattle.layout.specs.Listing.{numberScript, textScript, script, listing}
 use Rattle.layout.specs.Setting.{isSome}
 use Rattle.layout.proofs.Containers.{decode-lays, lays-decode}

@@ -1,14 +1,13 @@
 -- A row that was checked: what the lister of a container asks of it, and that its records are the row's listing. Assumes nothing.
-use mathlib.Core.Path.{_≡_, refl, sym, ap, _∙_, subst}
-use mathlib.Core.Bool.{true, false}
+use mathlib.Core.Path.{_≡_, refl, sym, ap, _∙_}
+use mathlib.Core.Bool.{true}
 use mathlib.Core.Option.{Option, none, some}
-use mathlib.Core.List.{List, [], _∷_}
-use Prim.Native.Nat.{ℕ, _+_, _*_, _≤_, _<_, _^_}
+use mathlib.Core.List.{List}
+use Prim.Native.Nat.{ℕ, _*_, _≤_}
 use native.Mathlib.Omega.{arith}
 use lib.ListN.{length}
 use Rattle.words.specs.Bytes.{Bytes}
 use Rattle.schema.specs.Types.{Ty, ro, Tys, end, _then_, count, place}
-use Rattle.schema.specs.Kinds.{placeAt}
 use Rattle.schema.specs.Walk.{typeAt, fieldsOf}
 use Rattle.schema.proofs.Judging.{Root, accepted-root}
 use Rattle.schema.proofs.Places.{typed-place}
@@ -20,7 +19,7 @@ use Rattle.layout.specs.Setting.{isSome, orEmpty}
 use Rattle.layout.specs.Entries.{listingOf}
 use Rattle.layout.proofs.Containers.{lays-fits, lays-size}
 use Rattle.layout.proofs.Listed.{listing-short}
-use Rattle.listing.specs.Lines.{orLeaf, cellOf, lines}
+use Rattle.listing.specs.Lines.{cellOf, lines}
 use Rattle.listing.specs.Room.{Holds, Container, Checked}
 use Rattle.listing.proofs.Held.{holds-sound}
 

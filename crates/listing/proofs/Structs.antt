@@ -1,28 +1,28 @@
 -- The fields of a struct, as a loop over them meets them. Assumes nothing.
 use mathlib.Core.Path.{_≡_, refl, sym, ap, _∙_, subst}
-use mathlib.Core.Bool.{true, false}
-use mathlib.Core.List.{List, [], _∷_, _++_}
-use Prim.Native.Nat.{ℕ, zero, suc, _+_, _*_, _-_, _/_, _%_, _^_, _≤_, _<_}
+use mathlib.Core.Bool.{false}
+use mathlib.Core.List.{List, [], _++_}
+use Prim.Native.Nat.{ℕ, zero, suc, _+_, _*_, _^_, _≤_, _<_}
 use native.Mathlib.Omega.{arith}
 use native.Mathlib.Numerals.{add-one}
 use lib.ListN.{length, getD}
-use Rattle.words.specs.Bytes.{Bytes, num, pad, bitmap, part}
+use Rattle.words.specs.Bytes.{bitmap}
 use Rattle.words.specs.Bits.{bit}
 use Rattle.schema.specs.Types.{Ty, ro, Tys, end, _then_, count, field, mark}
 use Rattle.schema.specs.Kinds.{placeAt}
-use Rattle.schema.specs.Walk.{Typed, TypedAll, typeAt, typesAt, nextAt, fieldAt}
+use Rattle.schema.specs.Walk.{Typed, typeAt, typesAt, nextAt, fieldAt}
 use Rattle.schema.proofs.Places.{typed-place}
 use Rattle.schema.proofs.Typing.{FieldLaw, typed-count, field-typed}
 use Rattle.layout.specs.Cells.{Cell, leaf, onNull, parts, part as partOf}
-use Rattle.layout.specs.Layout.{slotOf, front, codec, kids, struct, Lays}
-use Rattle.layout.specs.Listing.{nu, Script, item, script, scripts}
-use Rattle.layout.specs.Walk.{rootSeat, stepIn, child}
+use Rattle.layout.specs.Layout.{codec, kids, struct, Lays}
+use Rattle.layout.specs.Listing.{nu, item, script, scripts}
+use Rattle.layout.specs.Walk.{rootSeat, stepIn, child, childTy}
 use Rattle.layout.proofs.Children.{all-length}
 use Rattle.layout.proofs.Containers.{body-total, body-fit, kids-lawful, kids-count}
 use Rattle.layout.proofs.Stepped.{Comes}
-use Rattle.layout.proofs.Walked.{childTy, comes}
+use Rattle.layout.proofs.Walked.{comes}
 use Rattle.listing.specs.Lines.{cellOf, fieldLines, childLines, Written}
-use Rattle.listing.specs.Room.{Holds, Own, Seated, Fields}
+use Rattle.listing.specs.Room.{Own, Seated, Fields}
 use Rattle.listing.proofs.Found.{There, there-child, lines-child}
 use Rattle.listing.proofs.Turns.{Going, going-start, going-end, going-room, going-next}
 use Rattle.listing.proofs.Children.{slot-most, noScript}

@@ -1,6 +1,6 @@
 -- What the functions of `listing` ask of the bytes that they list. Assumes nothing: these are definitions.
 use mathlib.Core.Path.{_≡_}
-use mathlib.Core.Bool.{Bool, true, false, cond}
+use mathlib.Core.Bool.{true, false, cond}
 use mathlib.Core.Option.{Option, none, some}
 use mathlib.Core.List.{List}
 use Prim.Native.Nat.{ℕ, _+_, _/_, _%_, _^_, _≤_, _<_}
@@ -100,15 +100,18 @@ pub record Leaves (k : ℕ) (b : List ℕ) (pos : ℕ) : Type 0 where
   pub low : k < 9
   pub items : Items (leafAt k) b pos
 
+pub record Numbers (k : ℕ) (b : List ℕ) (pos : ℕ) : Type 0 where
+  pub fixed : k < 7
+  pub items : Items (leafAt k) b pos
+
+pub record Texts (k : ℕ) (b : List ℕ) (pos : ℕ) : Type 0 where
+  pub varies : 7 ≤ k
+  pub low : k < 9
+  pub items : Items (leafAt k) b pos
+
 -- a list of the type at a position
 pub record Elements (s : List ℕ) (at d : ℕ) (b : List ℕ) (pos : ℕ) : Type 0 where
   pub typed : Typed s at d
-  pub items : Items (typeAt s at d) b pos
-
-pub record Containers (s : List ℕ) (at d k : ℕ) (b : List ℕ) (pos : ℕ) : Type 0 where
-  pub typed : Typed s at d
-  pub mark : k ≡ placeAt s at
-  pub high : 9 ≤ k
   pub items : Items (typeAt s at d) b pos
 
 -- a map of the types at two positions

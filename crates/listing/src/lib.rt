@@ -11,7 +11,7 @@ ghost use Rattle.layout.specs.Listing.{nu};
 ghost use Rattle.layout.specs.Setting.{orEmpty};
 ghost use Rattle.layout.specs.Entries.{listingOf};
 ghost use Rattle.listing.specs.Lines.{lines, itemLines, fieldLines, childLines, Written, Answered};
-ghost use Rattle.listing.specs.Room.{CopyRoom, NumberRoom, TextRoom, elementWidth, leafAt, Leaf, Child, Container, Leaves, Elements, Pair, Fields, Checked};
+ghost use Rattle.listing.specs.Room.{CopyRoom, NumberRoom, TextRoom, elementWidth, leafAt, Leaf, Child, Container, Numbers, Texts, Leaves, Elements, Pair, Fields, Checked};
 
 // The mark at place k of the table.
 fn put_mark(out: &mut [u8], pos: usize, k: usize) -> usize
@@ -147,9 +147,9 @@ fn put_leaf(
     )
 }
 
-// The elements of a list of leaves: a loop with no call of the cycle.
-fn list_leaves(k: usize, b: &[u8], out: &mut [u8], pos: usize) -> usize
-    requires { ⌜ Leaves k (now b) pos ⌝ }
+// The elements of a list of numbers.
+fn list_numbers(k: usize, b: &[u8], out: &mut [u8], pos: usize) -> usize
+    requires { ⌜ Numbers k (now b) pos ⌝ }
     ensures { λ r. ⌜ Written (now (out .entry)) pos (itemLines (leafAt k) (now (b .entry))) (now (out .exit)) r ⌝ }
 {
     let n = words::nums::get8(b, 0) as usize;
@@ -158,11 +158,59 @@ fn list_leaves(k: usize, b: &[u8], out: &mut [u8], pos: usize) -> usize
     let mut slot = 8 + words::sizes::bitmap_size(n);
     let mut p = pos;
     while i < n {
-        p = put_leaf(out, p, k, b, 8, i, slot);
+        if words::nulls::is_null(b, 8, i) {
+            p = put_null(out, p);
+            slot += w;
+            i += 1;
+            continue;
+        }
+        p = put_number(out, p, k, b, slot);
         slot += w;
         i += 1;
     }
     p
+}
+
+// The elements of a list of strings or binaries.
+fn list_texts(k: usize, b: &[u8], out: &mut [u8], pos: usize) -> usize
+    requires { ⌜ Texts k (now b) pos ⌝ }
+    ensures { λ r. ⌜ Written (now (out .entry)) pos (itemLines (leafAt k) (now (b .entry))) (now (out .exit)) r ⌝ }
+{
+    let n = words::nums::get8(b, 0) as usize;
+    let mut i: usize = 0;
+    let mut slot = 8 + words::sizes::bitmap_size(n);
+    let mut p = pos;
+    while i < n {
+        if words::nulls::is_null(b, 8, i) {
+            p = put_null(out, p);
+            slot += 8;
+            i += 1;
+            continue;
+        }
+        let x = words::nums::get8(b, slot);
+        p = put_text(
+            out,
+            p,
+            k,
+            b,
+            words::slots::slot_offset(x) as usize,
+            words::slots::slot_size(x) as usize,
+        );
+        slot += 8;
+        i += 1;
+    }
+    p
+}
+
+// The elements of a list of leaves: loops of their own, with no call of the cycle.
+fn list_leaves(k: usize, b: &[u8], out: &mut [u8], pos: usize) -> usize
+    requires { ⌜ Leaves k (now b) pos ⌝ }
+    ensures { λ r. ⌜ Written (now (out .entry)) pos (itemLines (leafAt k) (now (b .entry))) (now (out .exit)) r ⌝ }
+{
+    if k < 7 {
+        return list_numbers(k, b, out, pos);
+    }
+    list_texts(k, b, out, pos)
 }
 
 // Child i of the container b, a container itself. There is no look at what lies under a null.

@@ -22,7 +22,6 @@ use Rattle.layout.specs.Reader.{_>>=_, _>>_, assert}
 use Rattle.layout.specs.Cells.{Cell, leaf, flag, bytes, parts, part as partOf, clean}
 use Rattle.layout.specs.Layout.{number, string, codec, Fits, content, Lays, decode}
 use Rattle.layout.specs.Listing.{listing, parse}
-use Rattle.layout.specs.Walk.{Seat, Seen, bad, nullAt, seen, rootSeat, walk}
 use Rattle.layout.specs.Reading as R
 use Rattle.layout.specs.Reading.{Answer, valueOf, typeAt, placed, answerOf, found, readIn}
 use Rattle.layout.specs.Setting.{isSome, _or_, unless}
@@ -33,7 +32,8 @@ use Rattle.layout.proofs.Containers.{decode-lays, lays-decode, lays-fits, lays-
 use Rattle.layout.proofs.Listed.{parse-listing, listing-parse, listing-clean, listing-short}
 use Rattle.layout.proofs.Exact.{content-lays}
 use Rattle.layout.proofs.Walked as Walked
-use Rattle.layout.proofs.Walked.{childTy, Sits, Finds, walk-finds, list-says}
+use Rattle.layout.specs.Walk.{Seat, Seen, bad, nullAt, seen, rootSeat, walk, childTy}
+use Rattle.layout.proofs.Walked.{Sits, Finds, walk-finds, list-says}
 use Rattle.row.specs.Demand2.{Image, HasListing, ListThenWrite, WriteThenList, Shows, ReadsAs, Demand2}
 use Rattle.row.specs.Demand2 as D
 

@@ -15,7 +15,7 @@ use Rattle.layout.specs.Listing.{listing}
 use Rattle.layout.specs.Reading as R
 use Rattle.layout.specs.Reading.{Answer, valueOf, placed, readIn}
 use Rattle.layout.specs.Entries.{done, checkOf, imageOf, listingOf}
-use Rattle.layout.proofs.Walked.{childTy}
+use Rattle.layout.specs.Walk.{childTy}
 
 -- the listing l has the row as its image, bytes under nulls apart: the row stands for contents that, with zeros under their nulls, are
 -- what writing the listing lays down

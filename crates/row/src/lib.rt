@@ -1,15 +1,17 @@
 // The library's face: each entry takes any bytes of any length and ends with a result or a numbered refusal.
 ghost use mathlib.Core.Path.{_≡_};
-ghost use Rattle.layout.specs.Entries.{judgeOf, checkOf, readOf};
-ghost use Rattle.answers.specs.Meaning.{outcomeMeans, meaning};
+ghost use Rattle.layout.specs.Entries.{judgeOf, checkOf, readOf, setOf};
+ghost use Rattle.answers.specs.Meaning.{outcomeMeans, meaning, settingOf};
 ghost use Rattle.answers.specs.Paths.{pathOf};
 ghost use Rattle.reading.specs.Texts.{TextOf};
-ghost use Rattle.row.specs.Outcomes.{ListsTo};
+ghost use Rattle.row.specs.Outcomes.{ListsTo, WritesTo};
+ghost use Rattle.setting.specs.Writes.{SetAs};
 use answers::Answer;
 use answers::Length;
 use answers::Outcome;
 use answers::Path;
 use answers::Refusal;
+use answers::Setting;
 
 // Whether the bytes are a schema: done, or refused with 1.
 pub fn judge(schema: &[u8]) -> Outcome
@@ -39,6 +41,13 @@ pub fn check(schema: &[u8], row: &[u8]) -> Outcome
     } else {
         Outcome::Refused(Refusal::Layout)
     }
+}
+
+// The row that the format lays down for a listing, at the start of out: its length, or refused with 1, 2, 3 or 4.
+pub fn write(schema: &[u8], listing: &[u8], out: &mut [u8]) -> Length
+    ensures { λ r. ⌜ WritesTo (now (schema .entry)) (now (listing .entry)) (now (out .entry)) r (now (out .exit)) ⌝ }
+{
+    writing::write(schema, listing, out)
 }
 
 // The listing of the row's contents, at the start of out: its length, or refused with 1, 3, 7 or 4.
@@ -72,6 +81,13 @@ pub fn read(schema: &[u8], row: &[u8], path: Path) -> Answer
     ensures { λ r. ⌜ meaning r ≡ readOf (now (schema .entry)) (now (row .entry)) (pathOf path) ⌝ }
 {
     reading::read(schema, row, path)
+}
+
+// One leaf of a row set: done, or refused with 1, 3, 7, 5, 6, 8 or 9. The bytes of a setting lie beside it.
+pub fn set(schema: &[u8], row: &mut [u8], path: Path, value: Setting, bytes: &[u8]) -> Outcome
+    ensures { λ r. ⌜ SetAs (setOf (now (schema .entry)) (now (row .entry)) (pathOf path) (settingOf value (now (bytes .entry)))) (now (row .entry)) (now (row .exit)) r ⌝ }
+{
+    setting::set(schema, row, path, value, bytes)
 }
 
 // A text with a stand-in: the part of the row itself for a present string or binary, and otherwise, refusals included, the whole

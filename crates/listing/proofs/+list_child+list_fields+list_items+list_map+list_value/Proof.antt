@@ -118,59 +118,45 @@ list-map-calls t = (get8-reads.Asked, get8-reads.Learnt, put-count-reads.Asked, 
 abbrev list-value-calls : ℕ → list-value-lts.Claims
 list-value-calls t = (get8-reads.Asked, get8-reads.Learnt, put-count-reads.Asked, put-count-reads.Learnt, list-items-below t, list-items.Post, next-reads.Asked, next-reads.Learnt, list-map-below t, list-map.Post, put-mark-reads.Asked, put-mark-reads.Learnt, wide-reads.Asked, wide-reads.Learnt, list-fields-below t, list-fields.Post)
 
--- src/lib.rt:184:8
 list-child-is-null-requires : (t : ℕ) → list-child-lts.Need-is-null-requires (list-child-calls t) (list-child-at t) list-child.Post
 list-child-is-null-requires t c κs = c .before .before .before .pre .1 .seat .bit-room
 
--- src/lib.rt:185:9
 list-child-put-null-requires : (t : ℕ) → list-child-lts.Need-put-null-requires (list-child-calls t) (list-child-at t) list-child.Post
 list-child-put-null-requires t c κs = omega (arith, c .before .before .before .before .before .before .pre .1 .seat .room)
 
--- src/lib.rt:185:9
 list-child-same-length : (t : ℕ) → list-child-lts.Need-same-length (list-child-calls t) (list-child-at t) list-child.Post
 list-child-same-length t c = search needs
 
--- src/lib.rt:185:9
 list-child-returns : (t : ℕ) → list-child-lts.Need-returns (list-child-calls t) (list-child-at t) list-child.Post
 list-child-returns t c = same-bytes (child-null (c .before .before .before .before .before .before .before .before .before .pre .1 .seat) (sym (c .before .before .before .before .before .is-null .ensures) ∙ c .before .before .before .before .if1 .taken)) (c .before .before .put-null .ensures)
 
--- src/lib.rt:187:9
 list-child-get8-requires : (t : ℕ) → list-child-lts.Need-get8-requires (list-child-calls t) (list-child-at t) list-child.Post
 list-child-get8-requires t c κs = child-slot (c .before .before .before .before .before .pre .1 .seat) (omega (arith, c .before .before .before .before .before .pre .1 .high))
 
--- src/lib.rt:188:15
 list-child-slot-offset-requires : (t : ℕ) → list-child-lts.Need-slot-offset-requires (list-child-calls t) (list-child-at t) list-child.Post
 list-child-slot-offset-requires t c κs = search needs
 
--- src/lib.rt:189:21
 list-child-slot-size-requires : (t : ℕ) → list-child-lts.Need-slot-size-requires (list-child-calls t) (list-child-at t) list-child.Post
 list-child-slot-size-requires t c κs = search needs
 
--- src/lib.rt:189:15
 list-child-add-end : (t : ℕ) → list-child-lts.Need-add-end (list-child-calls t) (list-child-at t) list-child.Post
 list-child-add-end t c = omega (arith, c .before .before .before .before .before .before .before .before .pre .1 .seat .small, container-fits (c .before .before .before .before .before .before .before .before .pre .1) (sym (c .before .before .before .before .is-null .ensures) ∙ c .before .before .before .if1 .left) _ (c .before .before .get8 .ensures) _ _ (c .before .slot-offset .ensures) (c .slot-size .ensures))
 
--- src/lib.rt:190:33
 list-child-sub-list-value : (t : ℕ) → list-child-lts.Need-sub-list-value (list-child-calls t) (list-child-at t) list-child.Post
 list-child-sub-list-value t c = search needs
 
--- src/lib.rt:190:33
 list-child-part-list-value-start : (t : ℕ) → list-child-lts.Need-part-list-value-start (list-child-calls t) (list-child-at t) list-child.Post
 list-child-part-list-value-start t c = search needs
 
--- src/lib.rt:190:33
 list-child-part-list-value-end : (t : ℕ) → list-child-lts.Need-part-list-value-end (list-child-calls t) (list-child-at t) list-child.Post
 list-child-part-list-value-end t c = container-fits (c .before .before .before .before .before .before .before .before .pre .1) (sym (c .before .before .before .before .is-null .ensures) ∙ c .before .before .before .if1 .left) _ (c .before .before .get8 .ensures) _ _ (c .before .slot-offset .ensures) (c .slot-size .ensures)
 
--- src/lib.rt:190:5
 list-child-list-value-requires : (t : ℕ) → list-child-lts.Need-list-value-requires (list-child-calls t) (list-child-at t) list-child.Post
 list-child-list-value-requires t c κs = (omega arith, child-container (c .before .before .before .before .before .before .before .before .before .before .pre .1) (sym (c .before .before .before .before .before .before .is-null .ensures) ∙ c .before .before .before .before .before .if1 .left) _ (c .before .before .before .before .get8 .ensures) _ _ (c .before .before .before .slot-offset .ensures) (c .before .before .slot-size .ensures))
 
--- src/lib.rt:169:1
 list-child-same-length-2 : (t : ℕ) → list-child-lts.Need-same-length-2 (list-child-calls t) (list-child-at t) list-child.Post
 list-child-same-length-2 t c = search needs
 
--- src/lib.rt:169:1
 list-child-returns-2 : (t : ℕ) → list-child-lts.Need-returns-2 (list-child-calls t) (list-child-at t) list-child.Post
 list-child-returns-2 t c = same-bytes (container-lines (c .before .before .before .before .before .before .before .before .before .before .before .before .before .pre .1) (sym (c .before .before .before .before .before .before .before .before .before .is-null .ensures) ∙ c .before .before .before .before .before .before .before .before .if1 .left) _ (c .before .before .before .before .before .before .before .get8 .ensures) _ _ (c .before .before .before .before .before .before .slot-offset .ensures) (c .before .before .before .before .before .slot-size .ensures)) (c .before .before .list-value .ensures)
 
@@ -181,71 +167,54 @@ list-fields-Inv-loop s first n depth b out₀ pos at₀ i₀ slot₀ p₀ out at
 abbrev list-fields-μ-loop : list-fields-lts.MeasureT-loop
 list-fields-μ-loop s first n depth b out₀ pos at₀ i₀ slot₀ p₀ out at i slot p = n - i
 
--- src/lib.rt:274:9
 list-fields-bitmap-size-requires : (t : ℕ) → list-fields-lts.Need-bitmap-size-requires (list-fields-calls t) (list-fields-at t) list-fields.Post list-fields-Inv-loop list-fields-μ-loop
 list-fields-bitmap-size-requires t c κs = omega (arith, c .before .before .before .pre .1 .high)
 
--- src/lib.rt:276:5
 list-fields-loop-holds : (t : ℕ) → list-fields-lts.Need-loop-holds (list-fields-calls t) (list-fields-at t) list-fields.Post list-fields-Inv-loop list-fields-μ-loop
 list-fields-loop-holds t c = fields-start (c .before .before .before .before .pre .1) _ (c .bitmap-size .ensures) _
 
--- src/lib.rt:277:13
 list-fields-place-at-requires : (t : ℕ) → list-fields-lts.Need-place-at-requires (list-fields-calls t) (list-fields-at t) list-fields.Post list-fields-Inv-loop list-fields-μ-loop
 list-fields-place-at-requires t c κs = typed-marked _ _ _ (field-here (c .before .before .before .before .before .before .pre .1) (c .before .loop .inv) (c .loop-test .taken))
 
--- src/lib.rt:279:13
 list-fields-put-leaf-requires : (t : ℕ) → list-fields-lts.Need-put-leaf-requires (list-fields-calls t) (list-fields-at t) list-fields.Post list-fields-Inv-loop list-fields-μ-loop
 list-fields-put-leaf-requires t c κs = (seat-leaf (field-seat (c .before .before .before .before .before .before .before .before .before .pre .1) (c .before .before .before .before .loop .inv) (c .before .before .before .loop-test .taken) _ (c .before .before .place-at .ensures)) (c .before .if1 .taken)) .leaf
 
--- src/lib.rt:280:13
 list-fields-add-at : (t : ℕ) → list-fields-lts.Need-add-at (list-fields-calls t) (list-fields-at t) list-fields.Post list-fields-Inv-loop list-fields-μ-loop
 list-fields-add-at t c = omega (arith, leaf-next _ _ _ _ (field-here (c .before .before .before .before .before .before .before .before .before .before .before .before .pre .1) (c .before .before .before .before .before .before .before .loop .inv) (c .before .before .before .before .before .before .loop-test .taken)) (c .before .before .before .before .before .place-at .ensures) (c .before .before .before .before .if1 .taken), typed-room _ _ _ (field-here (c .before .before .before .before .before .before .before .before .before .before .before .before .pre .1) (c .before .before .before .before .before .before .before .loop .inv) (c .before .before .before .before .before .before .loop-test .taken)))
 
--- src/lib.rt:281:13
 list-fields-add-slot : (t : ℕ) → list-fields-lts.Need-add-slot (list-fields-calls t) (list-fields-at t) list-fields.Post list-fields-Inv-loop list-fields-μ-loop
 list-fields-add-slot t c = omega (arith, field-fits (c .before .before .before .before .before .before .before .before .before .before .before .before .pre .1) (c .before .before .before .before .before .before .before .loop .inv) (c .before .before .before .before .before .before .loop-test .taken), c .before .before .before .before .before .before .before .before .before .before .before .before .pre .1 .holds .small)
 
--- src/lib.rt:282:13
 list-fields-add-i : (t : ℕ) → list-fields-lts.Need-add-i (list-fields-calls t) (list-fields-at t) list-fields.Post list-fields-Inv-loop list-fields-μ-loop
 list-fields-add-i t c = omega arith
 
--- src/lib.rt:276:5
 list-fields-loop-less : (t : ℕ) → list-fields-lts.Need-loop-less (list-fields-calls t) (list-fields-at t) list-fields.Post list-fields-Inv-loop list-fields-μ-loop
 list-fields-loop-less t c = omega arith
 
--- src/lib.rt:276:5
 list-fields-loop-again : (t : ℕ) → list-fields-lts.Need-loop-again (list-fields-calls t) (list-fields-at t) list-fields.Post list-fields-Inv-loop list-fields-μ-loop
 list-fields-loop-again t c = fields-next (c .before .before .before .before .before .before .before .before .before .before .before .before .pre .1) (c .before .before .before .before .before .before .before .loop .inv) (c .before .before .before .before .before .before .loop-test .taken) _ (leaf-next _ _ _ _ (field-here (c .before .before .before .before .before .before .before .before .before .before .before .before .pre .1) (c .before .before .before .before .before .before .before .loop .inv) (c .before .before .before .before .before .before .loop-test .taken)) (c .before .before .before .before .before .place-at .ensures) (c .before .before .before .before .if1 .taken)) (same-bytes ((seat-leaf (field-seat (c .before .before .before .before .before .before .before .before .before .before .before .before .pre .1) (c .before .before .before .before .before .before .before .loop .inv) (c .before .before .before .before .before .before .loop-test .taken) _ (c .before .before .before .before .before .place-at .ensures)) (c .before .before .before .before .if1 .taken)) .lines) (c .before .before .put-leaf .ensures))
 
--- src/lib.rt:285:9
 list-fields-list-child-requires : (t : ℕ) → list-fields-lts.Need-list-child-requires (list-fields-calls t) (list-fields-at t) list-fields.Post list-fields-Inv-loop list-fields-μ-loop
 list-fields-list-child-requires t c κs = (omega arith, record { typed = field-here (c .before .before .before .before .before .before .before .before .before .pre .1) (c .before .before .before .before .loop .inv) (c .before .before .before .loop-test .taken); mark = c .before .before .place-at .ensures; high = c .before .if1 .left; seat = field-seat (c .before .before .before .before .before .before .before .before .before .pre .1) (c .before .before .before .before .loop .inv) (c .before .before .before .loop-test .taken) _ (c .before .before .place-at .ensures) })
 
--- src/lib.rt:286:9
 list-fields-next-requires : (t : ℕ) → list-fields-lts.Need-next-requires (list-fields-calls t) (list-fields-at t) list-fields.Post list-fields-Inv-loop list-fields-μ-loop
 list-fields-next-requires t c κs = field-here (c .before .before .before .before .before .before .before .before .before .before .before .before .pre .1) (c .before .before .before .before .before .before .before .loop .inv) (c .before .before .before .before .before .before .loop-test .taken)
 
--- src/lib.rt:287:9
 list-fields-add-slot-2 : (t : ℕ) → list-fields-lts.Need-add-slot-2 (list-fields-calls t) (list-fields-at t) list-fields.Post list-fields-Inv-loop list-fields-μ-loop
 list-fields-add-slot-2 t c = omega (arith, field-fits (c .before .before .before .before .before .before .before .before .before .before .before .before .before .pre .1) (c .before .before .before .before .before .before .before .before .loop .inv) (c .before .before .before .before .before .before .before .loop-test .taken), c .before .before .before .before .before .before .before .before .before .before .before .before .before .pre .1 .holds .small)
 
--- src/lib.rt:288:9
 list-fields-add-i-2 : (t : ℕ) → list-fields-lts.Need-add-i-2 (list-fields-calls t) (list-fields-at t) list-fields.Post list-fields-Inv-loop list-fields-μ-loop
 list-fields-add-i-2 t c = omega arith
 
--- src/lib.rt:276:5
 list-fields-loop-less-2 : (t : ℕ) → list-fields-lts.Need-loop-less-2 (list-fields-calls t) (list-fields-at t) list-fields.Post list-fields-Inv-loop list-fields-μ-loop
 list-fields-loop-less-2 t c = omega arith
 
--- src/lib.rt:276:5
 list-fields-loop-again-2 : (t : ℕ) → list-fields-lts.Need-loop-again-2 (list-fields-calls t) (list-fields-at t) list-fields.Post list-fields-Inv-loop list-fields-μ-loop
 list-fields-loop-again-2 t c = fields-next (c .before .before .before .before .before .before .before .before .before .before .before .before .before .pre .1) (c .before .before .before .before .before .before .before .before .loop .inv) (c .before .before .before .before .before .before .before .loop-test .taken) _ (c .next .ensures) (c .before .before .before .list-child .ensures)
 
--- src/lib.rt:260:1
 list-fields-same-length : (t : ℕ) → list-fields-lts.Need-same-length (list-fields-calls t) (list-fields-at t) list-fields.Post list-fields-Inv-loop list-fields-μ-loop
 list-fields-same-length t c = search needs
 
--- src/lib.rt:260:1
 list-fields-returns : (t : ℕ) → list-fields-lts.Need-returns (list-fields-calls t) (list-fields-at t) list-fields.Post list-fields-Inv-loop list-fields-μ-loop
 list-fields-returns t c = fields-end (c .before .before .before .before .before .before .pre .1) (c .before .loop .inv) (c .loop-test .left)
 
@@ -256,203 +225,153 @@ list-items-Inv-loop s at depth b out₀ pos k n i₀ slot₀ p₀ out i slot p =
 abbrev list-items-μ-loop : list-items-lts.MeasureT-loop
 list-items-μ-loop s at depth b out₀ pos k n i₀ slot₀ p₀ out i slot p = n - i
 
--- src/lib.rt:243:9
 list-items-place-at-requires : (t : ℕ) → list-items-lts.Need-place-at-requires (list-items-calls t) (list-items-at t) list-items.Post list-items-Inv-loop list-items-μ-loop
 list-items-place-at-requires t c κs = typed-marked _ _ _ (c .before .before .before .pre .1 .typed)
 
--- src/lib.rt:245:9
 list-items-list-leaves-requires : (t : ℕ) → list-items-lts.Need-list-leaves-requires (list-items-calls t) (list-items-at t) list-items.Post list-items-Inv-loop list-items-μ-loop
 list-items-list-leaves-requires t c κs = elements-leaves (c .before .before .before .before .before .before .pre .1) (c .before .before .place-at .ensures) (c .before .if1 .taken) .leaves
 
--- src/lib.rt:245:9
 list-items-same-length : (t : ℕ) → list-items-lts.Need-same-length (list-items-calls t) (list-items-at t) list-items.Post list-items-Inv-loop list-items-μ-loop
 list-items-same-length t c = search needs
 
--- src/lib.rt:245:9
 list-items-returns : (t : ℕ) → list-items-lts.Need-returns (list-items-calls t) (list-items-at t) list-items.Post list-items-Inv-loop list-items-μ-loop
 list-items-returns t c = same-bytes (elements-leaves (c .before .before .before .before .before .before .before .before .before .pre .1) (c .before .before .before .before .before .place-at .ensures) (c .before .before .before .before .if1 .taken) .lines) (c .before .before .list-leaves .ensures)
 
--- src/lib.rt:247:13
 list-items-get8-requires : (t : ℕ) → list-items-lts.Need-get8-requires (list-items-calls t) (list-items-at t) list-items.Post list-items-Inv-loop list-items-μ-loop
 list-items-get8-requires t c κs = items-head (c .before .before .before .before .before .pre .1 .items)
 
--- src/lib.rt:249:24
 list-items-bitmap-size-requires : (t : ℕ) → list-items-lts.Need-bitmap-size-requires (list-items-calls t) (list-items-at t) list-items.Post list-items-Inv-loop list-items-μ-loop
 list-items-bitmap-size-requires t c κs = omega (arith, list-few (elements-counted (c .before .before .before .before .before .before .pre .1) (c .get8 .ensures .is) (c .before .before .place-at .ensures) (c .before .if1 .left)))
 
--- src/lib.rt:249:20
 list-items-add-slot : (t : ℕ) → list-items-lts.Need-add-slot (list-items-calls t) (list-items-at t) list-items.Post list-items-Inv-loop list-items-μ-loop
 list-items-add-slot t c = omega (arith, list-few (elements-counted (c .before .before .before .before .before .before .before .pre .1) (c .before .get8 .ensures .is) (c .before .before .before .place-at .ensures) (c .before .before .if1 .left)), c .bitmap-size .ensures)
 
--- src/lib.rt:251:5
 list-items-loop-holds : (t : ℕ) → list-items-lts.Need-loop-holds (list-items-calls t) (list-items-at t) list-items.Post list-items-Inv-loop list-items-μ-loop
 list-items-loop-holds t c = items-start (elements-counted (c .before .before .before .before .before .before .before .pre .1) (c .before .get8 .ensures .is) (c .before .before .before .place-at .ensures) (c .before .before .if1 .left)) _ (c .bitmap-size .ensures) _
 
--- src/lib.rt:252:9
 list-items-list-child-requires : (t : ℕ) → list-items-lts.Need-list-child-requires (list-items-calls t) (list-items-at t) list-items.Post list-items-Inv-loop list-items-μ-loop
 list-items-list-child-requires t c κs = (omega arith, record { typed = c .before .before .before .before .before .before .before .before .before .before .pre .1 .typed; mark = c .before .before .before .before .before .before .place-at .ensures; high = c .before .before .before .before .before .if1 .left; seat = item-seat (elements-counted (c .before .before .before .before .before .before .before .before .before .before .pre .1) (c .before .before .before .before .get8 .ensures .is) (c .before .before .before .before .before .before .place-at .ensures) (c .before .before .before .before .before .if1 .left)) (c .before .before .loop .inv) (c .before .loop-test .taken) })
 
--- src/lib.rt:253:9
 list-items-add-slot-2 : (t : ℕ) → list-items-lts.Need-add-slot-2 (list-items-calls t) (list-items-at t) list-items.Post list-items-Inv-loop list-items-μ-loop
 list-items-add-slot-2 t c = omega (arith, item-fits (elements-counted (c .before .before .before .before .before .before .before .before .before .before .before .before .before .pre .1) (c .before .before .before .before .before .before .before .get8 .ensures .is) (c .before .before .before .before .before .before .before .before .before .place-at .ensures) (c .before .before .before .before .before .before .before .before .if1 .left)) (c .before .before .before .before .before .loop .inv) (c .before .before .before .before .loop-test .taken), c .before .before .before .before .before .before .before .before .before .before .before .before .before .pre .1 .items .holds .small)
 
--- src/lib.rt:254:9
 list-items-add-i : (t : ℕ) → list-items-lts.Need-add-i (list-items-calls t) (list-items-at t) list-items.Post list-items-Inv-loop list-items-μ-loop
 list-items-add-i t c = omega arith
 
--- src/lib.rt:251:5
 list-items-loop-less : (t : ℕ) → list-items-lts.Need-loop-less (list-items-calls t) (list-items-at t) list-items.Post list-items-Inv-loop list-items-μ-loop
 list-items-loop-less t c = omega arith
 
--- src/lib.rt:251:5
 list-items-loop-again : (t : ℕ) → list-items-lts.Need-loop-again (list-items-calls t) (list-items-at t) list-items.Post list-items-Inv-loop list-items-μ-loop
 list-items-loop-again t c = items-next (elements-counted (c .before .before .before .before .before .before .before .before .before .before .before .before .before .pre .1) (c .before .before .before .before .before .before .before .get8 .ensures .is) (c .before .before .before .before .before .before .before .before .before .place-at .ensures) (c .before .before .before .before .before .before .before .before .if1 .left)) (c .before .before .before .before .before .loop .inv) (c .before .before .before .before .loop-test .taken) (c .before .before .list-child .ensures)
 
--- src/lib.rt:239:1
 list-items-same-length-2 : (t : ℕ) → list-items-lts.Need-same-length-2 (list-items-calls t) (list-items-at t) list-items.Post list-items-Inv-loop list-items-μ-loop
 list-items-same-length-2 t c = search needs
 
--- src/lib.rt:239:1
 list-items-returns-2 : (t : ℕ) → list-items-lts.Need-returns-2 (list-items-calls t) (list-items-at t) list-items.Post list-items-Inv-loop list-items-μ-loop
 list-items-returns-2 t c = items-end (elements-counted (c .before .before .before .before .before .before .before .before .before .pre .1) (c .before .before .before .get8 .ensures .is) (c .before .before .before .before .before .place-at .ensures) (c .before .before .before .before .if1 .left)) (c .before .loop .inv) (c .loop-test .left)
 
--- src/lib.rt:231:16
 list-map-get8-requires : (t : ℕ) → list-map-lts.Need-get8-requires (list-map-calls t) (list-map-at t) list-map.Post
 list-map-get8-requires t c κs = omega (arith, map-head (c .before .before .before .pre .1))
 
--- src/lib.rt:232:15
 list-map-add-end : (t : ℕ) → list-map-lts.Need-add-end (list-map-calls t) (list-map-at t) list-map.Post
 list-map-add-end t c = omega (arith, map-size (c .before .before .before .before .pre .1) _ (c .get8 .ensures .is), c .before .before .before .before .pre .1 .holds .small)
 
--- src/lib.rt:233:37
 list-map-get8-requires-2 : (t : ℕ) → list-map-lts.Need-get8-requires-2 (list-map-calls t) (list-map-at t) list-map.Post
 list-map-get8-requires-2 t c κs = omega (arith, map-head (c .before .before .before .before .before .pre .1))
 
--- src/lib.rt:233:9
 list-map-put-count-requires : (t : ℕ) → list-map-lts.Need-put-count-requires (list-map-calls t) (list-map-at t) list-map.Post
 list-map-put-count-requires t c κs = (omega arith, omega (arith, c .before .before .before .before .before .before .pre .1 .room))
 
--- src/lib.rt:234:37
 list-map-sub-list-items : (t : ℕ) → list-map-lts.Need-sub-list-items (list-map-calls t) (list-map-at t) list-map.Post
-list-map-sub-list-items t c = omega arith
+list-map-sub-list-items t c = omega (arith, map-size (c .before .before .before .before .before .before .before .before .before .pre .1) _ (c .before .before .before .before .before .get8 .ensures .is))
 
--- src/lib.rt:234:37
 list-map-part-list-items-start : (t : ℕ) → list-map-lts.Need-part-list-items-start (list-map-calls t) (list-map-at t) list-map.Post
-list-map-part-list-items-start t c = omega arith
+list-map-part-list-items-start t c = omega (arith, map-size (c .before .before .before .before .before .before .before .before .before .pre .1) _ (c .before .before .before .before .before .get8 .ensures .is))
 
--- src/lib.rt:234:37
 list-map-part-list-items-end : (t : ℕ) → list-map-lts.Need-part-list-items-end (list-map-calls t) (list-map-at t) list-map.Post
-list-map-part-list-items-end t c = map-size (c .before .before .before .before .before .before .before .before .before .pre .1) _ (c .before .before .before .before .before .get8 .ensures .is)
+list-map-part-list-items-end t c = omega (arith, map-size (c .before .before .before .before .before .before .before .before .before .pre .1) _ (c .before .before .before .before .before .get8 .ensures .is))
 
--- src/lib.rt:234:9
 list-map-list-items-requires : (t : ℕ) → list-map-lts.Need-list-items-requires (list-map-calls t) (list-map-at t) list-map.Post
 list-map-list-items-requires t c κs = (omega arith, map-keys (c .before .before .before .before .before .before .before .before .before .before .before .pre .1) _ _ (c .before .before .before .before .before .before .before .get8 .ensures .is) (c .before .before .before .before .before .get82 .ensures .is) _ (c .before .before .before .before .put-count .ensures .past))
 
--- src/lib.rt:235:29
 list-map-sub-list-items-2 : (t : ℕ) → list-map-lts.Need-sub-list-items-2 (list-map-calls t) (list-map-at t) list-map.Post
 list-map-sub-list-items-2 t c = omega (arith, map-size (c .before .before .before .before .before .before .before .before .before .before .before .before .before .before .pre .1) _ (c .before .before .before .before .before .before .before .before .before .before .get8 .ensures .is))
 
--- src/lib.rt:235:29
 list-map-part-list-items-start-2 : (t : ℕ) → list-map-lts.Need-part-list-items-start-2 (list-map-calls t) (list-map-at t) list-map.Post
 list-map-part-list-items-start-2 t c = omega (arith, map-size (c .before .before .before .before .before .before .before .before .before .before .before .before .before .before .pre .1) _ (c .before .before .before .before .before .before .before .before .before .before .get8 .ensures .is))
 
--- src/lib.rt:235:29
 list-map-part-list-items-end-2 : (t : ℕ) → list-map-lts.Need-part-list-items-end-2 (list-map-calls t) (list-map-at t) list-map.Post
 list-map-part-list-items-end-2 t c = omega (arith, map-size (c .before .before .before .before .before .before .before .before .before .before .before .before .before .before .pre .1) _ (c .before .before .before .before .before .before .before .before .before .before .get8 .ensures .is))
 
--- src/lib.rt:235:5
 list-map-list-items-requires-2 : (t : ℕ) → list-map-lts.Need-list-items-requires-2 (list-map-calls t) (list-map-at t) list-map.Post
 list-map-list-items-requires-2 t c κs = (omega arith, map-values (c .before .before .before .before .before .before .before .before .before .before .before .before .before .before .before .before .pre .1) _ _ (c .before .before .before .before .before .before .before .before .before .before .before .before .get8 .ensures .is) (c .before .before .before .before .before .before .before .before .before .before .get82 .ensures .is) _ _ (c .before .before .before .before .before .before .before .before .before .put-count .ensures .past) (c .before .before .before .before .list-items .ensures .past))
 
--- src/lib.rt:219:1
 list-map-same-length : (t : ℕ) → list-map-lts.Need-same-length (list-map-calls t) (list-map-at t) list-map.Post
 list-map-same-length t c = search needs
 
--- src/lib.rt:219:1
 list-map-returns : (t : ℕ) → list-map-lts.Need-returns (list-map-calls t) (list-map-at t) list-map.Post
 list-map-returns t c = same-bytes (map-is (c .before .before .before .before .before .before .before .before .before .before .before .before .before .before .before .before .before .before .before .pre .1) _ _ (c .before .before .before .before .before .before .before .before .before .before .before .before .before .before .before .get8 .ensures .is) (c .before .before .before .before .before .before .before .before .before .before .before .before .before .get82 .ensures .is)) (and-then (c .before .before .before .before .before .before .before .before .before .before .before .before .put-count .ensures) (and-then (c .before .before .before .before .before .before .before .list-items .ensures) (c .before .before .list-items2 .ensures)))
 
--- src/lib.rt:206:13
 list-value-sub-d : (t : ℕ) → list-value-lts.Need-sub-d (list-value-calls t) (list-value-at t) list-value.Post
 list-value-sub-d t c = value-deep (c .before .before .before .pre .1)
 
--- src/lib.rt:208:40
 list-value-get8-requires : (t : ℕ) → list-value-lts.Need-get8-requires (list-value-calls t) (list-value-at t) list-value.Post
 list-value-get8-requires t c κs = list-head (c .before .before .before .before .before .pre .1) (c .before .if1 .taken)
 
--- src/lib.rt:208:13
 list-value-put-count-requires : (t : ℕ) → list-value-lts.Need-put-count-requires (list-value-calls t) (list-value-at t) list-value.Post
 list-value-put-count-requires t c κs = (omega arith, omega (arith, c .before .before .before .before .before .before .pre .1 .room))
 
--- src/lib.rt:209:30
 list-value-add-list-items : (t : ℕ) → list-value-lts.Need-add-list-items (list-value-calls t) (list-value-at t) list-value.Post
 list-value-add-list-items t c = omega (arith, value-mark (c .before .before .before .before .before .before .before .before .before .pre .1))
 
--- src/lib.rt:209:9
 list-value-list-items-requires : (t : ℕ) → list-value-lts.Need-list-items-requires (list-value-calls t) (list-value-at t) list-value.Post
 list-value-list-items-requires t c κs = (omega (arith, value-deep (c .before .before .before .before .before .before .before .before .before .before .pre .1)), list-parts (c .before .before .before .before .before .before .before .before .before .before .pre .1) (c .before .before .before .before .before .before .if1 .taken) _ (c .before .before .before .before .get8 .ensures .is) .elements _ (c .before .before .before .put-count .ensures .past))
 
--- src/lib.rt:209:9
 list-value-same-length : (t : ℕ) → list-value-lts.Need-same-length (list-value-calls t) (list-value-at t) list-value.Post
 list-value-same-length t c = search needs
 
--- src/lib.rt:209:9
 list-value-returns : (t : ℕ) → list-value-lts.Need-returns (list-value-calls t) (list-value-at t) list-value.Post
 list-value-returns t c = same-bytes (list-parts (c .before .before .before .before .before .before .before .before .before .before .before .before .before .pre .1) (c .before .before .before .before .before .before .before .before .before .if1 .taken) _ (c .before .before .before .before .before .before .before .get8 .ensures .is) .lines) (and-then (c .before .before .before .before .before .before .put-count .ensures) (c .before .before .list-items .ensures))
 
--- src/lib.rt:212:28
 list-value-add-list-map : (t : ℕ) → list-value-lts.Need-add-list-map (list-value-calls t) (list-value-at t) list-value.Post
 list-value-add-list-map t c = omega (arith, value-mark (c .before .before .before .before .before .pre .1))
 
--- src/lib.rt:212:52
 list-value-add-next : (t : ℕ) → list-value-lts.Need-add-next (list-value-calls t) (list-value-at t) list-value.Post
 list-value-add-next t c = omega (arith, value-mark (c .before .before .before .before .before .pre .1))
 
--- src/lib.rt:212:36
 list-value-next-requires : (t : ℕ) → list-value-lts.Need-next-requires (list-value-calls t) (list-value-at t) list-value.Post
 list-value-next-requires t c κs = map-parts (c .before .before .before .before .before .pre .1) (c .if2 .taken) _ refl .pair .keys
 
--- src/lib.rt:212:9
 list-value-list-map-requires : (t : ℕ) → list-value-lts.Need-list-map-requires (list-value-calls t) (list-value-at t) list-value.Post
 list-value-list-map-requires t c κs = (omega (arith, value-deep (c .before .before .before .before .before .before .before .pre .1)), map-parts (c .before .before .before .before .before .before .before .pre .1) (c .before .before .if2 .taken) _ (c .before .next .ensures) .pair)
 
--- src/lib.rt:212:9
 list-value-same-length-2 : (t : ℕ) → list-value-lts.Need-same-length-2 (list-value-calls t) (list-value-at t) list-value.Post
 list-value-same-length-2 t c = search needs
 
--- src/lib.rt:212:9
 list-value-returns-2 : (t : ℕ) → list-value-lts.Need-returns-2 (list-value-calls t) (list-value-at t) list-value.Post
 list-value-returns-2 t c = same-bytes (map-parts (c .before .before .before .before .before .before .before .before .before .before .pre .1) (c .before .before .before .before .before .if2 .taken) _ (c .before .before .before .before .next .ensures) .lines) (c .before .before .list-map .ensures)
 
--- src/lib.rt:214:9
 list-value-put-mark-requires : (t : ℕ) → list-value-lts.Need-put-mark-requires (list-value-calls t) (list-value-at t) list-value.Post
 list-value-put-mark-requires t c κs = (omega arith, omega (arith, c .before .before .before .before .before .before .pre .1 .room))
 
--- src/lib.rt:215:20
 list-value-add-list-fields : (t : ℕ) → list-value-lts.Need-add-list-fields (list-value-calls t) (list-value-at t) list-value.Post
 list-value-add-list-fields t c = omega (arith, struct-byte (c .before .before .before .before .before .before .before .before .before .pre .1) (struct-place (c .before .before .before .before .before .before .before .before .before .pre .1) (c .before .before .before .before .before .if1 .left) (c .before .before .before .before .if2 .left)))
 
--- src/lib.rt:215:43
 list-value-add-wide : (t : ℕ) → list-value-lts.Need-add-wide (list-value-calls t) (list-value-at t) list-value.Post
 list-value-add-wide t c = omega (arith, struct-byte (c .before .before .before .before .before .before .before .before .before .pre .1) (struct-place (c .before .before .before .before .before .before .before .before .before .pre .1) (c .before .before .before .before .before .if1 .left) (c .before .before .before .before .if2 .left)))
 
--- src/lib.rt:215:41
 list-value-shared-slice-read-wide : (t : ℕ) → list-value-lts.Need-shared-slice-read-wide (list-value-calls t) (list-value-at t) list-value.Post
 list-value-shared-slice-read-wide t c = struct-byte (c .before .before .before .before .before .before .before .before .before .before .pre .1) (struct-place (c .before .before .before .before .before .before .before .before .before .before .pre .1) (c .before .before .before .before .before .before .if1 .left) (c .before .before .before .before .before .if2 .left))
 
--- src/lib.rt:215:28
 list-value-wide-requires : (t : ℕ) → list-value-lts.Need-wide-requires (list-value-calls t) (list-value-at t) list-value.Post
 list-value-wide-requires t c κs = search needs
 
--- src/lib.rt:215:5
 list-value-list-fields-requires : (t : ℕ) → list-value-lts.Need-list-fields-requires (list-value-calls t) (list-value-at t) list-value.Post
 list-value-list-fields-requires t c κs = (omega (arith, value-deep (c .before .before .before .before .before .before .before .before .before .before .before .before .pre .1)), struct-parts (c .before .before .before .before .before .before .before .before .before .before .before .before .pre .1) (struct-place (c .before .before .before .before .before .before .before .before .before .before .before .before .pre .1) (c .before .before .before .before .before .before .before .before .if1 .left) (c .before .before .before .before .before .before .before .if2 .left)) _ (c .before .wide .ensures) .fields _ (c .before .before .before .before .before .put-mark .ensures .past))
 
--- src/lib.rt:194:1
 list-value-same-length-3 : (t : ℕ) → list-value-lts.Need-same-length-3 (list-value-calls t) (list-value-at t) list-value.Post
 list-value-same-length-3 t c = search needs
 
--- src/lib.rt:194:1
 list-value-returns-3 : (t : ℕ) → list-value-lts.Need-returns-3 (list-value-calls t) (list-value-at t) list-value.Post
 list-value-returns-3 t c = same-bytes (struct-parts (c .before .before .before .before .before .before .before .before .before .before .before .before .before .before .before .pre .1) (struct-place (c .before .before .before .before .before .before .before .before .before .before .before .before .before .before .before .pre .1) (c .before .before .before .before .before .before .before .before .before .before .before .if1 .left) (c .before .before .before .before .before .before .before .before .before .before .if2 .left)) _ (c .before .before .before .before .wide .ensures) .lines) (and-then (c .before .before .before .before .before .before .before .before .put-mark .ensures) (c .before .before .list-fields .ensures))
 

@@ -1,3 +1,4 @@
+-- `listing::put_leaf` meets its contract: a null, a number or a text, each by one law. Assumes nothing.
 use mathlib.Core.Path.{refl, sym, _∙_}
 use native.Mathlib.Omega.{arith}
 use Rattle.listing.proofs.Wrote.{same-bytes}
@@ -5,65 +6,43 @@ use Rattle.listing.proofs.ByKind.{child-null, child-slot, child-fixed, 
 use borrow.Author.Needs.{needs}
 use Rattle.listing.proofs.put_leaf.Statement.{statement}
 use Rattle.listing.proofs.put_leaf.Tie as tie
-use Rattle.listing.proofs.put_leaf.Reads as reads
-use Rattle.listing.proofs.put_leaf.Lts as lts
-use Rattle.listing.proofs.put_null.Reads as put-null-reads
-use Rattle.listing.proofs.put_number.Reads as put-number-reads
-use Rattle.listing.proofs.put_text.Reads as put-text-reads
-use Rattle.words.proofs.nulls.is_null.Reads as is-null-reads
-use Rattle.words.proofs.nums.get8.Reads as get8-reads
-use Rattle.words.proofs.slots.slot_offset.Reads as slot-offset-reads
-use Rattle.words.proofs.slots.slot_size.Reads as slot-size-reads
 
--- src/lib.rt:133:8
 is-null-requires : tie.Need-is-null-requires
 is-null-requires c κs = search needs
 
--- src/lib.rt:134:9
 put-null-requires : tie.Need-put-null-requires
 put-null-requires c κs = omega (arith, c .before .before .before .before .before .pre .seat .room)
 
--- src/lib.rt:134:9
 same-length : tie.Need-same-length
 same-length c = search needs
 
--- src/lib.rt:134:9
 returns : tie.Need-returns
 returns c = same-bytes (child-null (c .before .before .before .before .before .before .before .before .pre .seat) (sym (c .before .before .before .before .before .is-null .ensures) ∙ c .before .before .before .before .if1 .taken)) (c .before .before .put-null .ensures)
 
--- src/lib.rt:137:9
 put-number-requires : tie.Need-put-number-requires
 put-number-requires c κs = record { bytes = c .before .before .before .before .before .before .pre .seat .bytes; fixed = c .before .if2 .taken; within = child-fixed (c .before .before .before .before .before .before .pre .seat) (sym (c .before .before .before .is-null .ensures) ∙ c .before .before .if1 .left) (c .before .if2 .taken) _ refl .fits; room = omega (arith, c .before .before .before .before .before .before .pre .seat .room) }
 
--- src/lib.rt:137:9
 same-length-2 : tie.Need-same-length-2
 same-length-2 c = search needs
 
--- src/lib.rt:137:9
 returns-2 : tie.Need-returns-2
 returns-2 c = same-bytes (child-fixed (c .before .before .before .before .before .before .before .before .before .pre .seat) (sym (c .before .before .before .before .before .before .is-null .ensures) ∙ c .before .before .before .before .before .if1 .left) (c .before .before .before .before .if2 .taken) _ refl .lines) (c .before .before .put-number .ensures)
 
--- src/lib.rt:139:9
 get8-requires : tie.Need-get8-requires
 get8-requires c κs = child-slot (c .before .before .before .before .before .pre .seat) (c .if2 .left)
 
--- src/lib.rt:145:9
 slot-offset-requires : tie.Need-slot-offset-requires
 slot-offset-requires c κs = search needs
 
--- src/lib.rt:146:9
 slot-size-requires : tie.Need-slot-size-requires
 slot-size-requires c κs = search needs
 
--- src/lib.rt:140:5
 put-text-requires : tie.Need-put-text-requires
 put-text-requires c κs = record { small = c .before .before .before .before .before .before .before .before .before .pre .seat .small; known = omega (arith, c .before .before .before .before .before .before .before .before .before .pre .low); within = child-elsewhere (c .before .before .before .before .before .before .before .before .before .pre .seat) (sym (c .before .before .before .before .before .before .is-null .ensures) ∙ c .before .before .before .before .before .if1 .left) (c .before .before .before .before .if2 .left) _ (c .before .before .before .get8 .ensures) _ _ (c .before .slot-offset .ensures) (c .slot-size .ensures) .fits; room = omega (arith, c .before .before .before .before .before .before .before .before .before .pre .seat .room) }
 
--- src/lib.rt:121:1
 same-length-3 : tie.Need-same-length-3
 same-length-3 c = search needs
 
--- src/lib.rt:121:1
 returns-3 : tie.Need-returns-3
 returns-3 c = same-bytes (child-text (c .before .before .before .before .before .before .before .before .before .before .before .before .pre .seat) (sym (c .before .before .before .before .before .before .before .before .before .is-null .ensures) ∙ c .before .before .before .before .before .before .before .before .if1 .left) (c .before .before .before .before .before .before .before .if2 .left) _ (c .before .before .before .before .before .before .get8 .ensures) _ _ (c .before .before .before .before .slot-offset .ensures) (c .before .before .before .slot-size .ensures) (c .before .before .before .before .before .before .before .before .before .before .before .before .pre .low)) (c .before .before .put-text .ensures)
 

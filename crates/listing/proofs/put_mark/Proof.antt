@@ -1,3 +1,4 @@
+-- `listing::put_mark` meets its contract: the mark's two bytes where there is room for both. Assumes nothing.
 use mathlib.Core.Path.{refl}
 use native.Mathlib.Omega.{arith}
 use lib.ListN.{length-set}
@@ -6,51 +7,38 @@ use Rattle.listing.proofs.Wrote.{wrote-none, wrote-two}
 use borrow.Author.Needs.{needs}
 use Rattle.listing.proofs.put_mark.Statement.{statement}
 use Rattle.listing.proofs.put_mark.Tie as tie
-use Rattle.listing.proofs.put_mark.Reads as reads
-use Rattle.listing.proofs.put_mark.Lts as lts
 
--- src/lib.rt:18:15
 add-end : tie.Need-add-end
 add-end c = search needs
 
--- src/lib.rt:20:9
 returns : tie.Need-returns
 unfolding markAt
 returns c = wrote-none _ _ _ 2 _ refl refl (c .if1 .taken)
 
--- src/lib.rt:22:16
 mul-out : tie.Need-mul-out
 mul-out c = search needs
 
--- src/lib.rt:22:16
 element-copy-out-out : tie.Need-element-copy-out-out
 element-copy-out-out c = search needs
 
--- src/lib.rt:22:5
 slice-write-out : tie.Need-slice-write-out
 slice-write-out c = search needs
 
--- src/lib.rt:23:20
 mul-out-2 : tie.Need-mul-out-2
 mul-out-2 c = search needs
 
--- src/lib.rt:23:20
 element-copy-out-out-2 : tie.Need-element-copy-out-out-2
 element-copy-out-out-2 c = search needs
 
--- src/lib.rt:23:9
 add-out : tie.Need-add-out
 add-out c = search needs
 
--- src/lib.rt:23:5
 slice-write-out-2 : tie.Need-slice-write-out-2
 slice-write-out-2 c = simp length-set (omega arith)
 
--- src/lib.rt:14:1
 same-length : tie.Need-same-length
 same-length c = search needs
 
--- src/lib.rt:14:1
 returns-2 : tie.Need-returns-2
 unfolding markAt types
 returns-2 c = wrote-two _ _ _ _ _ refl

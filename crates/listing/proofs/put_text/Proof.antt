@@ -1,39 +1,29 @@
+-- `listing::put_text` meets its contract: the length behind the mark, and the bytes. Assumes nothing.
 use native.Mathlib.Omega.{arith}
 use Rattle.listing.proofs.Wrote.{and-then, count-six}
 use Rattle.listing.proofs.Numbers.{text-none}
 use borrow.Author.Needs.{needs}
 use Rattle.listing.proofs.put_text.Statement.{statement}
 use Rattle.listing.proofs.put_text.Tie as tie
-use Rattle.listing.proofs.put_text.Reads as reads
-use Rattle.listing.proofs.put_text.Lts as lts
-use Rattle.listing.proofs.put_bytes.Reads as put-bytes-reads
-use Rattle.listing.proofs.put_count.Reads as put-count-reads
 
--- src/lib.rt:112:15
 add-end : tie.Need-add-end
 add-end c = search needs
 
--- src/lib.rt:112:15
 add-end-2 : tie.Need-add-end-2
 add-end-2 c = search needs
 
--- src/lib.rt:114:9
 returns : tie.Need-returns
 returns c = text-none (c .before .before .before .pre) _ (c .if1 .taken)
 
--- src/lib.rt:116:9
 put-count-requires : tie.Need-put-count-requires
 put-count-requires c κs = search needs
 
--- src/lib.rt:117:5
 put-bytes-requires : tie.Need-put-bytes-requires
 put-bytes-requires c κs = record { small = c .before .before .before .before .before .before .before .before .pre .small; within = c .before .before .before .before .before .before .before .before .pre .within; room = omega (arith, c .before .before .before .before .before .before .before .before .pre .room, c .before .before .before .put-count .ensures .past, count-six (c .before .before .before .before .before .before .before .before .args .k) (c .before .before .before .before .before .before .before .before .args .size)) }
 
--- src/lib.rt:108:1
 same-length : tie.Need-same-length
 same-length c = search needs
 
--- src/lib.rt:108:1
 returns-2 : tie.Need-returns-2
 returns-2 c = and-then (c .before .before .before .before .before .before .put-count .ensures) (c .before .before .put-bytes .ensures)
 

@@ -1,0 +1,4 @@
+-- Laws that the proofs cite.
+pub mod Fits
+pub mod Written
+pub mod Settled

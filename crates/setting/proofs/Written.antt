@@ -1,0 +1,138 @@
+-- What is written at a leaf, and the refusals before it. Assumes nothing.
+use mathlib.Core.Path.{_≡_, refl, sym, ap, _∙_, subst}
+use mathlib.Core.Bool.{Bool, true, false, cond}
+use mathlib.Core.Option.{Option, none, some}
+use mathlib.Core.List.{List, [], _∷_, _++_}
+use Prim.Native.Nat.{ℕ, zero, suc, _+_, _-_, _^_, _≤_, _<_}
+use native.Mathlib.Nat.{sub-zero}
+use native.Mathlib.Omega.{arith}
+use lib.Dec.{eqb}
+use lib.ListN.{length, take}
+use lib.Seq.{sets}
+use borrow.Author.Tests.{ne-eqb, eq-eqb}
+use Rattle.words.specs.Bytes.{le, zeros, fill, part}
+use Rattle.words.specs.Bits.{putBit}
+use Rattle.words.proofs.Numbers.{length-le}
+use Rattle.words.proofs.NumLaws.{le-pad}
+use Rattle.words.proofs.Parts.{part-whole}
+use Rattle.schema.specs.Marks.{line}
+use Rattle.schema.specs.Types.{Fixed, bo, i1, i2, i4, i8, f4, f8, fix, fixedAt, width}
+use Rattle.schema.proofs.Table.{line-width}
+use Rattle.layout.specs.Setting as S
+use Rattle.layout.specs.Setting.{Setting, inBytes, boolBytes, signedBytes, float32Bytes, float64Bytes, suits, writeFixed}
+use Rattle.answers.specs.declared.Outcome.{Outcome}
+use Rattle.answers.specs.declared.Outcome.the-variants as O
+use Rattle.answers.specs.declared.Refusal.the-variants as F
+use Rattle.answers.specs.declared.Given.{Given}
+use Rattle.answers.specs.declared.Given.the-variants as G
+use Rattle.answers.specs.Meaning.{givenMeans}
+use Rattle.reading.specs.Children.{seatAs, SeatIn}
+use Rattle.reading.specs.declared.Seat.{Seat}
+use Rattle.setting.specs.Writes.{HasBits, LeafIs, SetAs, decided, fixedOutcome, textOutcome, noTextOutcome}
+use Rattle.setting.specs.declared.Leaf.{Leaf}
+use Rattle.setting.specs.declared.Leaf.the-variants as L
+
+-- ---- a leaf of a fixed width
+
+null-bytes : (f : Fixed) → inBytes f S.null ≡ none
+unfolding inBytes boolBytes signedBytes float32Bytes float64Bytes
+null-bytes bo = refl
+null-bytes i1 = refl
+null-bytes i2 = refl
+null-bytes i4 = refl
+null-bytes i8 = refl
+null-bytes f4 = refl
+null-bytes f8 = refl
+
+-- a number's bytes with zeros up to the slot's width are its bytes at that width
+fill-le : (j w v : ℕ) → v < 256 ^ j → j ≤ w → le w v ≡ fill w (le j v)
+unfolding fill
+fill-le j w v h l =
+    let e : w ≡ j + (w - j) = omega arith in
+    ap (λ (n : ℕ). le n v) e ∙ le-pad j (w - j) v h ∙ rw (length-le j v)
+
+module _ (f : Fixed) (x : Setting) (s : Seat) (row : List ℕ) where
+  pub fixed-unfit : suits (fix f) x ≡ false → SetAs (fixedOutcome f x (seatAs s) row) row row (O.Refused F.Unfit)
+  unfolding fixedOutcome decided
+  fixed-unfit e = record { answers = rw e; after = rw e }
+
+  pub fixed-null : x ≡ S.null → (row′ : List ℕ) → row′ ≡ sets (putBit row (s .bits) (s .number) true) (s .slot) (zeros (s .wide)) → SetAs (fixedOutcome f x (seatAs s) row) row row′ O.Done
+  unfolding fixedOutcome decided suits writeFixed fill
+  fixed-null e row′ q = record { answers = rw e; after = rw e (q ∙ rw (null-bytes f, sub-zero)) }
+
+  pub fixed-bits : (v : ℕ) → HasBits f x v → width f ≤ s .wide → (row′ : List ℕ) → row′ ≡ sets (putBit row (s .bits) (s .number) false) (s .slot) (le (s .wide) v) → SetAs (fixedOutcome f x (seatAs s) row) row row′ O.Done
+  unfolding fixedOutcome decided suits writeFixed
+  fixed-bits v b l row′ q =
+      record { answers = rw (b .given, b .bytes); after = rw (b .given, b .bytes) (q ∙ rw (fill-le (width f) (s .wide) v (b .below) l)) }
+
+-- by what the setting came to
+module _ (k : ℕ) (h : k < 7) (s : Seat) (row : List ℕ) (I : SeatIn row (line k .width) s) (g : Given) (r : Leaf) (a : (u : List ℕ) → LeafIs (fixedAt k) (givenMeans g u) r) where
+  pub leaf-unfit : r ≡ L.Unfit → (u : List ℕ) → SetAs (fixedOutcome (fixedAt k) (givenMeans g u) (seatAs s) row) row row (O.Refused F.Unfit)
+  leaf-unfit e u = fixed-unfit (fixedAt k) (givenMeans g u) s row (subst (LeafIs (fixedAt k) (givenMeans g u)) e (a u))
+
+  pub leaf-nulls : r ≡ L.Null → (row′ : List ℕ) → row′ ≡ sets (putBit row (s .bits) (s .number) true) (s .slot) (zeros (s .wide)) → (u : List ℕ) → SetAs (fixedOutcome (fixedAt k) (givenMeans g u) (seatAs s) row) row row′ O.Done
+  leaf-nulls e row′ q u = fixed-null (fixedAt k) (givenMeans g u) s row (subst (LeafIs (fixedAt k) (givenMeans g u)) e (a u)) row′ q
+
+  pub leaf-bits : (v : ℕ) → r ≡ L.Bits v → (row′ : List ℕ) → row′ ≡ sets (putBit row (s .bits) (s .number) false) (s .slot) (le (s .wide) v) → (u : List ℕ) → SetAs (fixedOutcome (fixedAt k) (givenMeans g u) (seatAs s) row) row row′ O.Done
+  leaf-bits v e row′ q u =
+      fixed-bits (fixedAt k) (givenMeans g u) s row v (subst (LeafIs (fixedAt k) (givenMeans g u)) e (a u)) (subst (λ (n : ℕ). n ≤ s .wide) (line-width k h) (I .wide)) row′ q
+
+-- ---- a string or binary
+
+module _ (u : List ℕ) (o n : ℕ) (row : List ℕ) (g : Given) where
+  pub text-null : g ≡ G.Null → SetAs (textOutcome (givenMeans g u) o n row) row row (O.Refused F.Resize)
+  unfolding textOutcome decided
+  text-null e = rw e (record { answers = refl; after = refl })
+
+  pub text-bool : (v : Bool) → g ≡ G.Bool v → SetAs (textOutcome (givenMeans g u) o n row) row row (O.Refused F.Unfit)
+  unfolding textOutcome decided
+  text-bool v e = rw e (record { answers = refl; after = refl })
+
+  pub text-number : (z : _) → g ≡ G.Number z → SetAs (textOutcome (givenMeans g u) o n row) row row (O.Refused F.Unfit)
+  unfolding textOutcome decided
+  text-number z e = rw e (record { answers = refl; after = refl })
+
+  pub text-float32 : (b : ℕ) → g ≡ G.Float32 b → SetAs (textOutcome (givenMeans g u) o n row) row row (O.Refused F.Unfit)
+  unfolding textOutcome decided
+  text-float32 b e = rw e (record { answers = refl; after = refl })
+
+  pub text-float64 : (b : ℕ) → g ≡ G.Float64 b → SetAs (textOutcome (givenMeans g u) o n row) row row (O.Refused F.Unfit)
+  unfolding textOutcome decided
+  text-float64 b e = rw e (record { answers = refl; after = refl })
+
+  pub text-size : g ≡ G.Bytes → (length u ≡ n → ⊥) → SetAs (textOutcome (givenMeans g u) o n row) row row (O.Refused F.Resize)
+  unfolding textOutcome decided
+  text-size e h = rw (e, ne-eqb (length u) n h) (record { answers = refl; after = refl })
+
+  pub text-bytes : g ≡ G.Bytes → length u ≡ n → (row′ : List ℕ) → row′ ≡ sets row o (part u 0 n) → SetAs (textOutcome (givenMeans g u) o n row) row row′ O.Done
+  unfolding textOutcome decided
+  text-bytes e h row′ q =
+      let w : part u 0 n ≡ u = rw (← h) (part-whole u) in
+      rw (e, eq-eqb (length u) n h) (record { answers = refl; after = q ∙ ap (sets row o) w })
+
+-- ---- a null one
+
+module _ (u : List ℕ) (s : Seat) (row : List ℕ) (g : Given) where
+  pub no-text-null : g ≡ G.Null → (row′ : List ℕ) → row′ ≡ sets row (s .slot) (zeros (s .wide)) → SetAs (noTextOutcome (givenMeans g u) (seatAs s) row) row row′ O.Done
+  unfolding noTextOutcome decided
+  no-text-null e row′ q = rw e (record { answers = refl; after = q })
+
+  pub no-text-bool : (v : Bool) → g ≡ G.Bool v → SetAs (noTextOutcome (givenMeans g u) (seatAs s) row) row row (O.Refused F.Unfit)
+  unfolding noTextOutcome decided
+  no-text-bool v e = rw e (record { answers = refl; after = refl })
+
+  pub no-text-number : (z : _) → g ≡ G.Number z → SetAs (noTextOutcome (givenMeans g u) (seatAs s) row) row row (O.Refused F.Unfit)
+  unfolding noTextOutcome decided
+  no-text-number z e = rw e (record { answers = refl; after = refl })
+
+  pub no-text-float32 : (b : ℕ) → g ≡ G.Float32 b → SetAs (noTextOutcome (givenMeans g u) (seatAs s) row) row row (O.Refused F.Unfit)
+  unfolding noTextOutcome decided
+  no-text-float32 b e = rw e (record { answers = refl; after = refl })
+
+  pub no-text-float64 : (b : ℕ) → g ≡ G.Float64 b → SetAs (noTextOutcome (givenMeans g u) (seatAs s) row) row row (O.Refused F.Unfit)
+  unfolding noTextOutcome decided
+  no-text-float64 b e = rw e (record { answers = refl; after = refl })
+
+  pub no-text-bytes : g ≡ G.Bytes → SetAs (noTextOutcome (givenMeans g u) (seatAs s) row) row row (O.Refused F.Resize)
+  unfolding noTextOutcome decided
+  no-text-bytes e = rw e (record { answers = refl; after = refl })

@@ -1,0 +1,100 @@
+-- What a setting comes to at a leaf, and what it leaves in the row. Assumes nothing: these are definitions.
+use mathlib.Core.Path.{_≡_}
+use mathlib.Core.Bool.{true, false}
+use mathlib.Core.Option.{Option, none, some}
+use mathlib.Core.List.{List}
+use Prim.Native.Nat.{ℕ, _+_, _/_, _^_, _≤_, _<_}
+use lib.ListN.{length}
+use lib.Seq.{sets}
+use Rattle.words.specs.Bytes.{le, zeros}
+use Rattle.schema.specs.Types.{Fixed, Ty, fix, ro, width}
+use Rattle.schema.specs.Reading.{judged}
+use Rattle.schema.specs.Walk.{fieldsOf}
+use Rattle.schema.specs.declared.Judged.the-variants.{Accepted}
+use Rattle.schema.specs.declared.Opened.{Opened}
+use Rattle.schema.specs.declared.Opened.the-variants.{Fixed as OFixed, Text as OText, List as OList, Map as OMap, Struct as OStruct, Nothing as ONothing}
+use Rattle.layout.specs.Walk as W
+use Rattle.layout.specs.Reading.{answerOf}
+use Rattle.layout.specs.Setting as S
+use Rattle.layout.specs.Setting.{Setting, isNull, inBytes, suits, fitsText, keepsSize, keeps, unless, _or_, textOf, writeFixed, write}
+use Rattle.layout.specs.Entries.{setVerdict, rowAfter}
+use Rattle.answers.specs.declared.Outcome.{Outcome}
+use Rattle.answers.specs.Meaning.{outcomeMeans}
+use Rattle.checking.specs.Sound.{sound}
+use Rattle.reading.specs.Children.{SeatIn}
+use Rattle.reading.specs.Places.{wideX, Seated}
+use Rattle.reading.specs.declared.Seat.{Seat}
+use Rattle.reading.specs.declared.Place.{Place}
+use Rattle.setting.specs.declared.Leaf.{Leaf}
+use Rattle.setting.specs.declared.Leaf.the-variants as L
+
+-- ---- a leaf of a fixed width
+
+-- the setting writes the bytes of v
+pub record HasBits (f : Fixed) (x : Setting) (v : ℕ) : Type 0 where
+  pub bytes : inBytes f x ≡ some (le (width f) v)
+  pub below : v < 256 ^ width f
+  pub given : isNull x ≡ false
+
+abbrev pub LeafIs : Fixed → Setting → Leaf → Type 0
+LeafIs f x L.Unfit = suits (fix f) x ≡ false
+LeafIs f x L.Null = x ≡ S.null
+LeafIs f x (L.Bits v) = HasBits f x v
+
+-- a seat's bit and slot lie in the row
+pub record Sits (row : List ℕ) (s : Seat) : Type 0 where
+  pub flag : s .bits + s .number / 8 < length row
+  pub room : s .slot + s .wide ≤ length row
+
+-- ---- the outcome
+
+-- the answer and the row after it are those of the outcome o
+pub record SetAs (o : S.Outcome) (row row′ : List ℕ) (r : Outcome) : Type 0 where
+  pub answers : outcomeMeans r ≡ setVerdict o
+  pub after : row′ ≡ rowAfter o row
+
+-- refused, or the row that is written
+unfoldable pub decided : Option ℕ → List ℕ → S.Outcome
+decided none w = S.becomes w
+decided (some n) w = S.refuses n
+
+-- at a place of type t that the walk found: 8, then 9, then what is written
+unfoldable pub leafOutcome : Ty → Setting → W.Seen → List ℕ → S.Outcome
+leafOutcome t x w row = decided (unless (suits t x) 8 or unless (keeps t (answerOf t w) x) 9) (write t x w row)
+
+-- at a leaf of a fixed width
+unfoldable pub fixedOutcome : Fixed → Setting → W.Seat → List ℕ → S.Outcome
+fixedOutcome f x s row = decided (unless (suits (fix f) x) 8) (writeFixed f x s row)
+
+-- at a present string or binary of n bytes from o on, and at a null one
+unfoldable pub textOutcome : Setting → ℕ → ℕ → List ℕ → S.Outcome
+textOutcome x o n row = decided (unless (fitsText x) 8 or unless (keepsSize n x) 9) (sets row o (textOf x))
+
+unfoldable pub noTextOutcome : Setting → W.Seat → List ℕ → S.Outcome
+noTextOutcome x s row = decided (unless (fitsText x) 8 or unless (isNull x) 9) (sets row (s .slot) (zeros (s .wide)))
+
+-- a type that a schema has, by its place in the table where it is a leaf
+abbrev pub Known : Opened → Type 0
+Known (OFixed k) = k < 7
+Known (OText k) = Unit {0}
+Known (OList c) = Unit {0}
+Known (OMap k v) = Unit {0}
+Known (OStruct f n) = Unit {0}
+Known ONothing = ⊥
+
+-- a null of that type in its seat
+pub record NullThere (row : List ℕ) (x : Opened) (s : Seat) : Type 0 where
+  pub known : Known x
+  pub seated : SeatIn row (wideX x) s
+
+-- a place of that type
+pub record PlaceThere (row : List ℕ) (p : Place) : Type 0 where
+  pub known : Known (p .opened)
+  pub within : p .start + p .len ≤ length row
+  pub seated : Seated row (p .opened) (p .seat)
+
+-- an accepted schema, and a row of at most 16,384 bytes that stands for contents of it
+pub record Checked (s row : List ℕ) : Type 0 where
+  pub schema : judged s ≡ Accepted
+  pub short : length row ≤ 16384
+  pub sound : sound (ro (fieldsOf s)) row ≡ true

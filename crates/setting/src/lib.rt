@@ -1,0 +1,57 @@
+// Setting one leaf of a row by its path.
+use answers::Given;
+use answers::Outcome;
+use answers::Path;
+use answers::Refusal;
+use answers::Setting;
+use reading::Found;
+use schema::Judged;
+ghost use Rattle.layout.specs.Entries.{setOf};
+ghost use Rattle.answers.specs.Meaning.{settingOf, givenMeans};
+ghost use Rattle.answers.specs.Paths.{pathOf};
+ghost use Rattle.setting.specs.Writes.{SetAs, Checked};
+
+pub mod leaves;
+pub mod nulls;
+pub mod present;
+pub mod puts;
+
+// What a setting comes to at a leaf of a fixed width: it doesn't fit, null, or the number whose bytes are written.
+pub enum Leaf {
+    Unfit,
+    Null,
+    Bits(u64),
+}
+
+// In a checked row: the refusals of the place, then those of the value.
+fn set_in(schema: &[u8], row: &mut [u8], path: Path, g: Given, bytes: &[u8]) -> Outcome
+    requires { ⌜ Checked (now schema) (now row) ⌝ }
+    ensures { λ r. ⌜ SetAs (setOf (now (schema .entry)) (now (row .entry)) (pathOf path) (givenMeans g (now (bytes .entry)))) (now (row .entry)) (now (row .exit)) r ⌝ }
+{
+    match reading::find(schema, row, path) {
+        Found::NoPlace => Outcome::Refused(Refusal::NoPlace),
+        Found::NullBefore => Outcome::Refused(Refusal::NullBefore),
+        Found::Broken => Outcome::Refused(Refusal::Layout),
+        Found::Null(x, _, seat) => nulls::set_null(row, x, seat, g),
+        Found::At(p) => present::set_place(row, p, g, bytes),
+    }
+}
+
+// One leaf of a row, set by its path: the refusals in their order, and the row as it was after each of them.
+pub fn set(schema: &[u8], row: &mut [u8], path: Path, value: Setting, bytes: &[u8]) -> Outcome
+    ensures { λ r. ⌜ SetAs (setOf (now (schema .entry)) (now (row .entry)) (pathOf path) (settingOf value (now (bytes .entry)))) (now (row .entry)) (now (row .exit)) r ⌝ }
+{
+    match schema::judge(schema) {
+        Judged::Accepted => {}
+        Judged::Refused => {
+            return Outcome::Refused(Refusal::Schema);
+        }
+    }
+    if 16384 < row.len() {
+        return Outcome::Refused(Refusal::TooLong);
+    }
+    if !checking::check_row(schema, row) {
+        return Outcome::Refused(Refusal::Layout);
+    }
+    set_in(schema, row, path, answers::settings::given(value), bytes)
+}

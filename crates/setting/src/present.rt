@@ -1,0 +1,52 @@
+// Setting a place that is not null.
+use answers::Given;
+use answers::Outcome;
+use answers::Refusal;
+use reading::Place;
+use schema::Opened;
+ghost use mathlib.Core.List.{List};
+ghost use Prim.Native.Nat.{ℕ, _+_, _≤_};
+ghost use lib.ListN.{length};
+ghost use Rattle.layout.specs.Walk.{seen};
+ghost use Rattle.answers.specs.Meaning.{givenMeans};
+ghost use Rattle.reading.specs.Children.{seatAs};
+ghost use Rattle.reading.specs.Places.{placeTy, bytesOf};
+ghost use Rattle.setting.specs.Writes.{SetAs, leafOutcome, textOutcome, PlaceThere};
+use crate::leaves;
+
+// A present string or binary takes bytes of its length.
+fn set_text(row: &mut [u8], start: usize, len: usize, g: Given, bytes: &[u8]) -> Outcome
+    requires { ⌜ start + len ≤ length (now row) ⌝ }
+    ensures { λ r. ⌜ SetAs (textOutcome (givenMeans g (now (bytes .entry))) start len (now (row .entry))) (now (row .entry)) (now (row .exit)) r ⌝ }
+{
+    match g {
+        Given::Null => Outcome::Refused(Refusal::Resize),
+        Given::Bool(_) => Outcome::Refused(Refusal::Unfit),
+        Given::Number(_) => Outcome::Refused(Refusal::Unfit),
+        Given::Float32(_) => Outcome::Refused(Refusal::Unfit),
+        Given::Float64(_) => Outcome::Refused(Refusal::Unfit),
+        Given::Bytes => {
+            if bytes.len() != len {
+                return Outcome::Refused(Refusal::Resize);
+            }
+            words::copies::copy(row, start, bytes, 0, len);
+            Outcome::Done
+        }
+    }
+}
+
+// A place that is not null.
+pub fn set_place(row: &mut [u8], p: Place, g: Given, bytes: &[u8]) -> Outcome
+    requires { ⌜ PlaceThere (now row) p ⌝ }
+    ensures { λ r. ⌜ ((s : List ℕ) → SetAs (leafOutcome (placeTy s p) (givenMeans g (now (bytes .entry))) (seen (seatAs (p .seat)) (p .start) (bytesOf (now (row .entry)) p)) (now (row .entry))) (now (row .entry)) (now (row .exit)) r) ⌝ }
+{
+    let x = p.opened;
+    match x {
+        Opened::Fixed(k) => leaves::set_fixed(row, p.seat, k, g),
+        Opened::Text(_) => set_text(row, p.start, p.len, g, bytes),
+        Opened::List(_) => Outcome::Refused(Refusal::Unfit),
+        Opened::Map(_, _) => Outcome::Refused(Refusal::Unfit),
+        Opened::Struct(_, _) => Outcome::Refused(Refusal::Unfit),
+        Opened::Nothing => Outcome::Refused(Refusal::Unfit),
+    }
+}

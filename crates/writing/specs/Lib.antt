@@ -1,0 +1,4 @@
+-- What the contracts of `writing` cite.
+pub mod Measure
+pub mod Put
+pub mod Row
