@@ -39,15 +39,15 @@ use Rattle.row.specs.Demand2 as D
 
 -- ---- what an accepted check says
 
-record Checked (s row : List ℕ) : Type 0 where
-  short : length row ≤ 16384
-  contents : Cell
-  reads : decode (ro (fieldsOf s)) row ≡ some contents
+pub record Checked (s row : List ℕ) : Type 0 where
+  pub short : length row ≤ 16384
+  pub contents : Cell
+  pub reads : decode (ro (fieldsOf s)) row ≡ some contents
 
 clash-done : (n : ℕ) → refused n ≡ done → ⊥
 clash-done n e = let z : _≡_ {A = ℕ} 0 1 = cc in omega arith
 
-checked : (s row : List ℕ) → judged s ≡ Accepted → checkOf s row ≡ done → Checked s row
+pub checked : (s row : List ℕ) → judged s ≡ Accepted → checkOf s row ≡ done → Checked s row
 unfolding checkOf
 checked s row a e = go (leb (length row) 16384) refl (decode (ro (fieldsOf s)) row) refl (rw a at e)
   where
@@ -56,7 +56,7 @@ checked s row a e = go (leb (length row) 16384) refl (decode (ro (fieldsOf s)) r
     go true h none d q = absurd (clash-done 7 (rw (h, d) at q))
     go false h o d q = absurd (clash-done 3 (rw h at q))
 
-checks : (s row : List ℕ) (c : Cell) → judged s ≡ Accepted → length row ≤ 16384 → decode (ro (fieldsOf s)) row ≡ some c → checkOf s row ≡ done
+pub checks : (s row : List ℕ) (c : Cell) → judged s ≡ Accepted → length row ≤ 16384 → decode (ro (fieldsOf s)) row ≡ some c → checkOf s row ≡ done
 unfolding checkOf
 checks s row c a h d = rw (a, le-leb (length row) 16384 h, d)
 

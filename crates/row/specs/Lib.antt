@@ -1,4 +1,5 @@
 -- The demands as statements over definitions alone. `proofs/` proves them.
 pub mod Demand1
 pub mod Demand2
+pub mod Demand3
 pub mod Outcomes

@@ -1,0 +1,38 @@
+-- Demand 3 holds of every accepted schema and row, at the entries. Assumes nothing.
+use mathlib.Core.Path.{_≡_, refl, sym, ap, _∙_}
+use mathlib.Core.List.{List}
+use Prim.Native.Nat.{ℕ, _≤_}
+use lib.ListN.{length}
+use borrow.Author.Tests.{le-leb}
+use Rattle.words.specs.Bytes.{Bytes}
+use Rattle.schema.specs.Reading.{judged}
+use Rattle.schema.specs.Walk.{fieldsOf}
+use Rattle.schema.specs.declared.Judged.the-variants.{Accepted}
+use Rattle.layout.specs.Reading.{readIn}
+use Rattle.layout.specs.Setting.{Setting, becomes, setIn}
+use Rattle.layout.specs.Entries.{done, checkOf, readOf, setOf}
+use Rattle.layout.specs.Demand as L
+use Rattle.layout.proofs.Demanded.{demand3 as in-layout}
+use Rattle.row.specs.Demand3.{SetsWell}
+use Rattle.row.proofs.Demand2.{checked, checks}
+
+module _ (s row : List ℕ) (a : judged s ≡ Accepted) (h : length row ≤ 16384) where
+  set-same : (p : List ℕ) (x : Setting) → setOf s row p x ≡ setIn (fieldsOf s) row p x
+  unfolding setOf
+  set-same p x = rw (a, le-leb (length row) 16384 h)
+
+  read-same : (p : List ℕ) → readOf s row p ≡ readIn (fieldsOf s) row p
+  unfolding readOf
+  read-same p = rw (a, le-leb (length row) 16384 h)
+
+pub demand3 : (s row : List ℕ) → judged s ≡ Accepted → Bytes row → checkOf s row ≡ done → SetsWell s row
+demand3 s row a hb e =
+    let k = checked s row a e in
+    let z = in-layout (fieldsOf s) row (record { bytes = hb; size = k .short; tree = k .contents; reads = k .reads }) in
+    record {
+      clauses = z;
+      set-is = set-same s row a (k .short);
+      read-is = read-same s row a (k .short);
+      still-checks = λ p x row′ w q. (let y = z .still p x row′ w (sym (set-same s row a (k .short) p x) ∙ q) in checks s row′ (y .tree) a (y .size) (y .reads));
+      still-bytes = λ p x row′ w q. z .still p x row′ w (sym (set-same s row a (k .short) p x) ∙ q) .bytes;
+    }
