@@ -36,6 +36,9 @@ uint64_t loaf_judge(const uint8_t *schema, size_t schema_length);
 /* Whether the row stands for contents of the schema: done, or 1, 3, 7. */
 uint64_t loaf_check(const uint8_t *schema, size_t schema_length, const uint8_t *row, size_t row_length);
 
+/* The row that the format lays down for the listing, at the start of out, and its length: done, or 1, 2, 3, 4. */
+uint64_t loaf_write(const uint8_t *schema, size_t schema_length, const uint8_t *listing, size_t listing_length, uint8_t *out, size_t out_length);
+
 /* The row's listing at the start of out, and its length: done, or 1, 3, 7, 4. */
 uint64_t loaf_list(const uint8_t *schema, size_t schema_length, const uint8_t *row, size_t row_length, uint8_t *out, size_t out_length);
 

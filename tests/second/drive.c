@@ -70,9 +70,10 @@ int main(void) {
         switch (op) {
         case 'j': tell(loaf_judge(schema, ns), 0); break;
         case 'c': tell(loaf_check(schema, ns, second, n2), 0); break;
+        case 'w':
         case 'l':
             memset(out, 0xAA, room);
-            code = loaf_list(schema, ns, second, n2, out, room);
+            code = op == 'w' ? loaf_write(schema, ns, second, n2, out, room) : loaf_list(schema, ns, second, n2, out, room);
             tell(code, 1);
             putchar(' ');
             hex(out, room);

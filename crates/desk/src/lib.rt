@@ -1,6 +1,6 @@
 // The entries under C names. Each answers the refusal's number times 2^32, plus the length; 0 in the upper half is done.
 ghost use mathlib.Core.Path.{_≡_};
-ghost use Rattle.layout.specs.Entries.{judgeOf, checkOf, listOf, listedOf, readOf};
+ghost use Rattle.layout.specs.Entries.{judgeOf, checkOf, writeOf, writtenOf, listOf, listedOf, readOf};
 ghost use Rattle.answers.specs.Meaning.{outcomeMeans, lengthMeans};
 ghost use Rattle.desk.specs.Codes.{verdictCode, sizedCode, Halved, Fills};
 ghost use Rattle.desk.specs.Steps.{Taken};
@@ -68,6 +68,13 @@ pub extern "C" fn loaf_check(schema: &[u8], row: &[u8]) -> u64
     ensures { λ r. ⌜ r ≡ verdictCode (checkOf (now (schema .entry)) (now (row .entry))) ⌝ }
 {
     outcome_code(row::check(schema, row))
+}
+
+#[no_mangle]
+pub extern "C" fn loaf_write(schema: &[u8], listing: &[u8], out: &mut [u8]) -> u64
+    ensures { λ r. ⌜ Fills (writeOf (now (schema .entry)) (now (listing .entry)) (length (now (out .entry)))) (writtenOf (now (schema .entry)) (now (listing .entry)) (now (out .entry))) r (now (out .exit)) ⌝ }
+{
+    length_code(row::write(schema, listing, out))
 }
 
 #[no_mangle]

@@ -17,7 +17,7 @@ use Rattle.schema.specs.declared.Judged.the-variants.{Accepted, Refused}
 use Rattle.layout.specs.Cells.{Cell}
 use Rattle.layout.specs.Layout.{decode}
 use Rattle.layout.specs.Setting.{orEmpty}
-use Rattle.layout.specs.Entries.{takes, refusedWith, listOf, listingOf}
+use Rattle.layout.specs.Entries.{takes, refusedWith, writeOf, imageOf, listOf, listingOf}
 use Rattle.row.specs.Outcomes.{lengthIn}
 use Rattle.row.proofs.Demand2.{relisted}
 
@@ -43,4 +43,21 @@ list-below s row room hb = by-schema (judged s) refl
 
     by-schema : (j : Judged) → judged s ≡ j → lengthIn (listOf s row room) ≤ 49152
     by-schema Accepted a = by-length a (leb (length row) 16384) refl
+    by-schema Refused a = rw a (omega arith)
+
+-- a row that is written is within its limit
+pub write-below : (s l : List ℕ) (room : ℕ) → lengthIn (writeOf s l room) ≤ 49152
+unfolding writeOf
+write-below s l room = by-schema (judged s) refl
+  where
+    by-length : judged s ≡ Accepted → (row : List ℕ) → imageOf s l ≡ some row → (v : Bool) → leb (length row) 16384 ≡ v → lengthIn (writeOf s l room) ≤ 49152
+    by-length a row e true h = rw (a, e, h, either) (omega (arith, leb-true (length row) 16384 h))
+    by-length a row e false h = rw (a, e, h) (omega arith)
+
+    by-image : judged s ≡ Accepted → (o : Option (List ℕ)) → imageOf s l ≡ o → lengthIn (writeOf s l room) ≤ 49152
+    by-image a none e = rw (a, e) (omega arith)
+    by-image a (some row) e = by-length a row e (leb (length row) 16384) refl
+
+    by-schema : (j : Judged) → judged s ≡ j → lengthIn (writeOf s l room) ≤ 49152
+    by-schema Accepted a = by-image a (imageOf s l) refl
     by-schema Refused a = rw a (omega arith)

@@ -1,9 +1,9 @@
 -- What each setting comes to at a leaf, by the leaf's place in the table. Assumes nothing.
-use mathlib.Core.Path.{_≡_, refl, sym, ap, _∙_, subst}
-use mathlib.Core.Bool.{Bool, true, false, cond}
-use mathlib.Core.Option.{Option, none, some}
-use mathlib.Core.List.{List, [], _∷_}
-use Prim.Native.Nat.{ℕ, zero, suc, _+_, _^_, _≤_, _<_}
+use mathlib.Core.Path.{_≡_, refl, sym, ap, _∙_}
+use mathlib.Core.Bool.{Bool, true, false}
+use mathlib.Core.Option.{some}
+use mathlib.Core.List.{List}
+use Prim.Native.Nat.{ℕ, zero, suc, _^_, _≤_, _<_}
 use native.Mathlib.Omega.{arith}
 use lib.IntN.{ℤ}
 use lib.Signed.{mag}
@@ -13,14 +13,14 @@ use Rattle.words.specs.Bits.{digit}
 use Rattle.words.specs.Signed.{halfOf, ofSigned, inRange}
 use Rattle.words.proofs.SignedLaws.{half-bytes, ofSigned-lt}
 use Rattle.schema.specs.Marks.{types, line}
-use Rattle.schema.specs.Types.{Fixed, fix, fixedAt, fixedPlace, width}
-use Rattle.schema.proofs.Table.{Each, each}
+use Rattle.schema.specs.Types.{fix, fixedAt, fixedPlace, width}
+use Rattle.schema.proofs.Table.{each}
 use Rattle.layout.specs.Setting as S
 use Rattle.layout.specs.Setting.{inBytes, boolBytes, signedBytes, float32Bytes, float64Bytes, suits}
 use Rattle.answers.specs.declared.Given.{Given}
 use Rattle.answers.specs.declared.Given.the-variants as G
 use Rattle.answers.specs.Meaning.{givenMeans}
-use Rattle.setting.specs.Writes.{HasBits, LeafIs}
+use Rattle.setting.specs.Writes.{LeafIs}
 use Rattle.setting.specs.declared.Leaf.{Leaf}
 use Rattle.setting.specs.declared.Leaf.the-variants as L
 

@@ -1,13 +1,12 @@
 -- What is written at a leaf, and the refusals before it. Assumes nothing.
-use mathlib.Core.Path.{_≡_, refl, sym, ap, _∙_, subst}
-use mathlib.Core.Bool.{Bool, true, false, cond}
-use mathlib.Core.Option.{Option, none, some}
-use mathlib.Core.List.{List, [], _∷_, _++_}
-use Prim.Native.Nat.{ℕ, zero, suc, _+_, _-_, _^_, _≤_, _<_}
+use mathlib.Core.Path.{_≡_, refl, ap, _∙_, subst}
+use mathlib.Core.Bool.{Bool, true, false}
+use mathlib.Core.Option.{none}
+use mathlib.Core.List.{List}
+use Prim.Native.Nat.{ℕ, _+_, _-_, _^_, _≤_, _<_}
 use native.Mathlib.Nat.{sub-zero}
 use native.Mathlib.Omega.{arith}
-use lib.Dec.{eqb}
-use lib.ListN.{length, take}
+use lib.ListN.{length}
 use lib.Seq.{sets}
 use borrow.Author.Tests.{ne-eqb, eq-eqb}
 use Rattle.words.specs.Bytes.{le, zeros, fill, part}
@@ -17,10 +16,9 @@ use Rattle.words.proofs.NumLaws.{le-pad}
 use Rattle.words.proofs.Parts.{part-whole}
 use Rattle.schema.specs.Marks.{line}
 use Rattle.schema.specs.Types.{Fixed, bo, i1, i2, i4, i8, f4, f8, fix, fixedAt, width}
-use Rattle.schema.proofs.Table.{line-width}
+use Rattle.schema.proofs.Table.{width-pos, line-width}
 use Rattle.layout.specs.Setting as S
 use Rattle.layout.specs.Setting.{Setting, inBytes, boolBytes, signedBytes, float32Bytes, float64Bytes, suits, writeFixed}
-use Rattle.answers.specs.declared.Outcome.{Outcome}
 use Rattle.answers.specs.declared.Outcome.the-variants as O
 use Rattle.answers.specs.declared.Refusal.the-variants as F
 use Rattle.answers.specs.declared.Given.{Given}
@@ -64,6 +62,13 @@ module _ (f : Fixed) (x : Setting) (s : Seat) (row : List ℕ) where
   unfolding fixedOutcome decided suits writeFixed
   fixed-bits v b l row′ q =
       record { answers = rw (b .given, b .bytes); after = rw (b .given, b .bytes) (q ∙ rw (fill-le (width f) (s .wide) v (b .below) l)) }
+
+-- its seat has a byte
+pub seat-one : (k : ℕ) → k < 7 → (s : Seat) (row : List ℕ) → SeatIn row (line k .width) s → SeatIn row 1 s
+seat-one k h s row I =
+    let e : line k .width ≡ width (fixedAt k) = line-width k h in
+    let p : 1 ≤ width (fixedAt k) = width-pos (fixedAt k) in
+    record { flag = I .flag; room = I .room; wide = omega (arith, I .wide, e, p) }
 
 -- by what the setting came to
 module _ (k : ℕ) (h : k < 7) (s : Seat) (row : List ℕ) (I : SeatIn row (line k .width) s) (g : Given) (r : Leaf) (a : (u : List ℕ) → LeafIs (fixedAt k) (givenMeans g u) r) where

@@ -4,12 +4,13 @@ ghost use mathlib.Core.Bool.{true, false};
 ghost use lib.Seq.{sets};
 ghost use Rattle.words.specs.Bytes.{le, zeros};
 ghost use Rattle.words.specs.Bits.{putBit};
+ghost use Rattle.reading.specs.Children.{SeatIn};
 ghost use Rattle.setting.specs.Writes.{Sits};
 use reading::Seat;
 
 // Null sets the bit and zeroes the slot.
 pub fn put_null(row: &mut [u8], seat: Seat)
-    requires { ⌜ Sits (now row) seat ⌝ }
+    requires { ⌜ SeatIn (now row) 1 seat ⌝ }
     ensures { λ _. ⌜ now (row .exit) ≡ sets (putBit (now (row .entry)) (seat .bits) (seat .number) true) (seat .slot) (zeros (seat .wide)) ⌝ }
 {
     words::nulls::set_null(row, seat.bits, seat.number);

@@ -1,3 +1,4 @@
+-- `desk::length_code` meets its contract. Assumes nothing.
 use Rattle.desk.proofs.Codes.{sum-fits, sum-is}
 use native.Mathlib.Omega.{arith}
 use borrow.Author.Needs.{needs}

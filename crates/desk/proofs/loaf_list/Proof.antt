@@ -1,3 +1,4 @@
+-- `desk::loaf_list` meets its contract. Assumes nothing.
 use mathlib.Core.Path.{ap, _∙_}
 use Rattle.words.proofs.Numbers.{bytes-of}
 use Rattle.row.proofs.Sizes.{list-below}

@@ -1,5 +1,5 @@
 -- `setting::leaves::set_fixed` meets its contract. Assumes nothing.
-use Rattle.setting.proofs.Written.{leaf-unfit, leaf-nulls, leaf-bits}
+use Rattle.setting.proofs.Written.{seat-one, leaf-unfit, leaf-nulls, leaf-bits}
 use borrow.Author.Needs.{needs}
 use Rattle.setting.proofs.leaves.set_fixed.Statement.{statement}
 use Rattle.setting.proofs.leaves.set_fixed.Tie as tie
@@ -19,7 +19,9 @@ enum-told-2 : tie.Need-enum-told-2
 enum-told-2 c = search needs
 
 put-null-requires : tie.Need-put-null-requires
-put-null-requires c κs = search needs
+put-null-requires c κs =
+    let s = c .before .before .before .before .before in
+    seat-one (s .args .k) (s .pre .0) (s .args .seat) (s .args .row .now) (s .pre .1)
 
 enum-known-v : tie.Need-enum-known-v
 enum-known-v c = search needs
