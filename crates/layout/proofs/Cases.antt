@@ -111,11 +111,14 @@ slot0 b = part b 8 8
 
 pub record Cases : Type 0 where
   a : (content (ro two) ofA ≡ A) × (decode (ro two) A ≡ some ofA) × (length A ≡ 24)
+  a-reads : (readIn two A (0 ∷ []) ≡ R.signed (negsuc 1)) × (readIn two A (1 ∷ []) ≡ R.signed (pos 1)) × (readIn two A [] ≡ R.container 0 24 2)
   b : (content (ro two) ofB ≡ B) × (decode (ro two) B ≡ some ofB)
   b-reads : (readIn two B (0 ∷ []) ≡ R.signed (negsuc 1)) × (readIn two B (1 ∷ []) ≡ R.null) × (readIn two B [] ≡ R.container 0 24 2)
   c : (content (ro one) (node (leaf STK ∷ [])) ≡ C) × (decode (ro one) C ≡ some (node (leaf STK ∷ []))) × (readIn one C (0 ∷ []) ≡ R.bytes 16 3)
   d : (content (ro one) (node (leaf [] ∷ [])) ≡ D) × (decode (ro one) D ≡ some (node (leaf [] ∷ []))) × (readIn one D (0 ∷ []) ≡ R.bytes 16 0)
   e : (length (content (ro lists) ten) ≡ 48) × (slot0 (content (ro lists) ten) ≡ 32 ∷ 0 ∷ 0 ∷ 0 ∷ 16 ∷ 0 ∷ 0 ∷ 0 ∷ []) × (decode (ro lists) (content (ro lists) ten) ≡ some ten)
+  e-reads : (readIn lists (content (ro lists) ten) (0 ∷ []) ≡ R.container 16 32 10) × (readIn lists (content (ro lists) ten) (0 ∷ 9 ∷ []) ≡ R.signed (pos 7))
+      × (readIn lists (content (ro lists) ten) (0 ∷ 10 ∷ []) ≡ R.refused 5)
   f : (length F ≡ 104) × (slot0 F ≡ 88 ∷ 0 ∷ 0 ∷ 0 ∷ 16 ∷ 0 ∷ 0 ∷ 0 ∷ []) × (part F 16 8 ≡ 40 ∷ zeros 7) × (decode (ro maps) F ≡ some three)
   f-reads : (readIn maps F (0 ∷ []) ≡ R.container 16 88 2) × (readIn maps F (0 ∷ 0 ∷ []) ≡ R.container 24 40 3) × (readIn maps F (0 ∷ 1 ∷ []) ≡ R.container 64 40 3)
       × (readIn maps F (0 ∷ 1 ∷ 2 ∷ []) ≡ R.signed (pos 9)) × (readIn maps F (0 ∷ 1 ∷ 1 ∷ []) ≡ R.null) × (readIn maps F (0 ∷ 1 ∷ 3 ∷ []) ≡ R.refused 5)
@@ -127,6 +130,7 @@ pub record Cases : Type 0 where
   l : setIn two A (0 ∷ []) S.null ≡ becomes ((1 ∷ zeros 15) ++ (1 ∷ zeros 7))
   m : (setIn one C (0 ∷ []) (S.bytes TPH) ≡ becomes (take 16 C ++ (TPH ++ zeros 5))) × (setIn one C (0 ∷ []) (S.bytes (take 2 TPH)) ≡ refuses 9) × (setIn one C (0 ∷ []) S.null ≡ refuses 9)
   n : (length (content (ro lists) (node (node [] ∷ []))) ≡ 24) × (decode (ro lists) (content (ro lists) (node (node [] ∷ []))) ≡ some (node (node [] ∷ [])))
+  n-reads : (readIn lists (content (ro lists) (node (node [] ∷ []))) (0 ∷ []) ≡ R.container 16 8 0) × (readIn lists (content (ro lists) (node (node [] ∷ []))) (0 ∷ 0 ∷ []) ≡ R.refused 5)
   -- a bool is 0 or 1
   bool : (decode (ro (fix bo then end)) (zeros 8 ++ (2 ∷ zeros 7)) ≡ none) × (readIn (fix bo then end) (zeros 8 ++ (2 ∷ zeros 7)) (0 ∷ []) ≡ R.refused 7)
   -- bits past n are zero
@@ -139,18 +143,26 @@ pub record Cases : Type 0 where
   judged : (setIn one J (1 ∷ []) S.null ≡ refuses 7) × (setIn one C (1 ∷ []) S.null ≡ refuses 5) × (setIn one C (0 ∷ []) (S.signed (pos 1)) ≡ refuses 8)
       × (setIn one C [] S.null ≡ refuses 8) × (setIn two A (0 ∷ []) (S.float32 0) ≡ refuses 8) × (setIn two B (1 ∷ []) (S.signed (pos 1)) ≡ becomes A)
       × (setIn two A (0 ∷ []) (S.signed (negsuc 1)) ≡ becomes A) × (setIn one (1 ∷ zeros 15) (0 ∷ []) (S.signed (pos 1)) ≡ refuses 8) × (setIn one (1 ∷ zeros 15) (0 ∷ []) (S.bytes []) ≡ refuses 9)
+  lists-a : parse (ro two) (listing (ro two) ofA) ≡ some ofA
   lists-b : (listing (ro two) ofB ≡ 0x72 ∷ 0x6f ∷ 0x69 ∷ 0x34 ∷ 0xfe ∷ 0xff ∷ 0xff ∷ 0xff ∷ 0x6e ∷ 0x75 ∷ []) × (parse (ro two) (listing (ro two) ofB) ≡ some ofB)
+  lists-c : (listing (ro one) (node (leaf STK ∷ [])) ≡ 0x72 ∷ 0x6f ∷ 0x73 ∷ 0x74 ∷ 3 ∷ 0 ∷ 0 ∷ 0 ∷ STK) × (parse (ro one) (listing (ro one) (node (leaf STK ∷ []))) ≡ some (node (leaf STK ∷ [])))
   lists-d : listing (ro one) (node (leaf [] ∷ [])) ≡ 0x72 ∷ 0x6f ∷ 0x73 ∷ 0x74 ∷ 0 ∷ 0 ∷ 0 ∷ 0 ∷ []
+  lists-e : parse (ro lists) (listing (ro lists) ten) ≡ some ten
+  lists-f : parse (ro maps) (listing (ro maps) three) ≡ some three
+  lists-g : parse (ro inner) (listing (ro inner) (node (node (nine ∷ nine ∷ []) ∷ []))) ≡ some (node (node (nine ∷ nine ∷ []) ∷ []))
+  lists-n : (listing (ro lists) (node (node [] ∷ [])) ≡ 0x72 ∷ 0x6f ∷ 0x6c ∷ 0x69 ∷ 0 ∷ 0 ∷ 0 ∷ 0 ∷ []) × (parse (ro lists) (listing (ro lists) (node (node [] ∷ []))) ≡ some (node (node [] ∷ [])))
 
 pub cases : Cases
 unfolding computes
 cases = record {
   a = (refl, refl, refl);
+  a-reads = (refl, refl, refl);
   b = (refl, refl);
   b-reads = (refl, refl, refl);
   c = (refl, refl, refl);
   d = (refl, refl, refl);
   e = (refl, refl, refl);
+  e-reads = (refl, refl, refl);
   f = (refl, refl, refl, refl);
   f-reads = (refl, refl, refl, refl, refl, refl);
   g = refl;
@@ -161,11 +173,18 @@ cases = record {
   l = refl;
   m = (refl, refl, refl);
   n = (refl, refl);
+  n-reads = (refl, refl);
   bool = (refl, refl);
   past = refl;
   order = (refl, refl, refl, refl);
   under = refl;
   judged = (refl, refl, refl, refl, refl, refl, refl, refl, refl);
+  lists-a = refl;
   lists-b = (refl, refl);
+  lists-c = (refl, refl);
   lists-d = refl;
+  lists-e = refl;
+  lists-f = refl;
+  lists-g = refl;
+  lists-n = (refl, refl);
 }
