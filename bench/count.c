@@ -4,17 +4,22 @@
 #include <stdio.h>
 #include <stdlib.h>
 #include <string.h>
-uint64_t loaf_judge(const uint8_t *, size_t);
-uint64_t loaf_check(const uint8_t *, size_t, const uint8_t *, size_t);
+#include "../desk/loafcompass.h"
 static struct sample s;
+static uint8_t listing[65536], out[65536];
 int main(int argc, char **argv) {
     if (argc != 5 || !make_sample(&s, argv[2], (unsigned)atoi(argv[3]))) return 2;
     uint64_t sum = 0;
+    size_t listed = (size_t)loaf_list(s.schema, s.schema_len, s.row, s.row_len, listing, sizeof listing);
     for (long i = atol(argv[4]); i > 0; i--) {
         if (!strcmp(argv[1], "judge")) sum += loaf_judge(s.schema, s.schema_len);
         else if (!strcmp(argv[1], "check")) sum += loaf_check(s.schema, s.schema_len, s.row, s.row_len);
         else if (!strcmp(argv[1], "plain_judge")) sum += !plain_judge(s.schema, s.schema_len);
         else if (!strcmp(argv[1], "plain_check")) sum += plain_check(s.schema, s.schema_len, s.row, s.row_len);
+        else if (!strcmp(argv[1], "list")) sum += loaf_list(s.schema, s.schema_len, s.row, s.row_len, out, sizeof out) >> 32;
+        else if (!strcmp(argv[1], "plain_list")) sum += plain_list(s.schema, s.schema_len, s.row, s.row_len, out, sizeof out) >> 32;
+        else if (!strcmp(argv[1], "write")) sum += loaf_write(s.schema, s.schema_len, listing, listed, out, sizeof out) >> 32;
+        else if (!strcmp(argv[1], "plain_write")) sum += plain_write(s.schema, s.schema_len, listing, listed, out, sizeof out) >> 32;
         else return 2;
     }
     if (sum) { fprintf(stderr, "refused\n"); return 1; }

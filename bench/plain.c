@@ -6,13 +6,25 @@ static uint64_t get(const uint8_t *p, int n) { uint64_t v = 0; memcpy(&v, p, (si
 static size_t pad(size_t n) { return (n + 7) & ~(size_t)7; }
 static size_t bitmap(size_t n) { return (n + 63) / 64 * 8; }
 
-static const struct { char a, b; int width; } types[12] = {
-    {'b', 'o', 1}, {'i', '1', 1}, {'i', '2', 2}, {'i', '4', 4}, {'i', '8', 8}, {'f', '4', 4}, {'f', '8', 8},
-    {'s', 't', 0}, {'b', 'i', 0}, {'l', 'i', 0}, {'m', 'a', 0}, {'r', 'o', 0}};
+static const int widths[12] = {1, 1, 2, 4, 8, 4, 8, 0, 0, 0, 0, 0};
 
+#define MARK(a, b) ((a) | (b) << 8)
 static int place(const uint8_t *s) {
-    for (int i = 0; i < 12; i++) if (types[i].a == (char)s[0] && types[i].b == (char)s[1]) return i;
-    return 12;
+    switch (MARK(s[0], s[1])) {
+    case MARK('b', 'o'): return 0;
+    case MARK('i', '1'): return 1;
+    case MARK('i', '2'): return 2;
+    case MARK('i', '4'): return 3;
+    case MARK('i', '8'): return 4;
+    case MARK('f', '4'): return 5;
+    case MARK('f', '8'): return 6;
+    case MARK('s', 't'): return 7;
+    case MARK('b', 'i'): return 8;
+    case MARK('l', 'i'): return 9;
+    case MARK('m', 'a'): return 10;
+    case MARK('r', 'o'): return 11;
+    default: return 12;
+    }
 }
 // The position after a type, or 0.
 static size_t skip(const uint8_t *s, size_t len, size_t at, int depth) {
@@ -42,7 +54,7 @@ static int zero(const uint8_t *p, size_t n) { for (size_t i = 0; i < n; i++) if 
 // Children from their types: next is 0 for a list, whose type stays.
 static int children(const uint8_t *s, size_t at, int depth, const uint8_t *b, size_t len, size_t head, size_t n, int list) {
     int k0 = place(s + at);
-    size_t w = list ? (k0 < 7 ? (size_t)types[k0].width : 8) : 8;
+    size_t w = list ? (k0 < 7 ? (size_t)widths[k0] : 8) : 8;
     if (n > len) return 0;
     size_t slots = head + bitmap(n), end = slots + n * w, cur = head + bitmap(n) + pad(n * w);
     if (cur > len) return 0;
@@ -53,7 +65,7 @@ static int children(const uint8_t *s, size_t at, int depth, const uint8_t *b, si
         if (!(b[head + i / 8] >> (i % 8) & 1)) {
             if (k < 7) {
                 if (k == 0 && p[0] > 1) return 0;
-                if (!zero(p + types[k].width, w - (size_t)types[k].width)) return 0;
+                if (!zero(p + widths[k], w - (size_t)widths[k])) return 0;
             } else {
                 uint64_t x = get(p, 8), size = x & 0xFFFFFFFF;
                 if (x >> 32 != cur || cur + pad(size) > len) return 0;
@@ -85,3 +97,7 @@ uint64_t plain_check(const uint8_t *s, size_t slen, const uint8_t *row, size_t l
     if (len > 16384) return 3ull << 32;
     return value(s, 0, 8, row, len) ? 0 : 7ull << 32;
 }
+
+int plain_place(const uint8_t *mark) { return place(mark); }
+int plain_width(int k) { return widths[k]; }
+size_t plain_skip(const uint8_t *s, size_t at) { return skip(s, 1024, at, 9); }

@@ -4,4 +4,10 @@
 #include <stddef.h>
 int plain_judge(const uint8_t *schema, size_t schema_len);
 uint64_t plain_check(const uint8_t *schema, size_t schema_len, const uint8_t *row, size_t row_len);
+uint64_t plain_list(const uint8_t *schema, size_t schema_len, const uint8_t *row, size_t row_len, uint8_t *out, size_t room);
+uint64_t plain_write(const uint8_t *schema, size_t schema_len, const uint8_t *listing, size_t listing_len, uint8_t *out, size_t room);
+// a type's line in the table, its width, and the position behind it in an accepted schema
+int plain_place(const uint8_t *mark);
+int plain_width(int place);
+size_t plain_skip(const uint8_t *schema, size_t at);
 #endif
