@@ -49,6 +49,11 @@ enum loaf_kind { LOAF_NULL = 0, LOAF_BOOL = 1, LOAF_NUMBER = 2, LOAF_FLOAT32 = 3
  * answer[2] the range's length; answer[3] a container's count; unused words are 0. */
 uint64_t loaf_read(const uint8_t *schema, size_t schema_length, const uint8_t *row, size_t row_length, const uint32_t *path, size_t path_length, uint64_t *answer, size_t answer_length);
 
+/* One leaf set in the row: done, or 1, 3, 7, 5, 6, 8, 9. The kind is 0 to 5, as loaf_read tells it; the value is the bool, the number's
+ * 64 bits or the float's bits, and has no say for null and bytes; the bytes have none for the other kinds. A kind that is none, a bool
+ * over 1 or a float32 of more than 32 bits is refused with 8. */
+uint64_t loaf_set(const uint8_t *schema, size_t schema_length, uint8_t *row, size_t row_length, const uint32_t *path, size_t path_length, uint32_t kind, uint64_t value, const uint8_t *bytes, size_t bytes_length);
+
 #ifdef __cplusplus
 }
 #endif

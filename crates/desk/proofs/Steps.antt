@@ -59,7 +59,7 @@ taken-short l p t h =
 
 -- ---- more than sixteen lead to no place, whatever they are
 
-no-place : {A : Type 0} {P : Type 0} (q : Dec P) (m : Option A) → (P → ⊥) → (assert q >> m) ≡ none
+pub no-place : {A : Type 0} {P : Type 0} (q : Dec P) (m : Option A) → (P → ⊥) → (assert q >> m) ≡ none
 unfolding assert
 no-place (yes p) m h = absurd (h p)
 no-place (no n) m h = refl
@@ -68,7 +68,7 @@ pub long-alike : (s row p q : List ℕ) → 16 < length p → 16 < length q → 
 unfolding readOf readIn placed found
 long-alike s row p q a b = rw (no-place (decLe (length p) 16) _ (λ l. omega (arith, a)), no-place (decLe (length q) 16) _ (λ l. omega (arith, b)))
 
-above : (l : List ℕ) → (length l ≤ 16 → ⊥) → 16 < length l
+pub above : (l : List ℕ) → (length l ≤ 16 → ⊥) → 16 < length l
 above l n = omega (arith, n)
 
 pub taken-reads : (l : List ℕ) (p : Path) → Taken l p → (s row : List ℕ) → readOf s row (pathOf p) ≡ readOf s row l

@@ -2,15 +2,26 @@
 ghost use mathlib.Core.Path.{_≡_};
 ghost use Rattle.layout.specs.Entries.{judgeOf, checkOf, writeOf, writtenOf, listOf, listedOf, readOf};
 ghost use Rattle.answers.specs.Meaning.{outcomeMeans, lengthMeans};
+ghost use Rattle.answers.specs.Paths.{pathOf};
+ghost use Rattle.desk.specs.Asked.{askedOf, unfitOf, setAsked, Leaves};
 ghost use Rattle.desk.specs.Codes.{verdictCode, sizedCode, Halved, Fills};
 ghost use Rattle.desk.specs.Steps.{Taken};
 ghost use Rattle.desk.specs.Words.{Tells};
+ghost use Prim.Native.Nat.{_*_, _^_};
 ghost use lib.ListN.{length};
 use answers::Length;
 use answers::Outcome;
 use answers::Path;
+use answers::Setting;
 
+pub mod kinds;
 pub mod told;
+
+// What a kind and a value ask for: nothing that there is, or a setting.
+pub enum Asked {
+    Nothing,
+    Of(Setting),
+}
 
 // An outcome's code.
 fn outcome_code(o: Outcome) -> u64
@@ -37,7 +48,7 @@ fn length_code(l: Length) -> u64
 }
 
 // Lent steps as a path: of more than 16 the first 16 are kept, and the length says how many there were.
-fn path_of(steps: &[u32]) -> Path
+pub fn path_of(steps: &[u32]) -> Path
     ensures { λ r. ⌜ Taken (now (steps .entry)) r ⌝ }
 {
     let mut held = [0u32; 16];
@@ -89,4 +100,39 @@ pub extern "C" fn loaf_read(schema: &[u8], row: &[u8], path: &[u32], answer: &mu
     ensures { λ r. ⌜ Tells (readOf (now (schema .entry)) (now (row .entry)) (now (path .entry))) (now (answer .entry)) r (now (answer .exit)) ⌝ }
 {
     told::put_answer(answer, row::read(schema, row, path_of(path)))
+}
+
+// A setting that is none is refused with 8, after the refusals of the row and of the place.
+fn refuse(schema: &[u8], row: &[u8], path: Path) -> u64
+    ensures { λ r. ⌜ r ≡ unfitOf (now (schema .entry)) (now (row .entry)) (pathOf path) * 2 ^ 32 ⌝ }
+{
+    let judged = outcome_code(row::check(schema, row));
+    if judged != 0 {
+        return judged;
+    }
+    let mut answer = [0u64; 4];
+    let found = told::put_answer(&mut answer, row::read(schema, row, path));
+    if found != 0 {
+        return found;
+    }
+    0x8_0000_0000
+}
+
+// A kind as loaf_read tells it, 0 to 5; only a bool, a number or a float looks at the value, and only bytes at the bytes.
+#[no_mangle]
+pub extern "C" fn loaf_set(
+    schema: &[u8],
+    row: &mut [u8],
+    path: &[u32],
+    kind: u32,
+    value: u64,
+    bytes: &[u8],
+) -> u64
+    ensures { λ r. ⌜ Leaves (setAsked (now (schema .entry)) (now (row .entry)) (now (path .entry)) (askedOf kind value (now (bytes .entry)))) (now (row .entry)) r (now (row .exit)) ⌝ }
+{
+    let p = path_of(path);
+    match kinds::of_kind(kind, value) {
+        Asked::Nothing => refuse(schema, row, p),
+        Asked::Of(x) => outcome_code(row::set(schema, row, p, x, bytes)),
+    }
 }
