@@ -1,62 +1,31 @@
 -- Lists by the kind of their elements, as the code that judges one meets them. Assumes nothing.
-use mathlib.Core.Path.{_≡_, refl, sym, ap, _∙_, subst}
-use mathlib.Core.Bool.{Bool, true, false, cond}
-use mathlib.Core.Option.{Option, none, some}
+use mathlib.Core.Path.{_≡_, sym, ap, _∙_, subst}
+use mathlib.Core.Bool.{Bool, true, false}
+use mathlib.Core.Option.{some}
 use mathlib.Core.List.{List}
-use Prim.Native.Nat.{ℕ, zero, suc, _+_, _*_, _-_, _/_, _%_, _^_, _≤_, _<_}
+use Prim.Native.Nat.{ℕ, _+_, _*_, _-_, _^_, _≤_, _<_}
 use native.Mathlib.Nat.{mul-le-mul-left, mul-one}
 use native.Mathlib.Omega.{arith}
 use lib.Dec.{eqb, ltb}
-use lib.ListN.{length, replicate}
+use lib.ListN.{length}
 use borrow.Author.Tests.{lt-ltb, le-ltb}
 use Rattle.words.specs.Bytes.{Bytes, num, pad, bitmap, part}
 use Rattle.words.specs.Reads.{Reads}
-use Rattle.words.proofs.Parts.{length-part}
 use Rattle.words.proofs.Numbers.{num-lt}
-use Rattle.schema.specs.Marks.{types, line}
-use Rattle.schema.specs.Types.{Fixed, bo, width, fixedPlace, fixedAt, Text, textPlace, textAt, Ty, fix, text, li, ma, ro, place}
+use Rattle.schema.specs.Marks.{types, elementWidth}
+use Rattle.schema.specs.Types.{Fixed, bo, width, fixedPlace, fixedAt, textAt, Ty, fix, text, li, place}
 use Rattle.schema.specs.Kinds.{placeAt}
-use Rattle.schema.specs.Walk.{Typed, typeAt}
-use Rattle.schema.proofs.Table.{width-8, width-pos, fixed-high, text-low, line-width, fixed-at, place-fixed}
-use Rattle.schema.proofs.Places.{typed-marked, typed-place, fixed-of, text-of}
-use Rattle.layout.specs.Layout.{Codec, Kid, number, string, inside, outside, kidOf, kid, slotOf, front, array, pair, struct, limit, codec}
+use Rattle.schema.specs.Walk.{typeAt}
+use Rattle.schema.proofs.Table.{width-pos, place-fixed}
+use Rattle.schema.proofs.Places.{typed-place, fixed-of, text-of}
+use Rattle.layout.specs.Layout.{number, string, inside, kidOf, slotOf, front, limit, codec}
 use Rattle.layout.specs.Setting.{isSome}
 use Rattle.layout.proofs.Cursor.{Blind, kid-blind, repeat-blind}
 use Rattle.checking.specs.Sound.{sound, goodFrom}
-use Rattle.checking.specs.Room.{elementsOf, ListRoom, Items, Holding, texts, bools, elements}
-use Rattle.checking.proofs.Containers.{list-short, list-unfit, list-past, list-filled, list-good}
+use Rattle.checking.specs.Room.{ListRoom, Items, Holding, texts, bools, elements}
+use Rattle.checking.proofs.Containers.{list-unfit, list-past, list-filled, list-good}
 use Rattle.checking.proofs.Leaves.{number-judged, numbers-from}
-use Rattle.checking.proofs.Fields.{limit-free}
-
--- ---- the width of an element
-
-fixed-line : (f : Fixed) → line (fixedPlace f) .width ≡ width f
-unfolding width
-fixed-line f = refl
-
-pub element-wide : (t : Ty) (k : ℕ) → k ≡ place t → elementsOf k ≡ slotOf (codec t .wide)
-unfolding elementsOf place slotOf codec number string array pair struct
-element-wide (fix f) k e = rw (lt-ltb k 7 (omega (arith, fixed-high f)), e) (fixed-line f)
-element-wide (text t) k e = rw (le-ltb k 7 (omega (arith, text-low t)))
-element-wide (li t) k e = rw (le-ltb k 7 (omega arith))
-element-wide (ma a b) k e = rw (le-ltb k 7 (omega arith))
-element-wide (ro ts) k e = rw (le-ltb k 7 (omega arith))
-
-slot-small : (t : Ty) → slotOf (codec t .wide) ≤ 8
-unfolding slotOf codec number string array pair struct
-slot-small (fix f) = width-8 f
-slot-small (text t) = omega arith
-slot-small (li t) = omega arith
-slot-small (ma a b) = omega arith
-slot-small (ro ts) = omega arith
-
-slot-some : (t : Ty) → 1 ≤ slotOf (codec t .wide)
-unfolding slotOf codec number string array pair struct
-slot-some (fix f) = width-pos f
-slot-some (text t) = omega arith
-slot-some (li t) = omega arith
-slot-some (ma a b) = omega arith
-slot-some (ro ts) = omega arith
+use Rattle.layout.proofs.Widths.{element-wide, slot-small, slot-some, limit-free}
 
 -- numbers of any width, as they stand
 fixed-fine : (f : Fixed) → (fixedPlace f ≡ 0 → ⊥) → (u : List ℕ) → Bytes u → length u ≡ width f → isSome (number (width f) (limit f) .get u) ≡ true
@@ -93,7 +62,7 @@ module _ (s : List ℕ) (at d : ℕ) (b : List ℕ) (hd : Holding s at d b) (hb 
   pub list-many : length b < n → false ≡ sound (li t) b
   list-many h = sym (list-unfit t b n (rn .is) l8 (omega (arith, many)))
 
-  module _ (k : ℕ) (ek : k ≡ placeAt s at) (w : ℕ) (ew : w ≡ elementsOf k) (nb : n ≤ length b) where
+  module _ (k : ℕ) (ek : k ≡ placeAt s at) (w : ℕ) (ew : w ≡ elementWidth k) (nb : n ≤ length b) where
     kp : k ≡ place t
     kp = ek ∙ typed-place s at d (hd .typed)
 
@@ -173,7 +142,7 @@ module _ (s : List ℕ) (at d : ℕ) (b : List ℕ) (hd : Holding s at d b) (hb 
 
             -- containers
             eight-wide : 9 ≤ k → v ≡ 8
-            unfolding elementsOf
+            unfolding elementWidth
             eight-wide h = sym (element-wide t k kp) ∙ rw (le-ltb k 7 (omega arith))
 
             pub items-room : 9 ≤ k → Items s at d k b n

@@ -1,38 +1,27 @@
 -- A fixed-width field in its slot, judged by the slot's number. Assumes nothing.
-use mathlib.Core.Path.{_≡_, refl, sym, ap, _∙_, subst}
+use mathlib.Core.Path.{_≡_, refl, sym, ap, _∙_}
 use mathlib.Core.Bool.{Bool, true, false}
 use mathlib.Core.List.{List}
-use Prim.Native.Nat.{ℕ, zero, suc, _+_, _*_, _-_, _/_, _%_, _^_, _≤_, _<_}
+use Prim.Native.Nat.{ℕ, zero, suc, _+_, _*_, _-_, _/_, _^_, _≤_, _<_}
 use native.Mathlib.Decide.{ℕ-discrete}
 use native.Mathlib.Omega.{arith}
 use lib.Dec.{eqb, ltb}
-use lib.ListN.{length}
 use borrow.Author.Tests.{eq-eqb, ne-eqb, lt-ltb, le-ltb}
 use Rattle.words.specs.Bytes.{Bytes, num, part}
 use Rattle.words.specs.Bits.{bit}
 use Rattle.words.specs.Reads.{Reads}
-use Rattle.words.proofs.Parts.{length-part, bytes-part}
+use Rattle.words.proofs.Parts.{length-part}
 use Rattle.words.proofs.NumLaws.{part-lt, num-high, num-part, pow256}
 use Rattle.schema.specs.Marks.{types, line}
 use Rattle.schema.specs.Types.{Fixed, bo, i1, i2, i4, i8, f4, f8, width, fixedPlace, fixedAt}
 use Rattle.schema.proofs.Table.{width-8, place-fixed, line-width}
 use Rattle.layout.specs.Layout.{number, limit}
 use Rattle.layout.specs.Setting.{isSome}
+use Rattle.layout.proofs.Widths.{limit-free}
 use Rattle.checking.specs.Sound.{both}
 use Rattle.checking.specs.Room.{FieldRoom, fieldGood, either}
 use Rattle.checking.proofs.Tests.{both-false}
 use Rattle.checking.proofs.Leaves.{number-judged, tail}
-
--- any bytes of its width are a number of the type, unless it is bool
-pub limit-free : (f : Fixed) → (fixedPlace f ≡ 0 → ⊥) → limit f ≡ 256 ^ width f
-unfolding limit width types fixedPlace
-limit-free bo h = absurd (h refl)
-limit-free i1 h = refl
-limit-free i2 h = refl
-limit-free i4 h = refl
-limit-free i8 h = refl
-limit-free f4 h = refl
-limit-free f8 h = refl
 
 bool-at : (k : ℕ) → k ≡ 0 → fixedAt k ≡ bo
 unfolding fixedAt

@@ -1,13 +1,12 @@
 -- What the functions of `checking` ask of a container's positions, and what they hand on. Assumes nothing: these are definitions.
 use mathlib.Core.Path.{_≡_}
-use mathlib.Core.Bool.{Bool, true, false, cond}
+use mathlib.Core.Bool.{Bool, true, false}
 use mathlib.Core.List.{List}
 use Prim.Native.Nat.{ℕ, _+_, _*_, _-_, _/_, _≤_, _<_}
-use lib.Dec.{eqb, ltb}
+use lib.Dec.{eqb}
 use lib.ListN.{length, replicate}
 use Rattle.words.specs.Bytes.{num, pad, bitmap, part}
 use Rattle.words.specs.Bits.{bit}
-use Rattle.schema.specs.Marks.{line}
 use Rattle.schema.specs.Types.{Fixed, width, Ty}
 use Rattle.schema.specs.Kinds.{placeAt}
 use Rattle.schema.specs.Walk.{Typed, TypedAll}
@@ -51,10 +50,6 @@ pub record FieldRoom (b : List ℕ) (i slot k : ℕ) : Type 0 where
   pub fixed : k < 7
   pub bit-room : 0 + i / 8 < length b
   pub slot-room : slot + 8 ≤ length b
-
--- the bytes of an element of the type at place k of the table: its width, 8 where it varies
-unfoldable pub elementsOf : ℕ → ℕ
-elementsOf k = cond (ltb k 7) (line k .width) 8
 
 -- a type stands at a position of the schema, and b is short enough for a row
 pub record Holding (s : List ℕ) (at d : ℕ) (b : List ℕ) : Type 0 where

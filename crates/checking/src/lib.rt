@@ -8,7 +8,7 @@ ghost use Rattle.schema.specs.Types.{ro, li, ma, fixedAt};
 ghost use Rattle.schema.specs.Kinds.{placeAt};
 ghost use Rattle.schema.specs.Walk.{Typed, typeAt, typesAt, nextAt};
 ghost use Rattle.checking.specs.Sound.{sound, goodFrom};
-ghost use Rattle.checking.specs.Room.{FieldRoom, fieldGood, elementsOf, Holding, Container, Items, StructItems, Pair, Fields, elements};
+ghost use Rattle.checking.specs.Room.{FieldRoom, fieldGood, Holding, Container, Items, StructItems, Pair, Fields, elements};
 ghost use Rattle.schema.specs.Reading.{judged};
 ghost use Rattle.schema.specs.Walk.{fieldsOf};
 ghost use Rattle.schema.specs.declared.Judged.the-variants.{Accepted};
@@ -34,14 +34,6 @@ fn check_field(b: &[u8], i: usize, slot: usize, k: usize) -> bool
         return x < 2;
     }
     x >> (8 * schema::width_of(k)) == 0
-}
-
-// The bytes of an element of the type at place k of the table.
-fn element_width(k: usize) -> usize
-    requires { ⌜ k < 12 ⌝ }
-    ensures { λ r. ⌜ r ≡ elementsOf k ⌝ }
-{
-    if k < 7 { schema::width_of(k) } else { 8 }
 }
 
 // Bytes that should stand for contents of a container type, whose place in the table is k.
@@ -72,7 +64,7 @@ fn check_list(s: &[u8], at: usize, depth: usize, b: &[u8]) -> bool
         return false;
     }
     let k = schema::marks::place_at(s, at);
-    let w = element_width(k);
+    let w = schema::element_width(k);
     let slots = 8 + words::sizes::bitmap_size(n);
     let end = slots + n * w;
     let start = words::sizes::pad_size(end);
@@ -227,7 +219,7 @@ fn check_struct(s: &[u8], first: usize, n: usize, depth: usize, b: &[u8]) -> boo
             continue;
         }
         let here = at;
-        at = next_field(s, here, depth, k);
+        at = schema::next_type(s, here, depth, k);
         if words::nulls::is_null(b, 0, i) {
             slot += 8;
             i += 1;
@@ -262,17 +254,6 @@ fn check_struct(s: &[u8], first: usize, n: usize, depth: usize, b: &[u8]) -> boo
         i += 1;
     }
     cur == b.len()
-}
-
-// Where the next field's type stands: a leaf's takes two bytes.
-fn next_field(s: &[u8], at: usize, depth: usize, k: usize) -> usize
-    requires { ⌜ (Typed (now s) at depth) × (k ≡ placeAt (now s) at) ⌝ }
-    ensures { λ r. ⌜ r ≡ nextAt (now (s .entry)) at depth ⌝ }
-{
-    if k < 9 {
-        return at + 2;
-    }
-    schema::next(s, at, depth)
 }
 
 // Whether the row stands for contents of an accepted schema.

@@ -28,3 +28,4 @@ pub mod Seen
 pub mod Changed
 pub mod Refused
 pub mod Demanded
+pub mod Widths

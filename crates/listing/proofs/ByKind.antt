@@ -21,8 +21,9 @@ use Rattle.schema.proofs.Table.{fixed-high, line-width, place-fixed, place-text
 use Rattle.schema.proofs.Places.{typed-place, fixed-of, text-of}
 use Rattle.layout.specs.Layout.{slotOf, number, string, array, pair, struct, codec}
 use Rattle.layout.specs.Listing.{nu}
+use Rattle.schema.specs.Marks.{elementWidth}
 use Rattle.listing.specs.Lines.{lines, itemLines, ownBytes, childLines}
-use Rattle.listing.specs.Room.{elementWidth, leafAt, Holds, Within, Own, Seated, Leaf, Child, Container, Items, Numbers, Texts, Leaves, Elements}
+use Rattle.listing.specs.Room.{leafAt, Holds, Within, Own, Seated, Leaf, Child, Container, Items, Numbers, Texts, Leaves, Elements}
 use Rattle.listing.proofs.Held.{fixed-lines, text-lines, mark-at}
 use Rattle.listing.proofs.Children.{Counted, counted}
 

@@ -7,39 +7,21 @@ use Prim.Native.Nat.{ℕ, suc, _+_, _*_, _^_, _≤_, _<_}
 use native.Mathlib.Nat.{mul-le-mul-right}
 use native.Mathlib.Omega.{arith}
 use lib.ListN.{length, getD, replicate, length-replicate, getD-replicate}
-use borrow.Author.Tests.{lt-ltb, le-ltb}
 use Rattle.words.specs.Bytes.{num, pad, bitmap, part}
 use Rattle.words.specs.Bits.{bit}
-use Rattle.schema.specs.Types.{Ty, fix, text, li, ma, ro, count, width, place, mark}
-use Rattle.schema.proofs.Table.{fixed-high, text-low, width-8}
+use Rattle.schema.specs.Types.{Ty, li, count, width, place, mark}
 use Rattle.layout.specs.Cells.{Cell, leaf, onNull, parts, part as partOf}
-use Rattle.layout.specs.Layout.{slotOf, codec, number, string, array, pair, struct, Lays}
+use Rattle.layout.specs.Layout.{slotOf, codec, struct, Lays}
 use Rattle.layout.specs.Listing.{nu, Script, item, element, script}
 use Rattle.layout.specs.Walk.{rootSeat, stepIn, child, childTy}
 use Rattle.layout.proofs.Stepped.{Comes}
 use Rattle.layout.proofs.Walked.{list-says, comes}
+use Rattle.schema.specs.Marks.{elementWidth}
+use Rattle.layout.proofs.Widths.{element-wide}
 use Rattle.listing.specs.Lines.{cellOf, itemLines, childLines, Written}
-use Rattle.listing.specs.Room.{elementWidth, Own, Seated, Items}
+use Rattle.listing.specs.Room.{Own, Seated, Items}
 use Rattle.listing.proofs.Found.{There, there-child, lines-child}
 use Rattle.listing.proofs.Turns.{Going, going-start, going-end, going-room, going-next}
-
--- ---- widths
-
-pub element-wide : (t : Ty) (k : ℕ) → k ≡ place t → elementWidth k ≡ slotOf (codec t .wide)
-unfolding elementWidth place codec slotOf number string array pair struct width
-element-wide (fix f) k e = rw (e, lt-ltb _ 7 (fixed-high f))
-element-wide (text t) k e = rw (e, le-ltb _ 7 (text-low t))
-element-wide (li t) k e = rw e
-element-wide (ma a v) k e = rw e
-element-wide (ro ts) k e = rw e
-
-pub slot-most : (t : Ty) → slotOf (codec t .wide) ≤ 8
-unfolding codec slotOf number string array pair struct
-slot-most (fix f) = width-8 f
-slot-most (text t) = omega arith
-slot-most (li t) = omega arith
-slot-most (ma a v) = omega arith
-slot-most (ro ts) = omega arith
 
 -- what an item lists does not depend on the slot's width
 item-put : (w : ℕ) (t : Ty) (x : Cell) → item w (mark t) (script t) .put x ≡ onNull (λ _. nu) (mark t ++ script t .put x) x

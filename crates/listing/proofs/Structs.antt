@@ -21,11 +21,12 @@ use Rattle.layout.proofs.Children.{all-length}
 use Rattle.layout.proofs.Containers.{body-total, body-fit, kids-lawful, kids-count}
 use Rattle.layout.proofs.Stepped.{Comes}
 use Rattle.layout.proofs.Walked.{comes}
+use Rattle.layout.proofs.Widths.{slot-small}
 use Rattle.listing.specs.Lines.{cellOf, fieldLines, childLines, Written}
 use Rattle.listing.specs.Room.{Own, Seated, Fields}
 use Rattle.listing.proofs.Found.{There, there-child, lines-child}
 use Rattle.listing.proofs.Turns.{Going, going-start, going-end, going-room, going-next}
-use Rattle.listing.proofs.Children.{slot-most, noScript}
+use Rattle.listing.proofs.Children.{noScript}
 
 scripts-count : (ts : Tys) → length (scripts ts) ≡ count ts
 unfolding script count
@@ -137,7 +138,7 @@ module _ {s : List ℕ} {first n d : ℕ} {b : List ℕ} {pos : ℕ} (r : Fields
         bytes = r .holds .bytes;
         small = r .holds .small;
         bit-room = omega (arith, fields-room);
-        slot-room = omega (arith, field-fits, slot-most t);
+        slot-room = omega (arith, field-fits, slot-small t);
         present = there;
         room = field-room;
       }

@@ -24,10 +24,6 @@ pub record Holds (t : Ty) (b : List ℕ) : Type 0 where
   pub small : length b ≤ 16384
   pub lays : Lays t (cellOf t b) b
 
--- the bytes of an element of the type at place k of the table: its width, 8 where it varies
-unfoldable pub elementWidth : ℕ → ℕ
-elementWidth k = cond (ltb k 7) (line k .width) 8
-
 -- the leaf at place k of the table
 unfoldable pub leafAt : ℕ → Ty
 leafAt k = cond (ltb k 7) (fix (fixedAt k)) (text (textAt k))

@@ -11,7 +11,7 @@ ghost use Rattle.layout.specs.Listing.{nu};
 ghost use Rattle.layout.specs.Setting.{orEmpty};
 ghost use Rattle.layout.specs.Entries.{listingOf};
 ghost use Rattle.listing.specs.Lines.{lines, itemLines, fieldLines, childLines, Written, Answered};
-ghost use Rattle.listing.specs.Room.{CopyRoom, NumberRoom, TextRoom, elementWidth, leafAt, Leaf, Child, Container, Numbers, Texts, Leaves, Elements, Pair, Fields, Checked};
+ghost use Rattle.listing.specs.Room.{CopyRoom, NumberRoom, TextRoom, leafAt, Leaf, Child, Container, Numbers, Texts, Leaves, Elements, Pair, Fields, Checked};
 
 // The mark at place k of the table.
 fn put_mark(out: &mut [u8], pos: usize, k: usize) -> usize
@@ -66,14 +66,6 @@ fn put_bytes(out: &mut [u8], pos: usize, b: &[u8], from: usize, n: usize) -> usi
     }
     words::copies::copy(out, pos, b, from, n);
     end
-}
-
-// The bytes of an element of the type at place k of the table.
-fn element_width(k: usize) -> usize
-    requires { ⌜ k < 12 ⌝ }
-    ensures { λ r. ⌜ r ≡ elementWidth k ⌝ }
-{
-    if k < 7 { schema::width_of(k) } else { 8 }
 }
 
 // A number of the type at place k of the table. Without room for all of it nothing is written, and each width has its own load and
@@ -153,7 +145,7 @@ fn list_numbers(k: usize, b: &[u8], out: &mut [u8], pos: usize) -> usize
     ensures { λ r. ⌜ Written (now (out .entry)) pos (itemLines (leafAt k) (now (b .entry))) (now (out .exit)) r ⌝ }
 {
     let n = words::nums::get8(b, 0) as usize;
-    let w = element_width(k);
+    let w = schema::element_width(k);
     let mut i: usize = 0;
     let mut slot = 8 + words::sizes::bitmap_size(n);
     let mut p = pos;

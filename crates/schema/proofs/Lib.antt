@@ -7,3 +7,4 @@ pub mod Typing
 pub mod Judging
 pub mod Cases
 pub mod Places
+pub mod Leaves

@@ -1,6 +1,8 @@
 -- The constant table: mark, bytes and kind of the twelve types. Assumes nothing: these are definitions.
 use mathlib.Core.List.{List, [], _∷_}
+use mathlib.Core.Bool.{cond}
 use Prim.Native.Nat.{ℕ}
+use lib.Dec.{ltb}
 use lib.ListN.{getD}
 use Rattle.schema.specs.declared.Entry.{Entry}
 use Rattle.schema.specs.declared.Sort.{Sort}
@@ -33,3 +35,7 @@ line k = getD types k (entry 0 0 0 Fixed)
 -- the mark at a place of the table
 unfoldable pub markAt : ℕ → List ℕ
 markAt k = line k .first ∷ line k .second ∷ []
+
+-- the bytes of an element of the type at a place of the table: a slot's 8 where they vary
+unfoldable pub elementWidth : ℕ → ℕ
+elementWidth k = cond (ltb k 7) (line k .width) 8

@@ -50,6 +50,11 @@ skipAt s at d = after (parse d (drop at s)) Stop (λ t r. To (at + size t))
 unfoldable pub skipAll : List ℕ → ℕ → ℕ → ℕ → Reach
 skipAll s at d n = afters (parseAll (parse d) n (drop at s)) Stop (λ ts r. To (at + sizes ts))
 
+-- a leaf stands at a position: its mark's two bytes
+pub record LeafAt (s : List ℕ) (at d : ℕ) : Type 0 where
+  pub room : at + 2 ≤ length s
+  pub skips : skipAt s at d ≡ To (at + 2)
+
 -- from the position that a skip came to
 abbrev pub onward : Reach → (ℕ → Reach) → Reach
 onward (To e) f = f e

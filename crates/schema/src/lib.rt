@@ -1,11 +1,12 @@
 // The schema of a row: the house form, judged and walked by position.
 ghost use mathlib.Core.Path.{_≡_};
+ghost use mathlib.Core.Bool.{true};
 ghost use Prim.Native.Nat.{_<_};
 ghost use lib.ListN.{getD};
-ghost use Rattle.schema.specs.Marks.{line};
-ghost use Rattle.schema.specs.Kinds.{isStruct};
+ghost use Rattle.schema.specs.Marks.{line, elementWidth};
+ghost use Rattle.schema.specs.Kinds.{isStruct, placeAt};
 ghost use Rattle.schema.specs.Reading.{judged};
-ghost use Rattle.schema.specs.Walk.{Typed, HasField, fieldAt, openAt, nextAt, skipAt, skipAll};
+ghost use Rattle.schema.specs.Walk.{Typed, HasField, LeafAt, fieldAt, openAt, nextAt, skipAt, skipAll};
 
 pub mod marks;
 
@@ -143,6 +144,14 @@ pub fn width_of(k: usize) -> usize
     wide(TYPES[k].width)
 }
 
+// The bytes of an element of the type at a place of the table: a slot's 8 where they vary.
+pub fn element_width(k: usize) -> usize
+    requires { ⌜ k < 12 ⌝ }
+    ensures { λ r. ⌜ r ≡ elementWidth k ⌝ }
+{
+    if k < 7 { width_of(k) } else { 8 }
+}
+
 // The byte at a position, and 0 past the end.
 pub fn byte_at(s: &[u8], at: usize) -> u8
     ensures { λ r. ⌜ r ≡ getD (now (s .entry)) at 0 ⌝ }
@@ -187,6 +196,22 @@ pub fn skip(s: &[u8], at: usize, depth: usize) -> Reach
     }
 }
 
+// Whether a leaf is known to stand at a position: most fields are leaves, and need no walk.
+fn leaf_at(s: &[u8], at: usize, depth: usize) -> bool
+    ensures { λ r. ⌜ (r ≡ true → LeafAt (now (s .entry)) at depth) ⌝ }
+{
+    if depth == 0 {
+        return false;
+    }
+    if s.len() <= at {
+        return false;
+    }
+    if s.len() - at < 2 {
+        return false;
+    }
+    marks::place_of(s[at], s[at + 1]) < 9
+}
+
 // The position after n types one after the other: a loop, so that the stack grows with the depth alone.
 pub fn skip_fields(s: &[u8], at: usize, depth: usize, n: usize) -> Reach
     ensures { λ r. ⌜ r ≡ skipAll (now (s .entry)) at depth n ⌝ }
@@ -194,6 +219,11 @@ pub fn skip_fields(s: &[u8], at: usize, depth: usize, n: usize) -> Reach
     let mut cur = at;
     let mut left = n;
     while left != 0 {
+        if leaf_at(s, cur, depth) {
+            cur += 2;
+            left -= 1;
+            continue;
+        }
         match skip(s, cur, depth) {
             Reach::To(e) => {
                 cur = e;
@@ -254,6 +284,17 @@ pub fn next(s: &[u8], at: usize, depth: usize) -> usize
     }
 }
 
+// The same where the type's place in the table is known: a leaf takes its mark's two bytes.
+pub fn next_type(s: &[u8], at: usize, depth: usize, k: usize) -> usize
+    requires { ⌜ (Typed (now s) at depth) × (k ≡ placeAt (now s) at) ⌝ }
+    ensures { λ r. ⌜ r ≡ nextAt (now (s .entry)) at depth ⌝ }
+{
+    if k < 9 {
+        return at + 2;
+    }
+    next(s, at, depth)
+}
+
 // The type at a position of an accepted schema, taken apart.
 pub fn open(s: &[u8], at: usize, depth: usize) -> Opened
     requires { ⌜ Typed (now s) at depth ⌝ }
@@ -282,7 +323,7 @@ pub fn field_at(s: &[u8], first: usize, depth: usize, i: usize) -> usize
     let mut at = first;
     let mut j = 0;
     while j < i {
-        at = next(s, at, depth);
+        at = next_type(s, at, depth, marks::place_at(s, at));
         j += 1;
     }
     at

@@ -3,12 +3,10 @@
 ghost use mathlib.Core.Path.{_≡_};
 ghost use Prim.Native.Nat.{_+_, _*_, _^_, _≤_, _<_};
 ghost use lib.ListN.{length};
-ghost use lib.Seq.{sets};
 ghost use lib.Signed.{mag};
-ghost use Rattle.words.specs.Bytes.{le, num, part};
+ghost use Rattle.words.specs.Bytes.{num, part};
 ghost use Rattle.words.specs.Signed.{halfOf, isNegative, ofMagnitude, toSigned, ofSigned, inRange};
 use crate::nums::get_num;
-use crate::nums::put_num;
 
 pub fn negative(x: i64) -> bool
     ensures { λ r. ⌜ r ≡ isNegative x ⌝ }
@@ -73,11 +71,4 @@ pub fn get_signed(b: &[u8], at: usize, k: usize) -> i64
     ensures { λ r. ⌜ r ≡ toSigned (halfOf k) (num (part (now (b .entry)) at k)) ⌝ }
 {
     to_signed(get_num(b, at, k), k)
-}
-
-pub fn put_signed(b: &mut [u8], at: usize, k: usize, x: i64)
-    requires { ⌜ (at + k ≤ length (now b)) × (0 < k) × (k ≤ 8) × (mag x < halfOf k) ⌝ }
-    ensures { λ _. ⌜ now (b .exit) ≡ sets (now (b .entry)) at (le k (ofSigned (halfOf k) x)) ⌝ }
-{
-    put_num(b, at, k, of_signed(x, k));
 }

@@ -2,67 +2,34 @@
 use mathlib.Core.Path.{_≡_, refl, sym, ap, _∙_}
 use mathlib.Core.Option.{Option, none, some}
 use mathlib.Core.List.{List, [], _∷_}
-use Prim.Native.Nat.{ℕ, zero, _+_, _-_, _≤_, _<_, _^_}
+use Prim.Native.Nat.{ℕ, _+_, _-_, _≤_, _<_}
 use native.Mathlib.Omega.{arith}
-use lib.Dec.{ltb}
 use lib.ListN.{length, drop, getD, length-append}
-use borrow.Author.Tests.{lt-ltb, le-ltb}
 use Rattle.words.specs.Bytes.{Bytes, num, part, zeros, pad, padded}
 use Rattle.words.proofs.Numbers.{bytes-drop, length-padded, length-le}
 use Rattle.words.proofs.Parts.{length-part}
 use Rattle.words.proofs.NumLaws.{part-lt, num-one}
 use Rattle.schema.specs.Marks.{types, line}
-use Rattle.schema.specs.Types.{Fixed, bo, i1, i2, i4, i8, f4, f8, width, fixedPlace, fixedAt, Text, st, Ty, fix, text, li, ma, ro, Tys, place, mark}
-use Rattle.schema.proofs.Table.{width-8, width-pos, fixed-high, text-low, line-width, place-fixed}
-use Rattle.layout.specs.Reader.{cut}
-use Rattle.layout.specs.Cells.{Cell, null, leaf, node, onNull, bytes, parts, flag}
-use Rattle.layout.specs.Layout.{Codec, Kid, number, string, inside, outside, kidOf, kid, kidTail, slotOf, array, pair, struct, list, limit, codec, content}
-use Rattle.layout.specs.Listing.{nu, Script, item, structScript, listScript, mapScript, element, script}
+use Rattle.schema.specs.Types.{Fixed, bo, width, fixedPlace, fixedAt, Text, st, Ty, fix, text, li, ma, ro, Tys, mark}
+use Rattle.schema.proofs.Table.{width-pos, line-width, place-fixed}
+use Rattle.layout.specs.Cells.{Cell, null, leaf, node, onNull, bytes, flag}
+use Rattle.layout.specs.Layout.{Codec, Kid, number, string, inside, outside, kidOf, kid, kidTail, array, pair, struct, limit, codec, content}
+use Rattle.layout.specs.Listing.{nu, structScript, listScript, mapScript, script}
 use Rattle.layout.proofs.Reader.{when-some}
 use Rattle.layout.proofs.Cells.{parts-node, present, leaf-bytes}
 use Rattle.layout.proofs.Containers.{codec-lawful}
 use Rattle.layout.proofs.Items.{Listed}
 use Rattle.layout.proofs.Listed.{script-lawful}
-use Rattle.writing.specs.Measure.{slotsOf, padOf, Told, tailLen, size, BodyTold, SizeTold, ChildTold, ArrayTold, FieldsTold}
+use Rattle.layout.proofs.Widths.{limit-free}
+use Rattle.writing.specs.Measure.{padOf, tailLen, size, BodyTold, SizeTold, ChildTold, ArrayTold, FieldsTold}
 use Rattle.writing.specs.declared.Measured.{Measured}
 use Rattle.writing.specs.declared.Measured.the-variants.{Refused, Good}
 use Rattle.writing.proofs.Records.{cut-short, cut-at, item-short, item-null, item-other, item-body, number-short, number-high, number-good, text-short, text-cut, text-good}
 
 -- ---- widths
 
-fixed-line : (f : Fixed) → line (fixedPlace f) .width ≡ width f
-unfolding width
-fixed-line f = refl
-
-pub element-wide : (t : Ty) (k : ℕ) → k ≡ place t → slotsOf k ≡ slotOf (codec t .wide)
-unfolding slotsOf place slotOf codec number string array pair struct
-element-wide (fix f) k e = rw (lt-ltb k 7 (omega (arith, fixed-high f)), e) (fixed-line f)
-element-wide (text t) k e = rw (le-ltb k 7 (omega (arith, text-low t)))
-element-wide (li t) k e = rw (le-ltb k 7 (omega arith))
-element-wide (ma a b) k e = rw (le-ltb k 7 (omega arith))
-element-wide (ro ts) k e = rw (le-ltb k 7 (omega arith))
-
-pub slot-small : (t : Ty) → slotOf (codec t .wide) ≤ 8
-unfolding slotOf codec number string array pair struct
-slot-small (fix f) = width-8 f
-slot-small (text t) = omega arith
-slot-small (li t) = omega arith
-slot-small (ma a b) = omega arith
-slot-small (ro ts) = omega arith
-
 pub line-some : (k : ℕ) → k < 7 → 1 ≤ line k .width
 line-some k h = rw (line-width k h) (width-pos (fixedAt k))
-
--- any bytes of its width are a number of the type, unless it is bool
-pub limit-free : (f : Fixed) → (fixedPlace f ≡ 0 → ⊥) → limit f ≡ 256 ^ width f
-unfolding limit width types fixedPlace
-limit-free bo h = absurd (h refl)
-limit-free i1 h = refl
-limit-free i2 h = refl
-limit-free i4 h = refl
-limit-free i8 h = refl
-limit-free f4 h = refl
-limit-free f8 h = refl
 
 bool-at : (k : ℕ) → k ≡ 0 → fixedAt k ≡ bo
 unfolding fixedAt

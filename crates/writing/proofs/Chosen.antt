@@ -17,10 +17,12 @@ use Rattle.schema.proofs.Table.{is-mark}
 use Rattle.schema.proofs.Typing.{typed-room, next-is}
 use Rattle.schema.proofs.Places.{typed-marked, typed-place, place-li, place-ma, place-ro, fixed-of, text-of}
 use Rattle.layout.specs.Listing.{nu}
-use Rattle.writing.specs.Measure.{slotsOf, padOf, SmallM, Told, BodyTold, SizeTold, FixedTold, TextTold, ChildTold, ArrayTold, FieldsTold, ChildCan, ArrayCan, FieldsCan}
+use Rattle.schema.specs.Marks.{elementWidth}
+use Rattle.layout.proofs.Widths.{element-wide, slot-small}
+use Rattle.writing.specs.Measure.{padOf, SmallM, Told, BodyTold, SizeTold, FixedTold, TextTold, ChildTold, ArrayTold, FieldsTold, ChildCan, ArrayCan, FieldsCan}
 use Rattle.writing.specs.declared.Measured.{Measured}
 use Rattle.writing.specs.declared.Measured.the-variants.{Refused, Good}
-use Rattle.writing.proofs.Bodies.{element-wide, slot-small, text-any, child-short, child-null, child-other, child-body, padded-told, struct-told, list-short, map-short, list-told, map-keys, map-values, map-told, li-none, ma-none, ro-none}
+use Rattle.writing.proofs.Bodies.{text-any, child-short, child-null, child-other, child-body, padded-told, struct-told, list-short, map-short, list-told, map-keys, map-values, map-told, li-none, ma-none, ro-none}
 
 nu-is : num nu ≡ 30062
 unfolding num
@@ -163,7 +165,7 @@ child-good t l from r next m b e =
     (x .each 0 .inside, omega (arith, x .each 0 .small))
 
 -- the elements of an array, by the width that the code found
-pub array-wide : (s : List ℕ) (at d k w n : ℕ) → Typed s at d → k ≡ placeAt s at → w ≡ slotsOf k → n * w ≤ n * 8
+pub array-wide : (s : List ℕ) (at d k w n : ℕ) → Typed s at d → k ≡ placeAt s at → w ≡ elementWidth k → n * w ≤ n * 8
 array-wide s at d k w n h e g =
     let t = typeAt s at d in
     mul-le-mul-left n (rw (g ∙ element-wide t k (e ∙ typed-place s at d h)) (slot-small t))

@@ -2,27 +2,28 @@
 use mathlib.Core.Path.{_≡_, refl, sym, ap, _∙_, subst}
 use mathlib.Core.Option.{Option, none, some}
 use mathlib.Core.List.{List, [], _∷_, _++_}
-use Prim.Native.Nat.{ℕ, zero, suc, _+_, _*_, _-_, _/_, _≤_, _<_}
+use Prim.Native.Nat.{ℕ, suc, _+_, _*_, _-_, _/_, _≤_, _<_}
 use native.Mathlib.Omega.{arith}
 use lib.ListN.{length, drop, replicate, length-append, length-replicate}
 use lib.Seq.{sets, length-sets}
 use Rattle.words.specs.Bytes.{Bytes, le, zeros, pad, bitmap}
 use Rattle.words.proofs.Numbers.{length-le}
 use Rattle.words.proofs.Runs.{sets-then}
-use Rattle.schema.specs.Types.{Ty, li, ro, Tys, end, _then_, count, place, mark}
+use Rattle.schema.specs.Types.{Ty, li, ro, Tys, _then_, count, place, mark}
 use Rattle.schema.specs.Kinds.{placeAt}
 use Rattle.schema.specs.Walk.{Typed, typeAt, TypedAll, typesAt, nextAt}
 use Rattle.schema.proofs.Typing.{typed-more, typed-done, typed-count}
 use Rattle.schema.proofs.Places.{typed-place}
-use Rattle.layout.specs.Cells.{Cell, node, parts}
+use Rattle.layout.specs.Cells.{Cell, node}
 use Rattle.layout.specs.Layout.{Kid, kid, kidSlot, kidTail, slotOf, tails, AllFit, array, struct, codec, kids, content, bodyPut}
 use Rattle.layout.specs.Listing.{Script, item, runGet, element, script, scripts}
 use Rattle.layout.proofs.Cells.{parts-node}
 use Rattle.layout.proofs.Children.{AllLawful, all-length}
 use Rattle.layout.proofs.Containers.{repeat, kids-lawful, element-lawful, kids-count}
-use Rattle.writing.specs.Measure.{slotsOf, size}
-use Rattle.writing.specs.Put.{Ready, Wrote, flagged, ChildWrote, PutChild, PutArray, PutFields, ArrayWrote, FieldsWrote}
-use Rattle.writing.proofs.Bodies.{element-wide, slot-small}
+use Rattle.schema.specs.Marks.{elementWidth}
+use Rattle.layout.proofs.Widths.{element-wide, slot-small}
+use Rattle.writing.specs.Measure.{size}
+use Rattle.writing.specs.Put.{Ready, flagged, ChildWrote, PutChild, PutArray, PutFields, ArrayWrote, FieldsWrote}
 use Rattle.writing.proofs.Totals.{replicate-more, replicate-none, kids-then, scripts-then, kids-end, scripts-end, array-fit, array-size, fields-fit, fields-size}
 use Rattle.writing.proofs.Given.{same-rest, run-after, run-first}
 use Rattle.writing.proofs.Paint.{paint, body-is}
@@ -122,7 +123,7 @@ pub record ArrayAt (t : Ty) (w n : ℕ) (l : List ℕ) (from pos len : ℕ) : Ty
   pub fit : AllFit w (replicate n (kidIn w t)) cells
   pub room : pos + (8 + bitmap n + pad (n * w) + length (tails (replicate n (kidIn w t)) cells)) ≤ len
 
-pub array-at : (s : List ℕ) (at d : ℕ) (l : List ℕ) (from n pos len : ℕ) → PutArray s at d l from n pos len → Bytes l → (k w : ℕ) → k ≡ placeAt s at → w ≡ slotsOf k → ArrayAt (typeAt s at d) w n l from pos len
+pub array-at : (s : List ℕ) (at d : ℕ) (l : List ℕ) (from n pos len : ℕ) → PutArray s at d l from n pos len → Bytes l → (k w : ℕ) → k ≡ placeAt s at → w ≡ elementWidth k → ArrayAt (typeAt s at d) w n l from pos len
 array-at s at d l from n pos len p hb k w ek ew =
     let t = typeAt s at d in
     let wv : w ≡ slotOf (codec t .wide) = ew ∙ element-wide t k (ek ∙ typed-place s at d (p .typed)) in
@@ -169,7 +170,7 @@ module _ (s : List ℕ) (at d k w n : ℕ) (l : List ℕ) (from pos bm slots sta
       let q : replicate (n - i) (itemIn w elementTy) ≡ itemIn w elementTy ∷ replicate (n - (i + 1)) (itemIn w elementTy) = rw e at (replicate-more (n - i) (itemIn w elementTy) z) in
       rw (p, q) at (g .paints)
 
-  pub array-child : Typed s at d → k ≡ placeAt s at → w ≡ slotsOf k → length x₀ ≤ 16384 → length l ≤ 65536 → PutChild s at d k w l from₁ pos bm i slot cur (length x)
+  pub array-child : Typed s at d → k ≡ placeAt s at → w ≡ elementWidth k → length x₀ ≤ 16384 → length l ≤ 65536 → PutChild s at d k w l from₁ pos bm i slot cur (length x)
   array-child ht ek ew small short = record {
     typed = ht;
     place = ek;
@@ -194,7 +195,7 @@ array-slot-room t w n l from pos bm slots start x₀ x i from₁ slot cur g h =
     (paints-slot l pos bm w _ _ _ x i n from₁ slot cur _ _ (g .paints) h, omega (arith, g .paints .ends, g .paints .room, g .long))
 
 -- the array is written: its count stands before the body
-pub array-wrote : (s : List ℕ) (at d : ℕ) (l : List ℕ) (from n pos len : ℕ) → Typed s at d → (k w : ℕ) → k ≡ placeAt s at → w ≡ slotsOf k → ArrayAt (typeAt s at d) w n l from pos len
+pub array-wrote : (s : List ℕ) (at d : ℕ) (l : List ℕ) (from n pos len : ℕ) → Typed s at d → (k w : ℕ) → k ≡ placeAt s at → w ≡ elementWidth k → ArrayAt (typeAt s at d) w n l from pos len
     → (bm bits slots start : ℕ) → bm ≡ pos + 8 → bits ≡ bitmap n → slots ≡ bm + bits → start ≡ slots + pad (n * w)
     → (xx x₀ x : List ℕ) (i from₁ slot cur : ℕ) → length xx ≡ len → x₀ ≡ sets (sets (sets xx pos (le 8 n)) bm (zeros bits)) (slots + n * w) (zeros (start - (slots + n * w)))
     → ArrayPaints (typeAt s at d) w n l from pos bm slots start x₀ x i from₁ slot cur → n ≤ i → ArrayWrote (typeAt s at d) l from n pos xx x from₁ cur
@@ -230,7 +231,7 @@ array-wrote s at d l from n pos len ht k w ek ew a bm bits slots start eb ei es 
     }
 
 -- the same with the stores before the loop one by one
-pub array-done : (s : List ℕ) (at d : ℕ) (l : List ℕ) (from n pos len : ℕ) → Typed s at d → (k w : ℕ) → k ≡ placeAt s at → w ≡ slotsOf k → ArrayAt (typeAt s at d) w n l from pos len
+pub array-done : (s : List ℕ) (at d : ℕ) (l : List ℕ) (from n pos len : ℕ) → Typed s at d → (k w : ℕ) → k ≡ placeAt s at → w ≡ elementWidth k → ArrayAt (typeAt s at d) w n l from pos len
     → (bm bits slots start : ℕ) → bm ≡ pos + 8 → bits ≡ bitmap n → slots ≡ bm + bits → start ≡ slots + pad (n * w)
     → (xx xa xb x₀ x : List ℕ) (i from₁ slot cur : ℕ) → length xx ≡ len → xa ≡ sets xx pos (le 8 n) → xb ≡ sets xa bm (zeros bits) → x₀ ≡ sets xb (slots + n * w) (zeros (start - (slots + n * w)))
     → ArrayPaints (typeAt s at d) w n l from pos bm slots start x₀ x i from₁ slot cur → n ≤ i → ArrayWrote (typeAt s at d) l from n pos xx x from₁ cur

@@ -17,12 +17,14 @@ use Rattle.schema.proofs.Table.{fixed-high, line-width}
 use Rattle.schema.proofs.Places.{typed-marked, typed-place, fixed-of}
 use Rattle.layout.specs.Cells.{Cell, null, leaf, onNull, flag, bytes}
 use Rattle.layout.specs.Layout.{number, inside, outside, kidOf, kid, kidSlot, kidTail, slotOf, codec, content}
-use Rattle.layout.specs.Listing.{nu, item, element, script}
+use Rattle.layout.specs.Listing.{nu, item, script}
 use Rattle.layout.proofs.Cells.{present}
-use Rattle.writing.specs.Measure.{slotsOf, size}
-use Rattle.writing.specs.Put.{Wrote, flagged, ChildWrote, Closed, CloseCan, FixedCan, PutChild, PutValue, ValueWrote}
+use Rattle.schema.specs.Marks.{elementWidth}
+use Rattle.layout.proofs.Widths.{element-wide}
+use Rattle.writing.specs.Measure.{size}
+use Rattle.writing.specs.Put.{flagged, ChildWrote, Closed, CloseCan, FixedCan, PutChild, PutValue, ValueWrote}
 use Rattle.writing.proofs.Records.{item-null, item-body}
-use Rattle.writing.proofs.Bodies.{element-wide, read-here, text-none, li-none, ma-none, ro-none}
+use Rattle.writing.proofs.Bodies.{read-here, text-none, li-none, ma-none, ro-none}
 use Rattle.writing.proofs.Given.{same-thing, given-two, given-mark, given-body, given-wide, given-number}
 use Rattle.writing.proofs.Slots.{closed-is}
 use Rattle.writing.proofs.Paints.{size-is}
@@ -117,7 +119,7 @@ module _ (s : List ℕ) (at d k w : ℕ) (l : List ℕ) (from base bm i slot cur
 
         wide-in : v ≤ w
         unfolding slotOf codec number
-        wide-in = let q : slotsOf k ≡ width (fixedAt k) = element-wide childTy k kp ∙ ap (λ (t : Ty). slotOf (codec t .wide)) is-fixed in omega (arith, vf, p .wide)
+        wide-in = let q : elementWidth k ≡ width (fixedAt k) = element-wide childTy k kp ∙ ap (λ (t : Ty). slotOf (codec t .wide)) is-fixed in omega (arith, vf, p .wide)
 
         pub fixed-can : FixedCan l (from + 2) v w slot len
         fixed-can = record {
@@ -147,7 +149,7 @@ module _ (s : List ℕ) (at d k w : ℕ) (l : List ℕ) (from base bm i slot cur
         none-wide = varies-none childTy (omega (arith, kp))
 
         eight : w ≡ 8
-        eight = let q : slotsOf k ≡ 8 = element-wide childTy k kp ∙ slots-eight childTy none-wide in omega (arith, p .wide, p .most)
+        eight = let q : elementWidth k ≡ 8 = element-wide childTy k kp ∙ slots-eight childTy none-wide in omega (arith, p .wide, p .most)
 
         here : (c : Cell) (r : List ℕ) → Bytes l → script childTy .get (drop (from + 2) l) ≡ some (c, r) → flag c ≡ 0
         here c r hb e = read-here childTy l (from + 2) c r hb e

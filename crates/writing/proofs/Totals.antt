@@ -6,13 +6,13 @@ use Prim.Native.Nat.{ℕ, zero, suc, _+_, _*_, _-_, _≤_, _<_, _^_}
 use native.Mathlib.Nat.{mul-le-mul-left}
 use native.Mathlib.Omega.{arith}
 use lib.ListN.{length, drop, replicate, length-append, length-replicate}
-use Rattle.words.specs.Bytes.{Bytes, le, num, pad, bitmap}
+use Rattle.words.specs.Bytes.{Bytes, le, pad, bitmap}
 use Rattle.words.proofs.Numbers.{bytes-append, bytes-drop, bytes-le, length-le, num-le}
 use Rattle.schema.specs.Types.{Ty, li, ro, Tys, end, _then_, count, place, mark}
 use Rattle.schema.specs.Walk.{Typed, typeAt, TypedAll, typesAt, nextAt}
 use Rattle.schema.proofs.Typing.{typed-more, typed-done, typed-count}
 use Rattle.layout.specs.Reader.{_>>=_}
-use Rattle.layout.specs.Cells.{Cell, node, parts}
+use Rattle.layout.specs.Cells.{Cell, node}
 use Rattle.layout.specs.Layout.{Kid, kid, kidTail, slotOf, tails, array, struct, codec, kids, AllFit}
 use Rattle.layout.specs.Listing.{Script, item, runGet, listScript, element, script, scripts}
 use Rattle.layout.proofs.Reader.{When, refused, yields, when-bind, when-some, cut-back}
@@ -21,9 +21,10 @@ use Rattle.layout.proofs.Children.{all-length}
 use Rattle.layout.proofs.Containers.{repeat, body-length, kids-lawful, element-lawful, kids-count}
 use Rattle.layout.proofs.Items.{Listed, RunListed, run-forth}
 use Rattle.layout.proofs.Listed.{script-lawful, scripts-lawful}
-use Rattle.writing.specs.Measure.{slotsOf, Gives, ChildTold, size, ArrayTold, FieldsTold}
+use Rattle.schema.specs.Marks.{elementWidth}
+use Rattle.layout.proofs.Widths.{element-wide, slot-small}
+use Rattle.writing.specs.Measure.{Gives, ChildTold, size, ArrayTold, FieldsTold}
 use Rattle.writing.specs.declared.Measured.the-variants.{Refused, Good}
-use Rattle.writing.proofs.Bodies.{element-wide, slot-small}
 
 -- the bytes behind the slots of all children that were read
 unfoldable pub totalOf : List Kid → Option (List Cell × List ℕ) → Option (ℕ × List ℕ)
@@ -183,7 +184,7 @@ module _ (t : Ty) (l : List ℕ) (n from : ℕ) where
     pub array-bad : (left ≡ 0 → ⊥) → ChildTold t l pos Refused → ArrayTold t l from n Refused
     array-bad h x = total-none (replicate n (elementKid t)) _ (going-bad l n from _ left pos sum (elementKid t) (replicate (left - 1) (elementKid t)) (elementScript t) (replicate (left - 1) (elementScript t)) (one h) (x .each (slotOf (codec t .wide))))
 
-    pub array-end : left ≡ 0 → Bytes l → n < 256 ^ 4 → (k w b p : ℕ) → k ≡ place t → w ≡ slotsOf k → b ≡ bitmap n → p ≡ pad (n * w) → ArrayTold t l from n (Good pos (8 + b + p + sum))
+    pub array-end : left ≡ 0 → Bytes l → n < 256 ^ 4 → (k w b p : ℕ) → k ≡ place t → w ≡ elementWidth k → b ≡ bitmap n → p ≡ pad (n * w) → ArrayTold t l from n (Good pos (8 + b + p + sum))
     array-end h hb fw k w b p ek ew eb ep =
         let wv : w ≡ slotOf (codec t .wide) = ew ∙ element-wide t k ek in
         let e : Going _ [] [] l n left from pos sum = rw (replicate-none left (elementKid t) h, replicate-none left (elementScript t) h) at (g .going) in

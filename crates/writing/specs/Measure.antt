@@ -1,14 +1,11 @@
 -- What measuring a listing answers: the reading refuses, or it yields contents of so many bytes and leaves the listing from a
 -- position on. Assumes nothing: these are definitions.
 use mathlib.Core.Path.{_≡_}
-use mathlib.Core.Bool.{cond}
 use mathlib.Core.Option.{Option, none, some}
 use mathlib.Core.List.{List}
 use Prim.Native.Nat.{ℕ, _+_, _*_, _^_, _≤_, _<_}
-use lib.Dec.{ltb}
 use lib.ListN.{length, drop, replicate}
 use Rattle.words.specs.Bytes.{pad}
-use Rattle.schema.specs.Marks.{line}
 use Rattle.schema.specs.Types.{Ty, fix, text, li, ro, Tys, fixedAt, st, mark}
 use Rattle.schema.specs.Kinds.{placeAt}
 use Rattle.schema.specs.Walk.{Typed, TypedAll}
@@ -17,10 +14,6 @@ use Rattle.layout.specs.Layout.{kidOf, kid, kidTail, codec, content}
 use Rattle.layout.specs.Listing.{item, runGet, element, script, scripts}
 use Rattle.writing.specs.declared.Measured.{Measured}
 use Rattle.writing.specs.declared.Measured.the-variants.{Refused, Good}
-
--- the bytes of an element of the type at place k of the table: its width, 8 where it varies
-unfoldable pub slotsOf : ℕ → ℕ
-slotsOf k = cond (ltb k 7) (line k .width) 8
 
 abbrev pub padOf : Measured → Measured
 padOf Refused = Refused

@@ -14,7 +14,8 @@ use Rattle.schema.specs.Walk.{Typed, typeAt, TypedAll, typesAt}
 use Rattle.layout.specs.Cells.{Cell, node, onNull}
 use Rattle.layout.specs.Layout.{kid, kidSlot, kidTail, codec, content}
 use Rattle.layout.specs.Listing.{item, runGet, element, script, scripts}
-use Rattle.writing.specs.Measure.{slotsOf, size}
+use Rattle.schema.specs.Marks.{elementWidth}
+use Rattle.writing.specs.Measure.{size}
 
 -- a reading yields a thing, and from pos on there is room for its bytes
 pub record Ready {A : Type 0} (o : Option (A × List ℕ)) (f : A → ℕ) (pos len : ℕ) : Type 0 where
@@ -65,7 +66,7 @@ pub record FixedCan (l : List ℕ) (at v w slot len : ℕ) : Type 0 where
 pub record PutChild (s : List ℕ) (at d k w : ℕ) (l : List ℕ) (from base bm i slot cur len : ℕ) : Type 0 where
   pub typed : Typed s at d
   pub place : k ≡ placeAt s at
-  pub wide : slotsOf k ≤ w
+  pub wide : elementWidth k ≤ w
   pub most : w ≤ 8
   pub ready : Ready (item w (mark (typeAt s at d)) (script (typeAt s at d)) .get (drop from l)) (λ c. length (kidTail (kid w (codec (typeAt s at d))) c)) cur len
   pub low : base ≤ cur

@@ -13,7 +13,7 @@ ghost use Rattle.layout.specs.Entries.{isAccepted, writeOf, writtenOf};
 ghost use Rattle.answers.specs.Meaning.{lengthMeans};
 ghost use Rattle.writing.specs.Row.{RowTold};
 ghost use Rattle.schema.specs.Walk.{Typed, nextAt, typeAt, typesAt};
-ghost use Rattle.writing.specs.Measure.{slotsOf, padOf, SmallM, FixedTold, TextTold, ChildTold, ArrayTold, FieldsTold, ChildCan, ArrayCan, FieldsCan};
+ghost use Rattle.writing.specs.Measure.{padOf, SmallM, FixedTold, TextTold, ChildTold, ArrayTold, FieldsTold, ChildCan, ArrayCan, FieldsCan};
 ghost use Rattle.writing.specs.Put.{CloseCan, Closed, FixedCan, PutChild, PutValue, PutArray, PutFields, ChildWrote, ValueWrote, ArrayWrote, FieldsWrote};
 
 // What measuring finds: a listing that is refused, or where it goes on and how many bytes its contents take.
@@ -28,25 +28,6 @@ fn mark_number(k: usize) -> usize
     ensures { λ r. ⌜ r ≡ num (markAt k) ⌝ }
 {
     schema::wide(schema::TYPES[k].first) + 256 * schema::wide(schema::TYPES[k].second)
-}
-
-// The bytes of an element of the type at place k of the table.
-fn slot_width(k: usize) -> usize
-    requires { ⌜ k < 12 ⌝ }
-    ensures { λ r. ⌜ r ≡ slotsOf k ⌝ }
-{
-    if k < 7 { schema::width_of(k) } else { 8 }
-}
-
-// Where the next type of the schema stands: a leaf's takes two bytes.
-fn next_type(s: &[u8], at: usize, depth: usize, k: usize) -> usize
-    requires { ⌜ (Typed (now s) at depth) × (k ≡ placeAt (now s) at) ⌝ }
-    ensures { λ r. ⌜ r ≡ nextAt (now (s .entry)) at depth ⌝ }
-{
-    if k < 9 {
-        return at + 2;
-    }
-    schema::next(s, at, depth)
 }
 
 // A varying child's contents are padded in its container.
@@ -154,7 +135,7 @@ fn measure_array(s: &[u8], at: usize, depth: usize, l: &[u8], from: usize, n: us
         left -= 1;
     }
     let bits = words::sizes::bitmap_size(n);
-    let slots = words::sizes::pad_size(n * slot_width(k));
+    let slots = words::sizes::pad_size(n * schema::element_width(k));
     Measured::Good(pos, 8 + bits + slots + sum)
 }
 
@@ -174,7 +155,7 @@ fn measure_fields(s: &[u8], first: usize, n: usize, depth: usize, l: &[u8], from
         };
         pos = next;
         sum += size;
-        at = next_type(s, at, depth, k);
+        at = schema::next_type(s, at, depth, k);
         left -= 1;
     }
     Measured::Good(pos, words::sizes::bitmap_size(n) + 8 * n + sum)
@@ -323,7 +304,7 @@ fn put_array(
     ensures { λ r. ⌜ ArrayWrote (typeAt (now (s .entry)) at depth) (now (l .entry)) from n pos (now (out .entry)) (now (out .exit)) (r .next) (r .stop) ⌝ }
 {
     let k = schema::marks::place_at(s, at);
-    let w = slot_width(k);
+    let w = schema::element_width(k);
     let bm = pos + 8;
     let bits = words::sizes::bitmap_size(n);
     let slots = bm + bits;
@@ -373,7 +354,7 @@ fn put_fields(
     while i < n {
         let k = schema::marks::place_at(s, at);
         let p = put_child(s, at, depth, k, 8, l, from1, out, pos, pos, i, slot, cur);
-        at = next_type(s, at, depth, k);
+        at = schema::next_type(s, at, depth, k);
         from1 = p.next;
         cur = p.stop;
         slot += 8;

@@ -42,10 +42,10 @@ use Rattle.checking.proofs.check_value.Reads as check-value
 use Rattle.checking.proofs.check_value.Kinds as check-value-kinds
 use Rattle.checking.proofs.+check_items+check_list+check_map+check_struct+check_structs+check_value.Lts-check_value as check-value-lts
 use Rattle.checking.proofs.check_field.Reads as check-field-reads
-use Rattle.checking.proofs.element_width.Reads as element-width-reads
+use Rattle.schema.proofs.element_width.Reads as element-width-reads
 use Rattle.checking.proofs.lists.check_bools.Reads as check-bools-reads
 use Rattle.checking.proofs.lists.check_texts.Reads as check-texts-reads
-use Rattle.checking.proofs.next_field.Reads as next-field-reads
+use Rattle.schema.proofs.next_type.Reads as next-type-reads
 use Rattle.schema.proofs.marks.place_at.Reads as place-at-reads
 use Rattle.schema.proofs.next.Reads as next-reads
 use Rattle.schema.proofs.wide.Reads as wide-reads
@@ -153,7 +153,7 @@ abbrev check-map-calls : ℕ → check-map-lts.Claims
 check-map-calls t = (get8-reads.Asked, get8-reads.Learnt, check-list-below t, check-list.Post)
 
 abbrev check-struct-calls : ℕ → check-struct-lts.Claims
-check-struct-calls t = (bitmap-size-reads.Asked, bitmap-size-reads.Learnt, past-clear-reads.Asked, past-clear-reads.Learnt, place-at-reads.Asked, place-at-reads.Learnt, check-field-reads.Asked, check-field-reads.Learnt, next-field-reads.Asked, next-field-reads.Learnt, is-null-reads.Asked, is-null-reads.Learnt, get8-reads.Asked, get8-reads.Learnt, slot-offset-reads.Asked, slot-offset-reads.Learnt, slot-size-reads.Asked, slot-size-reads.Learnt, pad-size-reads.Asked, pad-size-reads.Learnt, pad-clear-reads.Asked, pad-clear-reads.Learnt, check-value-below t, check-value.Post)
+check-struct-calls t = (bitmap-size-reads.Asked, bitmap-size-reads.Learnt, past-clear-reads.Asked, past-clear-reads.Learnt, place-at-reads.Asked, place-at-reads.Learnt, check-field-reads.Asked, check-field-reads.Learnt, next-type-reads.Asked, next-type-reads.Learnt, is-null-reads.Asked, is-null-reads.Learnt, get8-reads.Asked, get8-reads.Learnt, slot-offset-reads.Asked, slot-offset-reads.Learnt, slot-size-reads.Asked, slot-size-reads.Learnt, pad-size-reads.Asked, pad-size-reads.Learnt, pad-clear-reads.Asked, pad-clear-reads.Learnt, check-value-below t, check-value.Post)
 
 abbrev check-structs-calls : ℕ → check-structs-lts.Claims
 check-structs-calls t = (bitmap-size-reads.Asked, bitmap-size-reads.Learnt, is-null-reads.Asked, is-null-reads.Learnt, get8-reads.Asked, get8-reads.Learnt, slot-offset-reads.Asked, slot-offset-reads.Learnt, slot-size-reads.Asked, slot-size-reads.Learnt, pad-size-reads.Asked, pad-size-reads.Learnt, check-struct-below t, check-struct.Post, pad-clear-reads.Asked, pad-clear-reads.Learnt)
@@ -161,307 +161,231 @@ check-structs-calls t = (bitmap-size-reads.Asked, bitmap-size-reads.Learnt, is-n
 abbrev check-value-calls : ℕ → check-value-lts.Claims
 check-value-calls t = (check-list-below t, check-list.Post, next-reads.Asked, next-reads.Learnt, check-map-below t, check-map.Post, wide-reads.Asked, wide-reads.Learnt, check-struct-below t, check-struct.Post)
 
--- src/lib.rt:146:21
 check-items-bitmap-size-requires : (t : ℕ) → check-items-lts.Need-bitmap-size-requires (check-items-calls t) (check-items-at t) check-items.Post check-items-Inv-loop check-items-μ-loop
 check-items-bitmap-size-requires t c κs = omega (arith, c .before .before .pre .1 .room, c .before .before .pre .1 .small)
 
--- src/lib.rt:146:17
 check-items-add-slots : (t : ℕ) → check-items-lts.Need-add-slots (check-items-calls t) (check-items-at t) check-items.Post check-items-Inv-loop check-items-μ-loop
 check-items-add-slots t c = omega (arith, c .before .before .before .pre .1 .room, c .before .before .before .pre .1 .small, c .bitmap-size .ensures)
 
--- src/lib.rt:147:25
 check-items-mul-start : (t : ℕ) → check-items-lts.Need-mul-start (check-items-calls t) (check-items-at t) check-items.Post check-items-Inv-loop check-items-μ-loop
 check-items-mul-start t c = omega (arith, c .before .before .before .pre .1 .room, c .before .before .before .pre .1 .small)
 
--- src/lib.rt:147:17
 check-items-add-start : (t : ℕ) → check-items-lts.Need-add-start (check-items-calls t) (check-items-at t) check-items.Post check-items-Inv-loop check-items-μ-loop
 check-items-add-start t c = omega (arith, c .before .before .before .pre .1 .room, c .before .before .before .pre .1 .small, c .bitmap-size .ensures)
 
--- src/lib.rt:151:5
 check-items-loop-holds : (t : ℕ) → check-items-lts.Need-loop-holds (check-items-calls t) (check-items-at t) check-items.Post check-items-Inv-loop check-items-μ-loop
 check-items-loop-holds t c = let A = c .before .before .before .args in let S = A .s .now in let B = A .b .now in let P = c .before .before .before .pre .1 in let HB = bytes-of B (λ i. c .before .shared-slice-known2 .given i .fits) in let T = typeAt S (A .at) (A .depth) in let D = items-slots S (A .at) (A .depth) (A .k) B (A .n) P HB (8 + c .bitmap-size .result) (8 + c .bitmap-size .result + 8 * A .n) (ap (λ (x : ℕ). 8 + x) (c .bitmap-size .ensures)) refl in at-start 8 (elements T (A .n)) B (A .n) (8 + c .bitmap-size .result) (8 + c .bitmap-size .result + 8 * A .n) D
 
--- src/lib.rt:152:12
 check-items-is-null-requires : (t : ℕ) → check-items-lts.Need-is-null-requires (check-items-calls t) (check-items-at t) check-items.Post check-items-Inv-loop check-items-μ-loop
 check-items-is-null-requires t c κs = let A = c .before .before .before .before .before .args in let S = A .s .now in let B = A .b .now in let P = c .before .before .before .before .before .pre .1 in let HB = bytes-of B (λ i. c .before .before .before .shared-slice-known2 .given i .fits) in let T = typeAt S (A .at) (A .depth) in let D = items-slots S (A .at) (A .depth) (A .k) B (A .n) P HB (8 + c .before .before .bitmap-size .result) (8 + c .before .before .bitmap-size .result + 8 * A .n) (ap (λ (x : ℕ). 8 + x) (c .before .before .bitmap-size .ensures)) refl in bit-room 8 (elements T (A .n)) B (A .n) (8 + c .before .before .bitmap-size .result) (8 + c .before .before .bitmap-size .result + 8 * A .n) D (c .before .loop .i) (c .before .loop .slot) (c .before .loop .cur) (c .before .loop .inv) (c .loop-test .taken)
 
--- src/lib.rt:153:13
 check-items-add-slot : (t : ℕ) → check-items-lts.Need-add-slot (check-items-calls t) (check-items-at t) check-items.Post check-items-Inv-loop check-items-μ-loop
 check-items-add-slot t c = let p = c .before .before .before .before .before .before .before .pre .1 in let r = c .before .before .before .loop .inv in omega (arith, r .slot-is, p .room, p .small, c .before .before .before .before .bitmap-size .ensures)
 
--- src/lib.rt:154:13
 check-items-add-i : (t : ℕ) → check-items-lts.Need-add-i (check-items-calls t) (check-items-at t) check-items.Post check-items-Inv-loop check-items-μ-loop
 check-items-add-i t c = omega arith
 
--- src/lib.rt:151:5
 check-items-loop-less : (t : ℕ) → check-items-lts.Need-loop-less (check-items-calls t) (check-items-at t) check-items.Post check-items-Inv-loop check-items-μ-loop
 check-items-loop-less t c = omega arith
 
--- src/lib.rt:151:5
 check-items-loop-again : (t : ℕ) → check-items-lts.Need-loop-again (check-items-calls t) (check-items-at t) check-items.Post check-items-Inv-loop check-items-μ-loop
 check-items-loop-again t c = let A = c .before .before .before .before .before .before .before .args in let S = A .s .now in let B = A .b .now in let P = c .before .before .before .before .before .before .before .pre .1 in let HB = bytes-of B (λ i. c .before .before .before .before .before .shared-slice-known2 .given i .fits) in let T = typeAt S (A .at) (A .depth) in let D = items-slots S (A .at) (A .depth) (A .k) B (A .n) P HB (8 + c .before .before .before .before .bitmap-size .result) (8 + c .before .before .before .before .bitmap-size .result + 8 * A .n) (ap (λ (x : ℕ). 8 + x) (c .before .before .before .before .bitmap-size .ensures)) refl in at-null 8 (elements T (A .n)) B (A .n) (8 + c .before .before .before .before .bitmap-size .result) (8 + c .before .before .before .before .bitmap-size .result + 8 * A .n) D (c .before .before .before .loop .i) (c .before .before .before .loop .slot) (c .before .before .before .loop .cur) (c .before .before .before .loop .inv) (c .before .before .loop-test .taken) (sym (c .before .is-null .ensures) ∙ c .if1 .taken)
 
--- src/lib.rt:157:13
 check-items-get8-requires : (t : ℕ) → check-items-lts.Need-get8-requires (check-items-calls t) (check-items-at t) check-items.Post check-items-Inv-loop check-items-μ-loop
 check-items-get8-requires t c κs = let A = c .before .before .before .before .before .before .before .args in let S = A .s .now in let B = A .b .now in let P = c .before .before .before .before .before .before .before .pre .1 in let HB = bytes-of B (λ i. c .before .before .before .before .before .shared-slice-known2 .given i .fits) in let T = typeAt S (A .at) (A .depth) in let D = items-slots S (A .at) (A .depth) (A .k) B (A .n) P HB (8 + c .before .before .before .before .bitmap-size .result) (8 + c .before .before .before .before .bitmap-size .result + 8 * A .n) (ap (λ (x : ℕ). 8 + x) (c .before .before .before .before .bitmap-size .ensures)) refl in omega (arith, slot-room 8 (elements T (A .n)) B (A .n) (8 + c .before .before .before .before .bitmap-size .result) (8 + c .before .before .before .before .bitmap-size .result + 8 * A .n) D (c .before .before .before .loop .i) (c .before .before .before .loop .slot) (c .before .before .before .loop .cur) (c .before .before .before .loop .inv) (c .before .before .loop-test .taken), D .room)
 
--- src/lib.rt:158:12
 check-items-slot-offset-requires : (t : ℕ) → check-items-lts.Need-slot-offset-requires (check-items-calls t) (check-items-at t) check-items.Post check-items-Inv-loop check-items-μ-loop
 check-items-slot-offset-requires t c κs = tt
 
--- src/lib.rt:159:13
 check-items-returns : (t : ℕ) → check-items-lts.Need-returns (check-items-calls t) (check-items-at t) check-items.Post check-items-Inv-loop check-items-μ-loop
 check-items-returns t c = let A = c .before .before .before .before .before .before .before .before .before .before .args in let S = A .s .now in let B = A .b .now in let P = c .before .before .before .before .before .before .before .before .before .before .pre .1 in let HB = bytes-of B (λ i. c .before .before .before .before .before .before .before .before .shared-slice-known2 .given i .fits) in let T = typeAt S (A .at) (A .depth) in let D = items-slots S (A .at) (A .depth) (A .k) B (A .n) P HB (8 + c .before .before .before .before .before .before .before .bitmap-size .result) (8 + c .before .before .before .before .before .before .before .bitmap-size .result + 8 * A .n) (ap (λ (x : ℕ). 8 + x) (c .before .before .before .before .before .before .before .bitmap-size .ensures)) refl in to-start (elements T (A .n)) B _ _ _ (ap (λ (x : ℕ). 8 + x + 8 * A .n) (c .before .before .before .before .before .before .before .bitmap-size .ensures)) (at-off 8 (elements T (A .n)) B (A .n) (8 + c .before .before .before .before .before .before .before .bitmap-size .result) (8 + c .before .before .before .before .before .before .before .bitmap-size .result + 8 * A .n) D (c .before .before .before .before .before .before .loop .i) (c .before .before .before .before .before .before .loop .slot) (c .before .before .before .before .before .before .loop .cur) (c .before .before .before .before .before .before .loop .inv) (c .before .before .before .before .before .loop-test .taken) (codec T) (item-at S (A .at) (A .depth) (A .k) B (A .n) P HB (c .before .before .before .before .before .before .loop .i) (c .before .before .before .before .before .loop-test .taken)) (sym (c .before .before .before .before .is-null .ensures) ∙ c .before .before .before .if1 .left) (c .before .before .get8 .result) (c .before .before .get8 .ensures) (c .before .slot-offset .result) (c .before .slot-offset .ensures) (c .if2 .taken))
 
--- src/lib.rt:161:25
 check-items-slot-size-requires : (t : ℕ) → check-items-lts.Need-slot-size-requires (check-items-calls t) (check-items-at t) check-items.Post check-items-Inv-loop check-items-μ-loop
 check-items-slot-size-requires t c κs = tt
 
--- src/lib.rt:161:19
 check-items-add-end : (t : ℕ) → check-items-lts.Need-add-end (check-items-calls t) (check-items-at t) check-items.Post check-items-Inv-loop check-items-μ-loop
 check-items-add-end t c = let p = c .before .before .before .before .before .before .before .loop .inv in omega (arith, p .high, c .slot-size .ensures, c .before .before .before .before .before .before .before .before .before .before .before .pre .1 .small)
 
--- src/lib.rt:162:13
 check-items-pad-size-requires : (t : ℕ) → check-items-lts.Need-pad-size-requires (check-items-calls t) (check-items-at t) check-items.Post check-items-Inv-loop check-items-μ-loop
 check-items-pad-size-requires t c κs = let p = c .before .before .before .before .before .before .before .loop .inv in omega (arith, p .high, c .slot-size .ensures, c .before .before .before .before .before .before .before .before .before .before .before .pre .1 .small)
 
--- src/lib.rt:164:13
 check-items-returns-2 : (t : ℕ) → check-items-lts.Need-returns-2 (check-items-calls t) (check-items-at t) check-items.Post check-items-Inv-loop check-items-μ-loop
 check-items-returns-2 t c = let A = c .before .before .before .before .before .before .before .before .before .before .before .before .before .args in let S = A .s .now in let B = A .b .now in let P = c .before .before .before .before .before .before .before .before .before .before .before .before .before .pre .1 in let HB = bytes-of B (λ i. c .before .before .before .before .before .before .before .before .before .before .before .shared-slice-known2 .given i .fits) in let T = typeAt S (A .at) (A .depth) in let D = items-slots S (A .at) (A .depth) (A .k) B (A .n) P HB (8 + c .before .before .before .before .before .before .before .before .before .before .bitmap-size .result) (8 + c .before .before .before .before .before .before .before .before .before .before .bitmap-size .result + 8 * A .n) (ap (λ (x : ℕ). 8 + x) (c .before .before .before .before .before .before .before .before .before .before .bitmap-size .ensures)) refl in to-start (elements T (A .n)) B _ _ _ (ap (λ (x : ℕ). 8 + x + 8 * A .n) (c .before .before .before .before .before .before .before .before .before .before .bitmap-size .ensures)) (at-long 8 (elements T (A .n)) B (A .n) (8 + c .before .before .before .before .before .before .before .before .before .before .bitmap-size .result) (8 + c .before .before .before .before .before .before .before .before .before .before .bitmap-size .result + 8 * A .n) D (c .before .before .before .before .before .before .before .before .before .loop .i) (c .before .before .before .before .before .before .before .before .before .loop .slot) (c .before .before .before .before .before .before .before .before .before .loop .cur) (c .before .before .before .before .before .before .before .before .before .loop .inv) (c .before .before .before .before .before .before .before .before .loop-test .taken) (codec T) (item-at S (A .at) (A .depth) (A .k) B (A .n) P HB (c .before .before .before .before .before .before .before .before .before .loop .i) (c .before .before .before .before .before .before .before .before .loop-test .taken)) (sym (c .before .before .before .before .before .before .before .is-null .ensures) ∙ c .before .before .before .before .before .before .if1 .left) (c .before .before .before .before .before .get8 .result) (c .before .before .before .before .before .get8 .ensures) (c .before .before .before .before .slot-offset .result) (c .before .before .before .before .slot-offset .ensures) (c .before .before .before .if2 .left) (c .before .before .slot-size .result) (c .before .before .slot-size .ensures) (c .before .before .before .before .before .before .before .before .before .loop .cur + c .before .before .slot-size .result) (c .before .pad-size .result) refl (c .before .pad-size .ensures) (c .if3 .taken))
 
--- src/lib.rt:166:42
 check-items-sub-check-value : (t : ℕ) → check-items-lts.Need-sub-check-value (check-items-calls t) (check-items-at t) check-items.Post check-items-Inv-loop check-items-μ-loop
 check-items-sub-check-value t c = omega arith
 
--- src/lib.rt:166:42
 check-items-part-check-value-start : (t : ℕ) → check-items-lts.Need-part-check-value-start (check-items-calls t) (check-items-at t) check-items.Post check-items-Inv-loop check-items-μ-loop
 check-items-part-check-value-start t c = omega arith
 
--- src/lib.rt:166:42
 check-items-part-check-value-end : (t : ℕ) → check-items-lts.Need-part-check-value-end (check-items-calls t) (check-items-at t) check-items.Post check-items-Inv-loop check-items-μ-loop
 check-items-part-check-value-end t c = omega (arith, c .before .pad-size .ensures, c .if3 .left)
 
--- src/lib.rt:166:13
 check-items-check-value-requires : (t : ℕ) → check-items-lts.Need-check-value-requires (check-items-calls t) (check-items-at t) check-items.Post check-items-Inv-loop check-items-μ-loop
 check-items-check-value-requires t c κs = let A = c .before .before .before .before .before .before .before .before .before .before .before .before .before .before .args in let S = A .s .now in let B = A .b .now in let P = c .before .before .before .before .before .before .before .before .before .before .before .before .before .before .pre .1 in let HB = bytes-of B (λ i. c .before .before .before .before .before .before .before .before .before .before .before .before .shared-slice-known2 .given i .fits) in let T = typeAt S (A .at) (A .depth) in let D = items-slots S (A .at) (A .depth) (A .k) B (A .n) P HB (8 + c .before .before .before .before .before .before .before .before .before .before .before .bitmap-size .result) (8 + c .before .before .before .before .before .before .before .before .before .before .before .bitmap-size .result + 8 * A .n) (ap (λ (x : ℕ). 8 + x) (c .before .before .before .before .before .before .before .before .before .before .before .bitmap-size .ensures)) refl in (omega arith, record { typed = P .typed; place = P .place; holds = P .holds; small = rw length-take (omega (arith, P .small, length-drop (c .before .before .before .before .before .before .before .before .before .before .loop .cur) B)) })
 
--- src/lib.rt:167:13
 check-items-returns-3 : (t : ℕ) → check-items-lts.Need-returns-3 (check-items-calls t) (check-items-at t) check-items.Post check-items-Inv-loop check-items-μ-loop
 check-items-returns-3 t c = let A = c .before .before .before .before .before .before .before .before .before .before .before .before .before .before .before .before .args in let S = A .s .now in let B = A .b .now in let P = c .before .before .before .before .before .before .before .before .before .before .before .before .before .before .before .before .pre .1 in let HB = bytes-of B (λ i. c .before .before .before .before .before .before .before .before .before .before .before .before .before .before .shared-slice-known2 .given i .fits) in let T = typeAt S (A .at) (A .depth) in let D = items-slots S (A .at) (A .depth) (A .k) B (A .n) P HB (8 + c .before .before .before .before .before .before .before .before .before .before .before .before .before .bitmap-size .result) (8 + c .before .before .before .before .before .before .before .before .before .before .before .before .before .bitmap-size .result + 8 * A .n) (ap (λ (x : ℕ). 8 + x) (c .before .before .before .before .before .before .before .before .before .before .before .before .before .bitmap-size .ensures)) refl in to-start (elements T (A .n)) B _ _ _ (ap (λ (x : ℕ). 8 + x + 8 * A .n) (c .before .before .before .before .before .before .before .before .before .before .before .before .before .bitmap-size .ensures)) (at-bad 8 (elements T (A .n)) B (A .n) (8 + c .before .before .before .before .before .before .before .before .before .before .before .before .before .bitmap-size .result) (8 + c .before .before .before .before .before .before .before .before .before .before .before .before .before .bitmap-size .result + 8 * A .n) D (c .before .before .before .before .before .before .before .before .before .before .before .before .loop .i) (c .before .before .before .before .before .before .before .before .before .before .before .before .loop .slot) (c .before .before .before .before .before .before .before .before .before .before .before .before .loop .cur) (c .before .before .before .before .before .before .before .before .before .before .before .before .loop .inv) (c .before .before .before .before .before .before .before .before .before .before .before .loop-test .taken) (codec T) (item-at S (A .at) (A .depth) (A .k) B (A .n) P HB (c .before .before .before .before .before .before .before .before .before .before .before .before .loop .i) (c .before .before .before .before .before .before .before .before .before .before .before .loop-test .taken)) (sym (c .before .before .before .before .before .before .before .before .before .before .is-null .ensures) ∙ c .before .before .before .before .before .before .before .before .before .if1 .left) (c .before .before .before .before .before .before .before .before .get8 .result) (c .before .before .before .before .before .before .before .before .get8 .ensures) (c .before .before .before .before .before .before .before .slot-offset .result) (c .before .before .before .before .before .before .before .slot-offset .ensures) (c .before .before .before .before .before .before .if2 .left) (c .before .before .before .before .before .slot-size .result) (c .before .before .before .before .before .slot-size .ensures) (c .before .before .before .before .before .before .before .before .before .before .before .before .loop .cur + c .before .before .before .before .before .slot-size .result) (c .before .before .before .before .pad-size .result) refl (c .before .before .before .before .pad-size .ensures) (omega arith) (part-sound T _ _ (c .before .check-value .ensures) ∙ not-true _ (c .if4 .taken)))
 
--- src/lib.rt:169:13
 check-items-pad-clear-requires : (t : ℕ) → check-items-lts.Need-pad-clear-requires (check-items-calls t) (check-items-at t) check-items.Post check-items-Inv-loop check-items-μ-loop
 check-items-pad-clear-requires t c κs = let A = c .before .before .before .before .before .before .before .before .before .before .before .before .before .before .before .before .args in let S = A .s .now in let B = A .b .now in let P = c .before .before .before .before .before .before .before .before .before .before .before .before .before .before .before .before .pre .1 in let HB = bytes-of B (λ i. c .before .before .before .before .before .before .before .before .before .before .before .before .before .before .shared-slice-known2 .given i .fits) in let T = typeAt S (A .at) (A .depth) in let D = items-slots S (A .at) (A .depth) (A .k) B (A .n) P HB (8 + c .before .before .before .before .before .before .before .before .before .before .before .before .before .bitmap-size .result) (8 + c .before .before .before .before .before .before .before .before .before .before .before .before .before .bitmap-size .result + 8 * A .n) (ap (λ (x : ℕ). 8 + x) (c .before .before .before .before .before .before .before .before .before .before .before .before .before .bitmap-size .ensures)) refl in let p = c .before .before .before .before .before .before .before .before .before .before .before .before .loop .inv in (omega (arith, p .low, D .data₀, D .map, c .before .before .before .before .pad-size .ensures), omega arith, omega (arith, p .high, c .before .before .before .before .before .slot-size .ensures, D .small), c .before .before .before .before .pad-size .ensures)
 
--- src/lib.rt:170:13
 check-items-returns-4 : (t : ℕ) → check-items-lts.Need-returns-4 (check-items-calls t) (check-items-at t) check-items.Post check-items-Inv-loop check-items-μ-loop
 check-items-returns-4 t c = let A = c .before .before .before .before .before .before .before .before .before .before .before .before .before .before .before .before .before .before .args in let S = A .s .now in let B = A .b .now in let P = c .before .before .before .before .before .before .before .before .before .before .before .before .before .before .before .before .before .before .pre .1 in let HB = bytes-of B (λ i. c .before .before .before .before .before .before .before .before .before .before .before .before .before .before .before .before .shared-slice-known2 .given i .fits) in let T = typeAt S (A .at) (A .depth) in let D = items-slots S (A .at) (A .depth) (A .k) B (A .n) P HB (8 + c .before .before .before .before .before .before .before .before .before .before .before .before .before .before .before .bitmap-size .result) (8 + c .before .before .before .before .before .before .before .before .before .before .before .before .before .before .before .bitmap-size .result + 8 * A .n) (ap (λ (x : ℕ). 8 + x) (c .before .before .before .before .before .before .before .before .before .before .before .before .before .before .before .bitmap-size .ensures)) refl in to-start (elements T (A .n)) B _ _ _ (ap (λ (x : ℕ). 8 + x + 8 * A .n) (c .before .before .before .before .before .before .before .before .before .before .before .before .before .before .before .bitmap-size .ensures)) (at-unpadded 8 (elements T (A .n)) B (A .n) (8 + c .before .before .before .before .before .before .before .before .before .before .before .before .before .before .before .bitmap-size .result) (8 + c .before .before .before .before .before .before .before .before .before .before .before .before .before .before .before .bitmap-size .result + 8 * A .n) D (c .before .before .before .before .before .before .before .before .before .before .before .before .before .before .loop .i) (c .before .before .before .before .before .before .before .before .before .before .before .before .before .before .loop .slot) (c .before .before .before .before .before .before .before .before .before .before .before .before .before .before .loop .cur) (c .before .before .before .before .before .before .before .before .before .before .before .before .before .before .loop .inv) (c .before .before .before .before .before .before .before .before .before .before .before .before .before .loop-test .taken) (codec T) (item-at S (A .at) (A .depth) (A .k) B (A .n) P HB (c .before .before .before .before .before .before .before .before .before .before .before .before .before .before .loop .i) (c .before .before .before .before .before .before .before .before .before .before .before .before .before .loop-test .taken)) (sym (c .before .before .before .before .before .before .before .before .before .before .before .before .is-null .ensures) ∙ c .before .before .before .before .before .before .before .before .before .before .before .if1 .left) (c .before .before .before .before .before .before .before .before .before .before .get8 .result) (c .before .before .before .before .before .before .before .before .before .before .get8 .ensures) (c .before .before .before .before .before .before .before .before .before .slot-offset .result) (c .before .before .before .before .before .before .before .before .before .slot-offset .ensures) (c .before .before .before .before .before .before .before .before .if2 .left) (c .before .before .before .before .before .before .before .slot-size .result) (c .before .before .before .before .before .before .before .slot-size .ensures) (c .before .before .before .before .before .before .before .before .before .before .before .before .before .before .loop .cur + c .before .before .before .before .before .before .before .slot-size .result) (c .before .before .before .before .before .before .pad-size .result) refl (c .before .before .before .before .before .before .pad-size .ensures) (omega arith) (c .before .pad-clear .result) (c .before .pad-clear .ensures) (not-true _ (c .if5 .taken)))
 
--- src/lib.rt:173:9
 check-items-add-slot-2 : (t : ℕ) → check-items-lts.Need-add-slot-2 (check-items-calls t) (check-items-at t) check-items.Post check-items-Inv-loop check-items-μ-loop
 check-items-add-slot-2 t c = let p = c .before .before .before .before .before .before .before .before .before .before .before .before .before .before .before .before .before .before .pre .1 in let r = c .before .before .before .before .before .before .before .before .before .before .before .before .before .before .loop .inv in omega (arith, r .slot-is, p .room, p .small, c .before .before .before .before .before .before .before .before .before .before .before .before .before .before .before .bitmap-size .ensures)
 
--- src/lib.rt:174:9
 check-items-add-i-2 : (t : ℕ) → check-items-lts.Need-add-i-2 (check-items-calls t) (check-items-at t) check-items.Post check-items-Inv-loop check-items-μ-loop
 check-items-add-i-2 t c = omega arith
 
--- src/lib.rt:151:5
 check-items-loop-less-2 : (t : ℕ) → check-items-lts.Need-loop-less-2 (check-items-calls t) (check-items-at t) check-items.Post check-items-Inv-loop check-items-μ-loop
 check-items-loop-less-2 t c = omega arith
 
--- src/lib.rt:151:5
 check-items-loop-again-2 : (t : ℕ) → check-items-lts.Need-loop-again-2 (check-items-calls t) (check-items-at t) check-items.Post check-items-Inv-loop check-items-μ-loop
 check-items-loop-again-2 t c = let A = c .before .before .before .before .before .before .before .before .before .before .before .before .before .before .before .before .before .before .args in let S = A .s .now in let B = A .b .now in let P = c .before .before .before .before .before .before .before .before .before .before .before .before .before .before .before .before .before .before .pre .1 in let HB = bytes-of B (λ i. c .before .before .before .before .before .before .before .before .before .before .before .before .before .before .before .before .shared-slice-known2 .given i .fits) in let T = typeAt S (A .at) (A .depth) in let D = items-slots S (A .at) (A .depth) (A .k) B (A .n) P HB (8 + c .before .before .before .before .before .before .before .before .before .before .before .before .before .before .before .bitmap-size .result) (8 + c .before .before .before .before .before .before .before .before .before .before .before .before .before .before .before .bitmap-size .result + 8 * A .n) (ap (λ (x : ℕ). 8 + x) (c .before .before .before .before .before .before .before .before .before .before .before .before .before .before .before .bitmap-size .ensures)) refl in at-next 8 (elements T (A .n)) B (A .n) (8 + c .before .before .before .before .before .before .before .before .before .before .before .before .before .before .before .bitmap-size .result) (8 + c .before .before .before .before .before .before .before .before .before .before .before .before .before .before .before .bitmap-size .result + 8 * A .n) D (c .before .before .before .before .before .before .before .before .before .before .before .before .before .before .loop .i) (c .before .before .before .before .before .before .before .before .before .before .before .before .before .before .loop .slot) (c .before .before .before .before .before .before .before .before .before .before .before .before .before .before .loop .cur) (c .before .before .before .before .before .before .before .before .before .before .before .before .before .before .loop .inv) (c .before .before .before .before .before .before .before .before .before .before .before .before .before .loop-test .taken) (codec T) (item-at S (A .at) (A .depth) (A .k) B (A .n) P HB (c .before .before .before .before .before .before .before .before .before .before .before .before .before .before .loop .i) (c .before .before .before .before .before .before .before .before .before .before .before .before .before .loop-test .taken)) (sym (c .before .before .before .before .before .before .before .before .before .before .before .before .is-null .ensures) ∙ c .before .before .before .before .before .before .before .before .before .before .before .if1 .left) (c .before .before .before .before .before .before .before .before .before .before .get8 .result) (c .before .before .before .before .before .before .before .before .before .before .get8 .ensures) (c .before .before .before .before .before .before .before .before .before .slot-offset .result) (c .before .before .before .before .before .before .before .before .before .slot-offset .ensures) (c .before .before .before .before .before .before .before .before .if2 .left) (c .before .before .before .before .before .before .before .slot-size .result) (c .before .before .before .before .before .before .before .slot-size .ensures) (c .before .before .before .before .before .before .before .before .before .before .before .before .before .before .loop .cur + c .before .before .before .before .before .before .before .slot-size .result) (c .before .before .before .before .before .before .pad-size .result) refl (c .before .before .before .before .before .before .pad-size .ensures) (omega arith) (part-sound T _ _ (c .before .before .before .check-value .ensures) ∙ not-false _ (c .before .before .if4 .left)) (c .before .pad-clear .result) (c .before .pad-clear .ensures) (not-false _ (c .if5 .left))
 
--- src/lib.rt:142:1
 check-items-returns-5 : (t : ℕ) → check-items-lts.Need-returns-5 (check-items-calls t) (check-items-at t) check-items.Post check-items-Inv-loop check-items-μ-loop
 check-items-returns-5 t c = let A = c .before .before .before .before .before .args in let S = A .s .now in let B = A .b .now in let P = c .before .before .before .before .before .pre .1 in let HB = bytes-of B (λ i. c .before .before .before .shared-slice-known2 .given i .fits) in let T = typeAt S (A .at) (A .depth) in let D = items-slots S (A .at) (A .depth) (A .k) B (A .n) P HB (8 + c .before .before .bitmap-size .result) (8 + c .before .before .bitmap-size .result + 8 * A .n) (ap (λ (x : ℕ). 8 + x) (c .before .before .bitmap-size .ensures)) refl in to-start (elements T (A .n)) B _ _ _ (ap (λ (x : ℕ). 8 + x + 8 * A .n) (c .before .before .bitmap-size .ensures)) (at-end 8 (elements T (A .n)) B (A .n) (8 + c .before .before .bitmap-size .result) (8 + c .before .before .bitmap-size .result + 8 * A .n) D (c .before .loop .i) (c .before .loop .slot) (c .before .loop .cur) (c .before .loop .inv) (omega arith))
 
--- src/lib.rt:68:9
 check-list-returns : (t : ℕ) → check-list-lts.Need-returns (check-list-calls t) (check-list-at t) check-list.Post
 check-list-returns t c = let A = c .before .before .before .args in let S = A .s .now in let B = A .b .now in let P = c .before .before .before .pre .1 in let HB = bytes-of B (λ i. c .before .shared-slice-known2 .given i .fits) in sym (list-short (typeAt S (A .at) (A .depth)) B (c .if1 .taken))
 
--- src/lib.rt:70:13
 check-list-get8-requires : (t : ℕ) → check-list-lts.Need-get8-requires (check-list-calls t) (check-list-at t) check-list.Post
 check-list-get8-requires t c κs = omega (arith, c .if1 .left)
 
--- src/lib.rt:72:9
 check-list-returns-2 : (t : ℕ) → check-list-lts.Need-returns-2 (check-list-calls t) (check-list-at t) check-list.Post
 check-list-returns-2 t c = let A = c .before .before .before .before .before .args in let S = A .s .now in let B = A .b .now in let P = c .before .before .before .before .before .pre .1 in let HB = bytes-of B (λ i. c .before .before .before .shared-slice-known2 .given i .fits) in list-many S (A .at) (A .depth) B P HB (c .before .before .if1 .left) (c .before .get8 .result) (c .before .get8 .ensures) (c .if2 .taken)
 
--- src/lib.rt:74:9
 check-list-place-at-requires : (t : ℕ) → check-list-lts.Need-place-at-requires (check-list-calls t) (check-list-at t) check-list.Post
 check-list-place-at-requires t c κs = let A = c .before .before .before .before .before .args in let S = A .s .now in let B = A .b .now in let P = c .before .before .before .before .before .pre .1 in let HB = bytes-of B (λ i. c .before .before .before .shared-slice-known2 .given i .fits) in typed-marked S (A .at) (A .depth) (P .typed)
 
--- src/lib.rt:75:9
 check-list-element-width-requires : (t : ℕ) → check-list-lts.Need-element-width-requires (check-list-calls t) (check-list-at t) check-list.Post
 check-list-element-width-requires t c κs = let A = c .before .before .before .before .before .before .args in let S = A .s .now in let B = A .b .now in let P = c .before .before .before .before .before .before .pre .1 in let HB = bytes-of B (λ i. c .before .before .before .before .shared-slice-known2 .given i .fits) in omega (arith, c .place-at .ensures, typed-marked S (A .at) (A .depth) (P .typed) .known)
 
--- src/lib.rt:76:21
 check-list-bitmap-size-requires : (t : ℕ) → check-list-lts.Need-bitmap-size-requires (check-list-calls t) (check-list-at t) check-list.Post
 check-list-bitmap-size-requires t c κs = omega (arith, c .before .before .if2 .left, c .before .before .before .before .before .before .before .pre .1 .small)
 
--- src/lib.rt:76:17
 check-list-add-slots : (t : ℕ) → check-list-lts.Need-add-slots (check-list-calls t) (check-list-at t) check-list.Post
 check-list-add-slots t c = omega (arith, c .before .before .before .if2 .left, c .before .before .before .before .before .before .before .before .pre .1 .small, c .bitmap-size .ensures)
 
--- src/lib.rt:77:23
 check-list-mul-end : (t : ℕ) → check-list-lts.Need-mul-end (check-list-calls t) (check-list-at t) check-list.Post
 check-list-mul-end t c = let A = c .before .before .before .before .before .before .before .before .args in let S = A .s .now in let B = A .b .now in let P = c .before .before .before .before .before .before .before .before .pre .1 in let HB = bytes-of B (λ i. c .before .before .before .before .before .before .shared-slice-known2 .given i .fits) in omega (arith, width-small S (A .at) (A .depth) B P HB (c .before .before .before .before .before .if1 .left) (c .before .before .before .before .get8 .result) (c .before .before .before .before .get8 .ensures) (c .before .before .place-at .result) (c .before .before .place-at .ensures) (c .before .element-width .result) (c .before .element-width .ensures) (c .before .before .before .if2 .left))
 
--- src/lib.rt:77:15
 check-list-add-end : (t : ℕ) → check-list-lts.Need-add-end (check-list-calls t) (check-list-at t) check-list.Post
 check-list-add-end t c = let A = c .before .before .before .before .before .before .before .before .args in let S = A .s .now in let B = A .b .now in let P = c .before .before .before .before .before .before .before .before .pre .1 in let HB = bytes-of B (λ i. c .before .before .before .before .before .before .shared-slice-known2 .given i .fits) in omega (arith, width-small S (A .at) (A .depth) B P HB (c .before .before .before .before .before .if1 .left) (c .before .before .before .before .get8 .result) (c .before .before .before .before .get8 .ensures) (c .before .before .place-at .result) (c .before .before .place-at .ensures) (c .before .element-width .result) (c .before .element-width .ensures) (c .before .before .before .if2 .left), c .before .before .before .if2 .left, P .small, c .bitmap-size .ensures)
 
--- src/lib.rt:78:9
 check-list-pad-size-requires : (t : ℕ) → check-list-lts.Need-pad-size-requires (check-list-calls t) (check-list-at t) check-list.Post
 check-list-pad-size-requires t c κs = let A = c .before .before .before .before .before .before .before .before .args in let S = A .s .now in let B = A .b .now in let P = c .before .before .before .before .before .before .before .before .pre .1 in let HB = bytes-of B (λ i. c .before .before .before .before .before .before .shared-slice-known2 .given i .fits) in omega (arith, width-small S (A .at) (A .depth) B P HB (c .before .before .before .before .before .if1 .left) (c .before .before .before .before .get8 .result) (c .before .before .before .before .get8 .ensures) (c .before .before .place-at .result) (c .before .before .place-at .ensures) (c .before .element-width .result) (c .before .element-width .ensures) (c .before .before .before .if2 .left), c .before .before .before .if2 .left, P .small, c .bitmap-size .ensures)
 
--- src/lib.rt:80:9
 check-list-returns-3 : (t : ℕ) → check-list-lts.Need-returns-3 (check-list-calls t) (check-list-at t) check-list.Post
 check-list-returns-3 t c = let A = c .before .before .before .before .before .before .before .before .before .before .args in let S = A .s .now in let B = A .b .now in let P = c .before .before .before .before .before .before .before .before .before .before .pre .1 in let HB = bytes-of B (λ i. c .before .before .before .before .before .before .before .before .shared-slice-known2 .given i .fits) in list-out S (A .at) (A .depth) B P HB (c .before .before .before .before .before .before .before .if1 .left) (c .before .before .before .before .before .before .get8 .result) (c .before .before .before .before .before .before .get8 .ensures) (c .before .before .before .before .place-at .result) (c .before .before .before .before .place-at .ensures) (c .before .before .before .element-width .result) (c .before .before .before .element-width .ensures) (c .before .before .before .before .before .if2 .left) (8 + c .before .before .bitmap-size .result) (8 + c .before .before .bitmap-size .result + c .before .before .before .before .before .before .get8 .result * c .before .before .before .element-width .result) (c .before .pad-size .result) (ap (λ (x : ℕ). 8 + x) (c .before .before .bitmap-size .ensures)) refl (c .before .pad-size .ensures) (c .if3 .taken)
 
--- src/lib.rt:82:9
 check-list-past-clear-requires : (t : ℕ) → check-list-lts.Need-past-clear-requires (check-list-calls t) (check-list-at t) check-list.Post
 check-list-past-clear-requires t c κs = (omega (arith, c .before .before .bitmap-size .ensures), omega (arith, c .if3 .left, c .before .pad-size .ensures), omega (arith, c .before .before .before .before .before .if2 .left, c .before .before .before .before .before .before .before .before .before .before .pre .1 .small))
 
--- src/lib.rt:83:9
 check-list-returns-4 : (t : ℕ) → check-list-lts.Need-returns-4 (check-list-calls t) (check-list-at t) check-list.Post
 check-list-returns-4 t c = let A = c .before .before .before .before .before .before .before .before .before .before .before .before .args in let S = A .s .now in let B = A .b .now in let P = c .before .before .before .before .before .before .before .before .before .before .before .before .pre .1 in let HB = bytes-of B (λ i. c .before .before .before .before .before .before .before .before .before .before .shared-slice-known2 .given i .fits) in list-bits S (A .at) (A .depth) B P HB (c .before .before .before .before .before .before .before .before .before .if1 .left) (c .before .before .before .before .before .before .before .before .get8 .result) (c .before .before .before .before .before .before .before .before .get8 .ensures) (c .before .before .before .before .before .before .place-at .result) (c .before .before .before .before .before .before .place-at .ensures) (c .before .before .before .before .before .element-width .result) (c .before .before .before .before .before .element-width .ensures) (c .before .before .before .before .before .before .before .if2 .left) (8 + c .before .before .before .before .bitmap-size .result) (8 + c .before .before .before .before .bitmap-size .result + c .before .before .before .before .before .before .before .before .get8 .result * c .before .before .before .before .before .element-width .result) (c .before .before .before .pad-size .result) (ap (λ (x : ℕ). 8 + x) (c .before .before .before .before .bitmap-size .ensures)) refl (c .before .before .before .pad-size .ensures) (c .before .before .if3 .left) (c .before .past-clear .result) (c .before .past-clear .ensures) (not-true _ (c .if4 .taken))
 
--- src/lib.rt:85:9
 check-list-pad-clear-requires : (t : ℕ) → check-list-lts.Need-pad-clear-requires (check-list-calls t) (check-list-at t) check-list.Post
 check-list-pad-clear-requires t c κs = let A = c .before .before .before .before .before .before .before .before .before .before .before .before .args in let S = A .s .now in let B = A .b .now in let P = c .before .before .before .before .before .before .before .before .before .before .before .before .pre .1 in let HB = bytes-of B (λ i. c .before .before .before .before .before .before .before .before .before .before .shared-slice-known2 .given i .fits) in (omega (arith, c .before .before .before .before .bitmap-size .ensures, c .before .before .before .pad-size .ensures), omega arith, omega (arith, width-small S (A .at) (A .depth) B P HB (c .before .before .before .before .before .before .before .before .before .if1 .left) (c .before .before .before .before .before .before .before .before .get8 .result) (c .before .before .before .before .before .before .before .before .get8 .ensures) (c .before .before .before .before .before .before .place-at .result) (c .before .before .before .before .before .before .place-at .ensures) (c .before .before .before .before .before .element-width .result) (c .before .before .before .before .before .element-width .ensures) (c .before .before .before .before .before .before .before .if2 .left), c .before .before .before .before .before .before .before .if2 .left, P .small, c .before .before .before .before .bitmap-size .ensures), c .before .before .before .pad-size .ensures)
 
--- src/lib.rt:86:9
 check-list-returns-5 : (t : ℕ) → check-list-lts.Need-returns-5 (check-list-calls t) (check-list-at t) check-list.Post
 check-list-returns-5 t c = let A = c .before .before .before .before .before .before .before .before .before .before .before .before .before .before .args in let S = A .s .now in let B = A .b .now in let P = c .before .before .before .before .before .before .before .before .before .before .before .before .before .before .pre .1 in let HB = bytes-of B (λ i. c .before .before .before .before .before .before .before .before .before .before .before .before .shared-slice-known2 .given i .fits) in list-gap S (A .at) (A .depth) B P HB (c .before .before .before .before .before .before .before .before .before .before .before .if1 .left) (c .before .before .before .before .before .before .before .before .before .before .get8 .result) (c .before .before .before .before .before .before .before .before .before .before .get8 .ensures) (c .before .before .before .before .before .before .before .before .place-at .result) (c .before .before .before .before .before .before .before .before .place-at .ensures) (c .before .before .before .before .before .before .before .element-width .result) (c .before .before .before .before .before .before .before .element-width .ensures) (c .before .before .before .before .before .before .before .before .before .if2 .left) (8 + c .before .before .before .before .before .before .bitmap-size .result) (8 + c .before .before .before .before .before .before .bitmap-size .result + c .before .before .before .before .before .before .before .before .before .before .get8 .result * c .before .before .before .before .before .before .before .element-width .result) (c .before .before .before .before .before .pad-size .result) (ap (λ (x : ℕ). 8 + x) (c .before .before .before .before .before .before .bitmap-size .ensures)) refl (c .before .before .before .before .before .pad-size .ensures) (c .before .before .before .before .if3 .left) (c .before .before .before .past-clear .result) (c .before .before .before .past-clear .ensures) (not-false _ (c .before .before .if4 .left)) (c .before .pad-clear .result) (c .before .pad-clear .ensures) (not-true _ (c .if5 .taken))
 
--- src/lib.rt:89:9
 check-list-check-bools-requires : (t : ℕ) → check-list-lts.Need-check-bools-requires (check-list-calls t) (check-list-at t) check-list.Post
 check-list-check-bools-requires t c κs = let A = c .before .before .before .before .before .before .before .before .before .before .before .before .before .before .before .args in let S = A .s .now in let B = A .b .now in let P = c .before .before .before .before .before .before .before .before .before .before .before .before .before .before .before .pre .1 in let HB = bytes-of B (λ i. c .before .before .before .before .before .before .before .before .before .before .before .before .before .shared-slice-known2 .given i .fits) in bools-room S (A .at) (A .depth) B P HB (c .before .before .before .before .before .before .before .before .before .before .before .before .if1 .left) (c .before .before .before .before .before .before .before .before .before .before .before .get8 .result) (c .before .before .before .before .before .before .before .before .before .before .before .get8 .ensures) (c .before .before .before .before .before .before .before .before .before .place-at .result) (c .before .before .before .before .before .before .before .before .before .place-at .ensures) (c .before .before .before .before .before .before .before .before .element-width .result) (c .before .before .before .before .before .before .before .before .element-width .ensures) (c .before .before .before .before .before .before .before .before .before .before .if2 .left) (8 + c .before .before .before .before .before .before .before .bitmap-size .result) (8 + c .before .before .before .before .before .before .before .bitmap-size .result + c .before .before .before .before .before .before .before .before .before .before .before .get8 .result * c .before .before .before .before .before .before .before .before .element-width .result) (c .before .before .before .before .before .before .pad-size .result) (ap (λ (x : ℕ). 8 + x) (c .before .before .before .before .before .before .before .bitmap-size .ensures)) refl (c .before .before .before .before .before .before .pad-size .ensures) (c .before .before .before .before .before .if3 .left) (c .before .before .before .before .past-clear .result) (c .before .before .before .before .past-clear .ensures) (not-false _ (c .before .before .before .if4 .left)) (c .before .before .pad-clear .result) (c .before .before .pad-clear .ensures) (not-false _ (c .before .if5 .left)) (c .if6 .taken)
 
--- src/lib.rt:89:9
 check-list-returns-6 : (t : ℕ) → check-list-lts.Need-returns-6 (check-list-calls t) (check-list-at t) check-list.Post
 check-list-returns-6 t c = let A = c .before .before .before .before .before .before .before .before .before .before .before .before .before .before .before .before .args in let S = A .s .now in let B = A .b .now in let P = c .before .before .before .before .before .before .before .before .before .before .before .before .before .before .before .before .pre .1 in let HB = bytes-of B (λ i. c .before .before .before .before .before .before .before .before .before .before .before .before .before .before .shared-slice-known2 .given i .fits) in list-bools S (A .at) (A .depth) B P HB (c .before .before .before .before .before .before .before .before .before .before .before .before .before .if1 .left) (c .before .before .before .before .before .before .before .before .before .before .before .before .get8 .result) (c .before .before .before .before .before .before .before .before .before .before .before .before .get8 .ensures) (c .before .before .before .before .before .before .before .before .before .before .place-at .result) (c .before .before .before .before .before .before .before .before .before .before .place-at .ensures) (c .before .before .before .before .before .before .before .before .before .element-width .result) (c .before .before .before .before .before .before .before .before .before .element-width .ensures) (c .before .before .before .before .before .before .before .before .before .before .before .if2 .left) (8 + c .before .before .before .before .before .before .before .before .bitmap-size .result) (8 + c .before .before .before .before .before .before .before .before .bitmap-size .result + c .before .before .before .before .before .before .before .before .before .before .before .before .get8 .result * c .before .before .before .before .before .before .before .before .before .element-width .result) (c .before .before .before .before .before .before .before .pad-size .result) (ap (λ (x : ℕ). 8 + x) (c .before .before .before .before .before .before .before .before .bitmap-size .ensures)) refl (c .before .before .before .before .before .before .before .pad-size .ensures) (c .before .before .before .before .before .before .if3 .left) (c .before .before .before .before .before .past-clear .result) (c .before .before .before .before .before .past-clear .ensures) (not-false _ (c .before .before .before .before .if4 .left)) (c .before .before .before .pad-clear .result) (c .before .before .before .pad-clear .ensures) (not-false _ (c .before .before .if5 .left)) (c .before .if6 .taken) _ (c .check-bools .ensures)
 
--- src/lib.rt:92:9
 check-list-returns-7 : (t : ℕ) → check-list-lts.Need-returns-7 (check-list-calls t) (check-list-at t) check-list.Post
 check-list-returns-7 t c = let A = c .before .before .before .before .before .before .before .before .before .before .before .before .before .before .before .before .args in let S = A .s .now in let B = A .b .now in let P = c .before .before .before .before .before .before .before .before .before .before .before .before .before .before .before .before .pre .1 in let HB = bytes-of B (λ i. c .before .before .before .before .before .before .before .before .before .before .before .before .before .before .shared-slice-known2 .given i .fits) in list-numbers S (A .at) (A .depth) B P HB (c .before .before .before .before .before .before .before .before .before .before .before .before .before .if1 .left) (c .before .before .before .before .before .before .before .before .before .before .before .before .get8 .result) (c .before .before .before .before .before .before .before .before .before .before .before .before .get8 .ensures) (c .before .before .before .before .before .before .before .before .before .before .place-at .result) (c .before .before .before .before .before .before .before .before .before .before .place-at .ensures) (c .before .before .before .before .before .before .before .before .before .element-width .result) (c .before .before .before .before .before .before .before .before .before .element-width .ensures) (c .before .before .before .before .before .before .before .before .before .before .before .if2 .left) (8 + c .before .before .before .before .before .before .before .before .bitmap-size .result) (8 + c .before .before .before .before .before .before .before .before .bitmap-size .result + c .before .before .before .before .before .before .before .before .before .before .before .before .get8 .result * c .before .before .before .before .before .before .before .before .before .element-width .result) (c .before .before .before .before .before .before .before .pad-size .result) (ap (λ (x : ℕ). 8 + x) (c .before .before .before .before .before .before .before .before .bitmap-size .ensures)) refl (c .before .before .before .before .before .before .before .pad-size .ensures) (c .before .before .before .before .before .before .if3 .left) (c .before .before .before .before .before .past-clear .result) (c .before .before .before .before .before .past-clear .ensures) (not-false _ (c .before .before .before .before .if4 .left)) (c .before .before .before .pad-clear .result) (c .before .before .before .pad-clear .ensures) (not-false _ (c .before .before .if5 .left)) (c .before .if6 .left) (c .if7 .taken)
 
--- src/lib.rt:95:9
 check-list-check-texts-requires : (t : ℕ) → check-list-lts.Need-check-texts-requires (check-list-calls t) (check-list-at t) check-list.Post
 check-list-check-texts-requires t c κs = let A = c .before .before .before .before .before .before .before .before .before .before .before .before .before .before .before .before .before .args in let S = A .s .now in let B = A .b .now in let P = c .before .before .before .before .before .before .before .before .before .before .before .before .before .before .before .before .before .pre .1 in let HB = bytes-of B (λ i. c .before .before .before .before .before .before .before .before .before .before .before .before .before .before .before .shared-slice-known2 .given i .fits) in texts-room S (A .at) (A .depth) B P HB (c .before .before .before .before .before .before .before .before .before .before .before .before .before .before .if1 .left) (c .before .before .before .before .before .before .before .before .before .before .before .before .before .get8 .result) (c .before .before .before .before .before .before .before .before .before .before .before .before .before .get8 .ensures) (c .before .before .before .before .before .before .before .before .before .before .before .place-at .result) (c .before .before .before .before .before .before .before .before .before .before .before .place-at .ensures) (c .before .before .before .before .before .before .before .before .before .before .element-width .result) (c .before .before .before .before .before .before .before .before .before .before .element-width .ensures) (c .before .before .before .before .before .before .before .before .before .before .before .before .if2 .left) (8 + c .before .before .before .before .before .before .before .before .before .bitmap-size .result) (8 + c .before .before .before .before .before .before .before .before .before .bitmap-size .result + c .before .before .before .before .before .before .before .before .before .before .before .before .before .get8 .result * c .before .before .before .before .before .before .before .before .before .before .element-width .result) (c .before .before .before .before .before .before .before .before .pad-size .result) (ap (λ (x : ℕ). 8 + x) (c .before .before .before .before .before .before .before .before .before .bitmap-size .ensures)) refl (c .before .before .before .before .before .before .before .before .pad-size .ensures) (c .before .before .before .before .before .before .before .if3 .left) (c .before .before .before .before .before .before .past-clear .result) (c .before .before .before .before .before .before .past-clear .ensures) (not-false _ (c .before .before .before .before .before .if4 .left)) (c .before .before .before .before .pad-clear .result) (c .before .before .before .before .pad-clear .ensures) (not-false _ (c .before .before .before .if5 .left)) (omega (arith, c .before .if7 .left)) (c .if8 .taken)
 
--- src/lib.rt:95:9
 check-list-returns-8 : (t : ℕ) → check-list-lts.Need-returns-8 (check-list-calls t) (check-list-at t) check-list.Post
 check-list-returns-8 t c = let A = c .before .before .before .before .before .before .before .before .before .before .before .before .before .before .before .before .before .before .args in let S = A .s .now in let B = A .b .now in let P = c .before .before .before .before .before .before .before .before .before .before .before .before .before .before .before .before .before .before .pre .1 in let HB = bytes-of B (λ i. c .before .before .before .before .before .before .before .before .before .before .before .before .before .before .before .before .shared-slice-known2 .given i .fits) in list-texts S (A .at) (A .depth) B P HB (c .before .before .before .before .before .before .before .before .before .before .before .before .before .before .before .if1 .left) (c .before .before .before .before .before .before .before .before .before .before .before .before .before .before .get8 .result) (c .before .before .before .before .before .before .before .before .before .before .before .before .before .before .get8 .ensures) (c .before .before .before .before .before .before .before .before .before .before .before .before .place-at .result) (c .before .before .before .before .before .before .before .before .before .before .before .before .place-at .ensures) (c .before .before .before .before .before .before .before .before .before .before .before .element-width .result) (c .before .before .before .before .before .before .before .before .before .before .before .element-width .ensures) (c .before .before .before .before .before .before .before .before .before .before .before .before .before .if2 .left) (8 + c .before .before .before .before .before .before .before .before .before .before .bitmap-size .result) (8 + c .before .before .before .before .before .before .before .before .before .before .bitmap-size .result + c .before .before .before .before .before .before .before .before .before .before .before .before .before .before .get8 .result * c .before .before .before .before .before .before .before .before .before .before .before .element-width .result) (c .before .before .before .before .before .before .before .before .before .pad-size .result) (ap (λ (x : ℕ). 8 + x) (c .before .before .before .before .before .before .before .before .before .before .bitmap-size .ensures)) refl (c .before .before .before .before .before .before .before .before .before .pad-size .ensures) (c .before .before .before .before .before .before .before .before .if3 .left) (c .before .before .before .before .before .before .before .past-clear .result) (c .before .before .before .before .before .before .before .past-clear .ensures) (not-false _ (c .before .before .before .before .before .before .if4 .left)) (c .before .before .before .before .before .pad-clear .result) (c .before .before .before .before .before .pad-clear .ensures) (not-false _ (c .before .before .before .before .if5 .left)) (omega (arith, c .before .before .if7 .left)) (c .before .if8 .taken) _ (c .check-texts .ensures)
 
--- src/lib.rt:98:33
 check-list-add-check-structs : (t : ℕ) → check-list-lts.Need-add-check-structs (check-list-calls t) (check-list-at t) check-list.Post
 check-list-add-check-structs t c = let A = c .before .before .before .before .before .before .before .before .before .before .before .before .before .before .before .before .before .before .args in let S = A .s .now in let B = A .b .now in let P = c .before .before .before .before .before .before .before .before .before .before .before .before .before .before .before .before .before .before .pre .1 in let HB = bytes-of B (λ i. c .before .before .before .before .before .before .before .before .before .before .before .before .before .before .before .before .shared-slice-known2 .given i .fits) in omega (arith, typed-marked S (A .at) (A .depth) (P .typed) .room)
 
--- src/lib.rt:98:56
 check-list-add-wide : (t : ℕ) → check-list-lts.Need-add-wide (check-list-calls t) (check-list-at t) check-list.Post
 check-list-add-wide t c = let A = c .before .before .before .before .before .before .before .before .before .before .before .before .before .before .before .before .before .before .args in let S = A .s .now in let B = A .b .now in let P = c .before .before .before .before .before .before .before .before .before .before .before .before .before .before .before .before .before .before .pre .1 in let HB = bytes-of B (λ i. c .before .before .before .before .before .before .before .before .before .before .before .before .before .before .before .before .shared-slice-known2 .given i .fits) in omega (arith, typed-marked S (A .at) (A .depth) (P .typed) .room)
 
--- src/lib.rt:98:54
 check-list-shared-slice-read-wide : (t : ℕ) → check-list-lts.Need-shared-slice-read-wide (check-list-calls t) (check-list-at t) check-list.Post
 check-list-shared-slice-read-wide t c = let A = c .before .before .before .before .before .before .before .before .before .before .before .before .before .before .before .before .before .before .before .args in let S = A .s .now in let B = A .b .now in let P = c .before .before .before .before .before .before .before .before .before .before .before .before .before .before .before .before .before .before .before .pre .1 in let HB = bytes-of B (λ i. c .before .before .before .before .before .before .before .before .before .before .before .before .before .before .before .before .before .shared-slice-known2 .given i .fits) in byte-room S (A .at + 2) (place-ro S (A .at) (A .depth) (P .typed) (c .before .before .before .before .before .before .before .before .before .before .before .before .before .place-at .result) (c .before .before .before .before .before .before .before .before .before .before .before .before .before .place-at .ensures) (c .before .if9 .taken) _ refl .low)
 
--- src/lib.rt:98:41
 check-list-wide-requires : (t : ℕ) → check-list-lts.Need-wide-requires (check-list-calls t) (check-list-at t) check-list.Post
 check-list-wide-requires t c κs = tt
 
--- src/lib.rt:98:66
 check-list-sub-check-structs : (t : ℕ) → check-list-lts.Need-sub-check-structs (check-list-calls t) (check-list-at t) check-list.Post
 check-list-sub-check-structs t c = let A = c .before .before .before .before .before .before .before .before .before .before .before .before .before .before .before .before .before .before .before .before .args in let S = A .s .now in let B = A .b .now in let P = c .before .before .before .before .before .before .before .before .before .before .before .before .before .before .before .before .before .before .before .before .pre .1 in let HB = bytes-of B (λ i. c .before .before .before .before .before .before .before .before .before .before .before .before .before .before .before .before .before .before .shared-slice-known2 .given i .fits) in omega (arith, typed-deep S (A .at) (A .depth) (P .typed))
 
--- src/lib.rt:98:9
 check-list-check-structs-requires : (t : ℕ) → check-list-lts.Need-check-structs-requires (check-list-calls t) (check-list-at t) check-list.Post
 check-list-check-structs-requires t c κs = let A = c .before .before .before .before .before .before .before .before .before .before .before .before .before .before .before .before .before .before .before .before .args in let S = A .s .now in let B = A .b .now in let P = c .before .before .before .before .before .before .before .before .before .before .before .before .before .before .before .before .before .before .before .before .pre .1 in let HB = bytes-of B (λ i. c .before .before .before .before .before .before .before .before .before .before .before .before .before .before .before .before .before .before .shared-slice-known2 .given i .fits) in let Q = place-ro S (A .at) (A .depth) (P .typed) (c .before .before .before .before .before .before .before .before .before .before .before .before .before .before .place-at .result) (c .before .before .before .before .before .before .before .before .before .before .before .before .before .before .place-at .ensures) (c .before .before .if9 .taken) (c .wide .result) (c .wide .ensures) in let I = items-room S (A .at) (A .depth) B P HB (c .before .before .before .before .before .before .before .before .before .before .before .before .before .before .before .before .before .if1 .left) (c .before .before .before .before .before .before .before .before .before .before .before .before .before .before .before .before .get8 .result) (c .before .before .before .before .before .before .before .before .before .before .before .before .before .before .before .before .get8 .ensures) (c .before .before .before .before .before .before .before .before .before .before .before .before .before .before .place-at .result) (c .before .before .before .before .before .before .before .before .before .before .before .before .before .before .place-at .ensures) (c .before .before .before .before .before .before .before .before .before .before .before .before .before .element-width .result) (c .before .before .before .before .before .before .before .before .before .before .before .before .before .element-width .ensures) (c .before .before .before .before .before .before .before .before .before .before .before .before .before .before .before .if2 .left) (8 + c .before .before .before .before .before .before .before .before .before .before .before .before .bitmap-size .result) (8 + c .before .before .before .before .before .before .before .before .before .before .before .before .bitmap-size .result + c .before .before .before .before .before .before .before .before .before .before .before .before .before .before .before .before .get8 .result * c .before .before .before .before .before .before .before .before .before .before .before .before .before .element-width .result) (c .before .before .before .before .before .before .before .before .before .before .before .pad-size .result) (ap (λ (x : ℕ). 8 + x) (c .before .before .before .before .before .before .before .before .before .before .before .before .bitmap-size .ensures)) refl (c .before .before .before .before .before .before .before .before .before .before .before .pad-size .ensures) (c .before .before .before .before .before .before .before .before .before .before .if3 .left) (c .before .before .before .before .before .before .before .before .before .past-clear .result) (c .before .before .before .before .before .before .before .before .before .past-clear .ensures) (not-false _ (c .before .before .before .before .before .before .before .before .if4 .left)) (c .before .before .before .before .before .before .before .pad-clear .result) (c .before .before .before .before .before .before .before .pad-clear .ensures) (not-false _ (c .before .before .before .before .before .before .if5 .left)) (omega (arith, c .before .before .before .if8 .left)) in (omega (arith, typed-deep S (A .at) (A .depth) (P .typed)), record { typed = Q .fields; high = Q .high; small = P .small; room = I .room })
 
--- src/lib.rt:98:9
 check-list-returns-9 : (t : ℕ) → check-list-lts.Need-returns-9 (check-list-calls t) (check-list-at t) check-list.Post
 check-list-returns-9 t c = let A = c .before .before .before .before .before .before .before .before .before .before .before .before .before .before .before .before .before .before .before .before .before .args in let S = A .s .now in let B = A .b .now in let P = c .before .before .before .before .before .before .before .before .before .before .before .before .before .before .before .before .before .before .before .before .before .pre .1 in let HB = bytes-of B (λ i. c .before .before .before .before .before .before .before .before .before .before .before .before .before .before .before .before .before .before .before .shared-slice-known2 .given i .fits) in let Q = place-ro S (A .at) (A .depth) (P .typed) (c .before .before .before .before .before .before .before .before .before .before .before .before .before .before .before .place-at .result) (c .before .before .before .before .before .before .before .before .before .before .before .before .before .before .before .place-at .ensures) (c .before .before .before .if9 .taken) (c .before .wide .result) (c .before .wide .ensures) in list-items S (A .at) (A .depth) B P HB (c .before .before .before .before .before .before .before .before .before .before .before .before .before .before .before .before .before .before .if1 .left) (c .before .before .before .before .before .before .before .before .before .before .before .before .before .before .before .before .before .get8 .result) (c .before .before .before .before .before .before .before .before .before .before .before .before .before .before .before .before .before .get8 .ensures) (c .before .before .before .before .before .before .before .before .before .before .before .before .before .before .before .place-at .result) (c .before .before .before .before .before .before .before .before .before .before .before .before .before .before .before .place-at .ensures) (c .before .before .before .before .before .before .before .before .before .before .before .before .before .before .element-width .result) (c .before .before .before .before .before .before .before .before .before .before .before .before .before .before .element-width .ensures) (c .before .before .before .before .before .before .before .before .before .before .before .before .before .before .before .before .if2 .left) (8 + c .before .before .before .before .before .before .before .before .before .before .before .before .before .bitmap-size .result) (8 + c .before .before .before .before .before .before .before .before .before .before .before .before .before .bitmap-size .result + c .before .before .before .before .before .before .before .before .before .before .before .before .before .before .before .before .before .get8 .result * c .before .before .before .before .before .before .before .before .before .before .before .before .before .before .element-width .result) (c .before .before .before .before .before .before .before .before .before .before .before .before .pad-size .result) (ap (λ (x : ℕ). 8 + x) (c .before .before .before .before .before .before .before .before .before .before .before .before .before .bitmap-size .ensures)) refl (c .before .before .before .before .before .before .before .before .before .before .before .before .pad-size .ensures) (c .before .before .before .before .before .before .before .before .before .before .before .if3 .left) (c .before .before .before .before .before .before .before .before .before .before .past-clear .result) (c .before .before .before .before .before .before .before .before .before .before .past-clear .ensures) (not-false _ (c .before .before .before .before .before .before .before .before .before .if4 .left)) (c .before .before .before .before .before .before .before .before .pad-clear .result) (c .before .before .before .before .before .before .before .before .pad-clear .ensures) (not-false _ (c .before .before .before .before .before .before .before .if5 .left)) (omega (arith, c .before .before .before .before .if8 .left)) _ (as-elements _ _ (c .before .before .before .before .before .before .before .before .before .before .before .before .before .before .before .before .before .get8 .result) B _ (Q .whole) (c .check-structs .ensures))
 
--- src/lib.rt:100:5
 check-list-check-items-requires : (t : ℕ) → check-list-lts.Need-check-items-requires (check-list-calls t) (check-list-at t) check-list.Post
 check-list-check-items-requires t c κs = let A = c .before .before .before .before .before .before .before .before .before .before .before .before .before .before .before .before .before .before .args in let S = A .s .now in let B = A .b .now in let P = c .before .before .before .before .before .before .before .before .before .before .before .before .before .before .before .before .before .before .pre .1 in let HB = bytes-of B (λ i. c .before .before .before .before .before .before .before .before .before .before .before .before .before .before .before .before .shared-slice-known2 .given i .fits) in (omega arith, items-room S (A .at) (A .depth) B P HB (c .before .before .before .before .before .before .before .before .before .before .before .before .before .before .before .if1 .left) (c .before .before .before .before .before .before .before .before .before .before .before .before .before .before .get8 .result) (c .before .before .before .before .before .before .before .before .before .before .before .before .before .before .get8 .ensures) (c .before .before .before .before .before .before .before .before .before .before .before .before .place-at .result) (c .before .before .before .before .before .before .before .before .before .before .before .before .place-at .ensures) (c .before .before .before .before .before .before .before .before .before .before .before .element-width .result) (c .before .before .before .before .before .before .before .before .before .before .before .element-width .ensures) (c .before .before .before .before .before .before .before .before .before .before .before .before .before .if2 .left) (8 + c .before .before .before .before .before .before .before .before .before .before .bitmap-size .result) (8 + c .before .before .before .before .before .before .before .before .before .before .bitmap-size .result + c .before .before .before .before .before .before .before .before .before .before .before .before .before .before .get8 .result * c .before .before .before .before .before .before .before .before .before .before .before .element-width .result) (c .before .before .before .before .before .before .before .before .before .pad-size .result) (ap (λ (x : ℕ). 8 + x) (c .before .before .before .before .before .before .before .before .before .before .bitmap-size .ensures)) refl (c .before .before .before .before .before .before .before .before .before .pad-size .ensures) (c .before .before .before .before .before .before .before .before .if3 .left) (c .before .before .before .before .before .before .before .past-clear .result) (c .before .before .before .before .before .before .before .past-clear .ensures) (not-false _ (c .before .before .before .before .before .before .if4 .left)) (c .before .before .before .before .before .pad-clear .result) (c .before .before .before .before .before .pad-clear .ensures) (not-false _ (c .before .before .before .before .if5 .left)) (omega (arith, c .before .if8 .left)))
 
--- src/lib.rt:63:1
 check-list-returns-10 : (t : ℕ) → check-list-lts.Need-returns-10 (check-list-calls t) (check-list-at t) check-list.Post
 check-list-returns-10 t c = let A = c .before .before .before .before .before .before .before .before .before .before .before .before .before .before .before .before .before .before .before .args in let S = A .s .now in let B = A .b .now in let P = c .before .before .before .before .before .before .before .before .before .before .before .before .before .before .before .before .before .before .before .pre .1 in let HB = bytes-of B (λ i. c .before .before .before .before .before .before .before .before .before .before .before .before .before .before .before .before .before .shared-slice-known2 .given i .fits) in list-items S (A .at) (A .depth) B P HB (c .before .before .before .before .before .before .before .before .before .before .before .before .before .before .before .before .if1 .left) (c .before .before .before .before .before .before .before .before .before .before .before .before .before .before .before .get8 .result) (c .before .before .before .before .before .before .before .before .before .before .before .before .before .before .before .get8 .ensures) (c .before .before .before .before .before .before .before .before .before .before .before .before .before .place-at .result) (c .before .before .before .before .before .before .before .before .before .before .before .before .before .place-at .ensures) (c .before .before .before .before .before .before .before .before .before .before .before .before .element-width .result) (c .before .before .before .before .before .before .before .before .before .before .before .before .element-width .ensures) (c .before .before .before .before .before .before .before .before .before .before .before .before .before .before .if2 .left) (8 + c .before .before .before .before .before .before .before .before .before .before .before .bitmap-size .result) (8 + c .before .before .before .before .before .before .before .before .before .before .before .bitmap-size .result + c .before .before .before .before .before .before .before .before .before .before .before .before .before .before .before .get8 .result * c .before .before .before .before .before .before .before .before .before .before .before .before .element-width .result) (c .before .before .before .before .before .before .before .before .before .before .pad-size .result) (ap (λ (x : ℕ). 8 + x) (c .before .before .before .before .before .before .before .before .before .before .before .bitmap-size .ensures)) refl (c .before .before .before .before .before .before .before .before .before .before .pad-size .ensures) (c .before .before .before .before .before .before .before .before .before .if3 .left) (c .before .before .before .before .before .before .before .before .past-clear .result) (c .before .before .before .before .before .before .before .before .past-clear .ensures) (not-false _ (c .before .before .before .before .before .before .before .if4 .left)) (c .before .before .before .before .before .before .pad-clear .result) (c .before .before .before .before .before .before .pad-clear .ensures) (not-false _ (c .before .before .before .before .before .if5 .left)) (omega (arith, c .before .before .if8 .left)) _ (c .check-items .ensures)
 
--- src/lib.rt:185:9
 check-map-returns : (t : ℕ) → check-map-lts.Need-returns (check-map-calls t) (check-map-at t) check-map.Post
 check-map-returns t c = let A = c .before .before .before .args in let S = A .s .now in let B = A .b .now in let P = c .before .before .before .pre .1 in let HB = bytes-of B (λ i. c .before .shared-slice-known2 .given i .fits) in maps-short (typeAt S (A .k) (A .depth)) (typeAt S (A .v) (A .depth)) B HB (P .small) (c .if1 .taken)
 
--- src/lib.rt:187:16
 check-map-get8-requires : (t : ℕ) → check-map-lts.Need-get8-requires (check-map-calls t) (check-map-at t) check-map.Post
 check-map-get8-requires t c κs = omega (arith, c .if1 .left)
 
--- src/lib.rt:188:8
 check-map-sub-if2 : (t : ℕ) → check-map-lts.Need-sub-if2 (check-map-calls t) (check-map-at t) check-map.Post
 check-map-sub-if2 t c = omega (arith, c .before .if1 .left)
 
--- src/lib.rt:189:9
 check-map-returns-2 : (t : ℕ) → check-map-lts.Need-returns-2 (check-map-calls t) (check-map-at t) check-map.Post
 check-map-returns-2 t c = let A = c .before .before .before .before .before .args in let S = A .s .now in let B = A .b .now in let P = c .before .before .before .before .before .pre .1 in let HB = bytes-of B (λ i. c .before .before .before .shared-slice-known2 .given i .fits) in maps-unfit (typeAt S (A .k) (A .depth)) (typeAt S (A .v) (A .depth)) B HB (P .small) (c .before .before .if1 .left) (c .before .get8 .result) (c .before .get8 .ensures) (c .if2 .taken)
 
--- src/lib.rt:191:15
 check-map-add-end : (t : ℕ) → check-map-lts.Need-add-end (check-map-calls t) (check-map-at t) check-map.Post
 check-map-add-end t c = omega (arith, c .if2 .left, c .before .before .before .before .before .pre .1 .small)
 
--- src/lib.rt:192:33
 check-map-sub-check-list : (t : ℕ) → check-map-lts.Need-sub-check-list (check-map-calls t) (check-map-at t) check-map.Post
 check-map-sub-check-list t c = omega arith
 
--- src/lib.rt:192:33
 check-map-part-check-list-start : (t : ℕ) → check-map-lts.Need-part-check-list-start (check-map-calls t) (check-map-at t) check-map.Post
 check-map-part-check-list-start t c = omega arith
 
--- src/lib.rt:192:33
 check-map-part-check-list-end : (t : ℕ) → check-map-lts.Need-part-check-list-end (check-map-calls t) (check-map-at t) check-map.Post
 check-map-part-check-list-end t c = omega (arith, c .before .before .if1 .left, c .if2 .left)
 
--- src/lib.rt:192:9
 check-map-check-list-requires : (t : ℕ) → check-map-lts.Need-check-list-requires (check-map-calls t) (check-map-at t) check-map.Post
 check-map-check-list-requires t c κs = let A = c .before .before .before .before .before .before .args in let S = A .s .now in let B = A .b .now in let P = c .before .before .before .before .before .before .pre .1 in let HB = bytes-of B (λ i. c .before .before .before .before .shared-slice-known2 .given i .fits) in (omega arith, record { typed = P .keys; small = rw length-take (omega (arith, P .small, length-drop 8 B)) })
 
--- src/lib.rt:193:9
 check-map-returns-3 : (t : ℕ) → check-map-lts.Need-returns-3 (check-map-calls t) (check-map-at t) check-map.Post
 check-map-returns-3 t c = let A = c .before .before .before .before .before .before .before .before .args in let S = A .s .now in let B = A .b .now in let P = c .before .before .before .before .before .before .before .before .pre .1 in let HB = bytes-of B (λ i. c .before .before .before .before .before .before .shared-slice-known2 .given i .fits) in maps-keys (typeAt S (A .k) (A .depth)) (typeAt S (A .v) (A .depth)) B HB (P .small) (c .before .before .before .before .before .if1 .left) (c .before .before .before .before .get8 .result) (c .before .before .before .before .get8 .ensures) (c .before .before .before .if2 .left) (8 + c .before .before .before .before .get8 .result) refl _ (c .before .check-list .ensures) (not-true _ (c .if3 .taken))
 
--- src/lib.rt:195:33
 check-map-sub-check-list-2 : (t : ℕ) → check-map-lts.Need-sub-check-list-2 (check-map-calls t) (check-map-at t) check-map.Post
 check-map-sub-check-list-2 t c = omega (arith, c .before .before .before .before .before .if1 .left, c .before .before .before .if2 .left)
 
--- src/lib.rt:195:33
 check-map-part-check-list-start-2 : (t : ℕ) → check-map-lts.Need-part-check-list-start-2 (check-map-calls t) (check-map-at t) check-map.Post
 check-map-part-check-list-start-2 t c = omega (arith, c .before .before .before .before .before .if1 .left, c .before .before .before .if2 .left)
 
--- src/lib.rt:195:33
 check-map-part-check-list-end-2 : (t : ℕ) → check-map-lts.Need-part-check-list-end-2 (check-map-calls t) (check-map-at t) check-map.Post
 check-map-part-check-list-end-2 t c = omega arith
 
--- src/lib.rt:195:9
 check-map-check-list-requires-2 : (t : ℕ) → check-map-lts.Need-check-list-requires-2 (check-map-calls t) (check-map-at t) check-map.Post
 check-map-check-list-requires-2 t c κs = let A = c .before .before .before .before .before .before .before .before .before .args in let S = A .s .now in let B = A .b .now in let P = c .before .before .before .before .before .before .before .before .before .pre .1 in let HB = bytes-of B (λ i. c .before .before .before .before .before .before .before .shared-slice-known2 .given i .fits) in (omega arith, record { typed = P .values; small = rw length-take (omega (arith, P .small, length-drop (8 + c .before .before .before .before .before .get8 .result) B)) })
 
--- src/lib.rt:196:9
 check-map-returns-4 : (t : ℕ) → check-map-lts.Need-returns-4 (check-map-calls t) (check-map-at t) check-map.Post
 check-map-returns-4 t c = let A = c .before .before .before .before .before .before .before .before .before .before .before .args in let S = A .s .now in let B = A .b .now in let P = c .before .before .before .before .before .before .before .before .before .before .before .pre .1 in let HB = bytes-of B (λ i. c .before .before .before .before .before .before .before .before .before .shared-slice-known2 .given i .fits) in maps-values (typeAt S (A .k) (A .depth)) (typeAt S (A .v) (A .depth)) B HB (P .small) (c .before .before .before .before .before .before .before .before .if1 .left) (c .before .before .before .before .before .before .before .get8 .result) (c .before .before .before .before .before .before .before .get8 .ensures) (c .before .before .before .before .before .before .if2 .left) (8 + c .before .before .before .before .before .before .before .get8 .result) refl _ (c .before .before .before .before .check-list .ensures) (not-false _ (c .before .before .before .if3 .left)) _ (c .before .check-list2 .ensures) (not-true _ (c .if4 .taken))
 
--- src/lib.rt:198:5
 check-map-get8-requires-2 : (t : ℕ) → check-map-lts.Need-get8-requires-2 (check-map-calls t) (check-map-at t) check-map.Post
 check-map-get8-requires-2 t c κs = let A = c .before .before .before .before .before .before .before .before .before .before .before .args in let S = A .s .now in let B = A .b .now in let P = c .before .before .before .before .before .before .before .before .before .before .before .pre .1 in let HB = bytes-of B (λ i. c .before .before .before .before .before .before .before .before .before .shared-slice-known2 .given i .fits) in keys-room (typeAt S (A .k) (A .depth)) (typeAt S (A .v) (A .depth)) B HB (P .small) (c .before .before .before .before .before .before .before .before .if1 .left) (c .before .before .before .before .before .before .before .get8 .result) (c .before .before .before .before .before .before .before .get8 .ensures) (c .before .before .before .before .before .before .if2 .left) (8 + c .before .before .before .before .before .before .before .get8 .result) refl _ (c .before .before .before .before .check-list .ensures) (not-false _ (c .before .before .before .if3 .left)) _ (c .before .check-list2 .ensures) (not-false _ (c .if4 .left))
 
--- src/lib.rt:198:32
 check-map-get8-requires-3 : (t : ℕ) → check-map-lts.Need-get8-requires-3 (check-map-calls t) (check-map-at t) check-map.Post
 check-map-get8-requires-3 t c κs = let A = c .before .before .before .before .before .before .before .before .before .before .before .before .args in let S = A .s .now in let B = A .b .now in let P = c .before .before .before .before .before .before .before .before .before .before .before .before .pre .1 in let HB = bytes-of B (λ i. c .before .before .before .before .before .before .before .before .before .before .shared-slice-known2 .given i .fits) in values-room (typeAt S (A .k) (A .depth)) (typeAt S (A .v) (A .depth)) B HB (P .small) (c .before .before .before .before .before .before .before .before .before .if1 .left) (c .before .before .before .before .before .before .before .before .get8 .result) (c .before .before .before .before .before .before .before .before .get8 .ensures) (c .before .before .before .before .before .before .before .if2 .left) (8 + c .before .before .before .before .before .before .before .before .get8 .result) refl _ (c .before .before .before .before .before .check-list .ensures) (not-false _ (c .before .before .before .before .if3 .left)) _ (c .before .before .check-list2 .ensures) (not-false _ (c .before .if4 .left))
 
--- src/lib.rt:180:1
 check-map-returns-5 : (t : ℕ) → check-map-lts.Need-returns-5 (check-map-calls t) (check-map-at t) check-map.Post
 check-map-returns-5 t c = let A = c .before .before .before .before .before .before .before .before .before .before .before .before .before .args in let S = A .s .now in let B = A .b .now in let P = c .before .before .before .before .before .before .before .before .before .before .before .before .before .pre .1 in let HB = bytes-of B (λ i. c .before .before .before .before .before .before .before .before .before .before .before .shared-slice-known2 .given i .fits) in maps-counts (typeAt S (A .k) (A .depth)) (typeAt S (A .v) (A .depth)) B HB (P .small) (c .before .before .before .before .before .before .before .before .before .before .if1 .left) (c .before .before .before .before .before .before .before .before .before .get8 .result) (c .before .before .before .before .before .before .before .before .before .get8 .ensures) (c .before .before .before .before .before .before .before .before .if2 .left) (8 + c .before .before .before .before .before .before .before .before .before .get8 .result) refl _ (c .before .before .before .before .before .before .check-list .ensures) (not-false _ (c .before .before .before .before .before .if3 .left)) _ (c .before .before .before .check-list2 .ensures) (not-false _ (c .before .before .if4 .left)) _ _ (c .before .get82 .ensures) (c .get83 .ensures)
 
@@ -471,187 +395,141 @@ check-struct-Inv-loop s first n depth b slots start at₀ i₀ slot₀ cur₀ at
 abbrev check-struct-μ-loop : check-struct-lts.MeasureT-loop
 check-struct-μ-loop s first n depth b slots start at₀ i₀ slot₀ cur₀ at i slot cur = n - i
 
--- src/lib.rt:206:9
 check-struct-bitmap-size-requires : (t : ℕ) → check-struct-lts.Need-bitmap-size-requires (check-struct-calls t) (check-struct-at t) check-struct.Post check-struct-Inv-loop check-struct-μ-loop
 check-struct-bitmap-size-requires t c κs = omega (arith, c .before .before .pre .1 .high)
 
--- src/lib.rt:207:25
 check-struct-mul-start : (t : ℕ) → check-struct-lts.Need-mul-start (check-struct-calls t) (check-struct-at t) check-struct.Post check-struct-Inv-loop check-struct-μ-loop
 check-struct-mul-start t c = omega (arith, c .before .before .before .pre .1 .high)
 
--- src/lib.rt:207:17
 check-struct-add-start : (t : ℕ) → check-struct-lts.Need-add-start (check-struct-calls t) (check-struct-at t) check-struct.Post check-struct-Inv-loop check-struct-μ-loop
 check-struct-add-start t c = omega (arith, c .before .before .before .pre .1 .high, c .bitmap-size .ensures)
 
--- src/lib.rt:209:9
 check-struct-returns : (t : ℕ) → check-struct-lts.Need-returns (check-struct-calls t) (check-struct-at t) check-struct.Post check-struct-Inv-loop check-struct-μ-loop
 check-struct-returns t c = let A = c .before .before .before .before .args in let S = A .s .now in let B = A .b .now in let P = c .before .before .before .before .pre .1 in let HB = bytes-of B (λ i. c .before .before .shared-slice-known2 .given i .fits) in let F = c .before .bitmap-size .ensures in fields-short S (A .first) (A .n) (A .depth) B P HB (c .before .bitmap-size .result) (c .before .bitmap-size .result + 8 * A .n) F refl (c .if1 .taken)
 
--- src/lib.rt:211:9
 check-struct-past-clear-requires : (t : ℕ) → check-struct-lts.Need-past-clear-requires (check-struct-calls t) (check-struct-at t) check-struct.Post check-struct-Inv-loop check-struct-μ-loop
 check-struct-past-clear-requires t c κs = (omega (arith, c .before .bitmap-size .ensures), omega (arith, c .if1 .left), omega (arith, c .before .before .before .before .pre .1 .high))
 
--- src/lib.rt:212:9
 check-struct-returns-2 : (t : ℕ) → check-struct-lts.Need-returns-2 (check-struct-calls t) (check-struct-at t) check-struct.Post check-struct-Inv-loop check-struct-μ-loop
 check-struct-returns-2 t c = let A = c .before .before .before .before .before .before .args in let S = A .s .now in let B = A .b .now in let P = c .before .before .before .before .before .before .pre .1 in let HB = bytes-of B (λ i. c .before .before .before .before .shared-slice-known2 .given i .fits) in let F = c .before .before .before .bitmap-size .ensures in fields-bits S (A .first) (A .n) (A .depth) B P HB (c .before .before .before .bitmap-size .result) (c .before .before .before .bitmap-size .result + 8 * A .n) F refl (c .before .before .if1 .left) (c .before .past-clear .result) (c .before .past-clear .ensures) (not-true _ (c .if2 .taken))
 
--- src/lib.rt:218:5
 check-struct-loop-holds : (t : ℕ) → check-struct-lts.Need-loop-holds (check-struct-calls t) (check-struct-at t) check-struct.Post check-struct-Inv-loop check-struct-μ-loop
 check-struct-loop-holds t c = let A = c .before .before .before .before .before .before .args in let S = A .s .now in let B = A .b .now in let P = c .before .before .before .before .before .before .pre .1 in let HB = bytes-of B (λ i. c .before .before .before .before .shared-slice-known2 .given i .fits) in let F = c .before .before .before .bitmap-size .ensures in let K = kids (typesAt S (A .first) (A .depth) (A .n)) in let D = fields-slots S (A .first) (A .n) (A .depth) B P HB (c .before .before .before .bitmap-size .result) (c .before .before .before .bitmap-size .result + 8 * A .n) F refl (c .before .before .if1 .left) in record { type = sym (field-first S (A .first) (A .depth)); state = at-start 0 K B (A .n) (c .before .before .before .bitmap-size .result) (c .before .before .before .bitmap-size .result + 8 * A .n) D }
 
--- src/lib.rt:219:13
 check-struct-place-at-requires : (t : ℕ) → check-struct-lts.Need-place-at-requires (check-struct-calls t) (check-struct-at t) check-struct.Post check-struct-Inv-loop check-struct-μ-loop
 check-struct-place-at-requires t c κs = let A = c .before .before .before .before .before .before .before .before .args in let S = A .s .now in let B = A .b .now in let P = c .before .before .before .before .before .before .before .before .pre .1 in let HB = bytes-of B (λ i. c .before .before .before .before .before .before .shared-slice-known2 .given i .fits) in let F = c .before .before .before .before .before .bitmap-size .ensures in field-marked S (A .first) (A .n) (A .depth) B P HB (c .before .loop .at) (c .before .loop .i) (c .before .loop .inv .type) (c .loop-test .taken)
 
--- src/lib.rt:221:17
 check-struct-check-field-requires : (t : ℕ) → check-struct-lts.Need-check-field-requires (check-struct-calls t) (check-struct-at t) check-struct.Post check-struct-Inv-loop check-struct-μ-loop
 check-struct-check-field-requires t c κs = let A = c .before .before .before .before .before .before .before .before .before .before .args in let S = A .s .now in let B = A .b .now in let P = c .before .before .before .before .before .before .before .before .before .before .pre .1 in let HB = bytes-of B (λ i. c .before .before .before .before .before .before .before .before .shared-slice-known2 .given i .fits) in let F = c .before .before .before .before .before .before .before .bitmap-size .ensures in let K = kids (typesAt S (A .first) (A .depth) (A .n)) in let D = fields-slots S (A .first) (A .n) (A .depth) B P HB (c .before .before .before .before .before .before .before .bitmap-size .result) (c .before .before .before .before .before .before .before .bitmap-size .result + 8 * A .n) F refl (c .before .before .before .before .before .before .if1 .left) in record { small = P .small; fixed = c .if3 .taken; bit-room = bit-room 0 K B (A .n) (c .before .before .before .before .before .before .before .bitmap-size .result) (c .before .before .before .before .before .before .before .bitmap-size .result + 8 * A .n) D (c .before .before .before .loop .i) (c .before .before .before .loop .slot) (c .before .before .before .loop .cur) (c .before .before .before .loop .inv .state) (c .before .before .loop-test .taken); slot-room = omega (arith, slot-room 0 K B (A .n) (c .before .before .before .before .before .before .before .bitmap-size .result) (c .before .before .before .before .before .before .before .bitmap-size .result + 8 * A .n) D (c .before .before .before .loop .i) (c .before .before .before .loop .slot) (c .before .before .before .loop .cur) (c .before .before .before .loop .inv .state) (c .before .before .loop-test .taken), D .room) }
 
--- src/lib.rt:222:17
 check-struct-returns-3 : (t : ℕ) → check-struct-lts.Need-returns-3 (check-struct-calls t) (check-struct-at t) check-struct.Post check-struct-Inv-loop check-struct-μ-loop
 check-struct-returns-3 t c = let A = c .before .before .before .before .before .before .before .before .before .before .before .before .args in let S = A .s .now in let B = A .b .now in let P = c .before .before .before .before .before .before .before .before .before .before .before .before .pre .1 in let HB = bytes-of B (λ i. c .before .before .before .before .before .before .before .before .before .before .shared-slice-known2 .given i .fits) in let F = c .before .before .before .before .before .before .before .before .before .bitmap-size .ensures in let K = kids (typesAt S (A .first) (A .depth) (A .n)) in let D = fields-slots S (A .first) (A .n) (A .depth) B P HB (c .before .before .before .before .before .before .before .before .before .bitmap-size .result) (c .before .before .before .before .before .before .before .before .before .bitmap-size .result + 8 * A .n) F refl (c .before .before .before .before .before .before .before .before .if1 .left) in fields-good S (A .first) (A .n) (A .depth) B P HB (c .before .before .before .before .before .before .before .before .before .bitmap-size .result) (c .before .before .before .before .before .before .before .before .before .bitmap-size .result + 8 * A .n) F refl (c .before .before .before .before .before .before .before .before .if1 .left) (c .before .before .before .before .before .before .before .past-clear .result) (c .before .before .before .before .before .before .before .past-clear .ensures) (not-false _ (c .before .before .before .before .before .before .if2 .left)) _ (at-wrong 0 K B (A .n) (c .before .before .before .before .before .before .before .before .before .bitmap-size .result) (c .before .before .before .before .before .before .before .before .before .bitmap-size .result + 8 * A .n) D (c .before .before .before .before .before .loop .i) (c .before .before .before .before .before .loop .slot) (c .before .before .before .before .before .loop .cur) (c .before .before .before .before .before .loop .inv .state) (c .before .before .before .before .loop-test .taken) _ (sym (c .before .check-field .ensures) ∙ not-true _ (c .if4 .taken)) (field-judged S (A .first) (A .n) (A .depth) B P HB (c .before .before .before .before .before .loop .at) (c .before .before .before .before .before .loop .i) (c .before .before .before .before .before .loop .inv .type) (c .before .before .before .before .loop-test .taken) (c .before .before .before .place-at .result) (c .before .before .before .place-at .ensures) (c .before .before .before .before .before .before .before .before .before .bitmap-size .result) (c .before .before .before .before .before .before .before .before .before .bitmap-size .result + 8 * A .n) (c .before .before .before .before .before .loop .slot) (c .before .before .before .before .before .loop .cur) D (c .before .before .before .before .before .loop .inv .state) (c .before .before .if3 .taken)))
 
--- src/lib.rt:224:13
 check-struct-add-at : (t : ℕ) → check-struct-lts.Need-add-at (check-struct-calls t) (check-struct-at t) check-struct.Post check-struct-Inv-loop check-struct-μ-loop
 check-struct-add-at t c = let A = c .before .before .before .before .before .before .before .before .before .before .before .before .args in let S = A .s .now in let B = A .b .now in let P = c .before .before .before .before .before .before .before .before .before .before .before .before .pre .1 in let HB = bytes-of B (λ i. c .before .before .before .before .before .before .before .before .before .before .shared-slice-known2 .given i .fits) in let F = c .before .before .before .before .before .before .before .before .before .bitmap-size .ensures in omega (arith, field-marked S (A .first) (A .n) (A .depth) B P HB (c .before .before .before .before .before .loop .at) (c .before .before .before .before .before .loop .i) (c .before .before .before .before .before .loop .inv .type) (c .before .before .before .before .loop-test .taken) .room)
 
--- src/lib.rt:225:13
 check-struct-add-slot : (t : ℕ) → check-struct-lts.Need-add-slot (check-struct-calls t) (check-struct-at t) check-struct.Post check-struct-Inv-loop check-struct-μ-loop
 check-struct-add-slot t c = let p = c .before .before .before .before .before .before .before .before .before .before .before .before .pre .1 in let r = c .before .before .before .before .before .loop .inv .state in omega (arith, r .slot-is, c .before .before .before .before .before .before .before .before .if1 .left, p .small)
 
--- src/lib.rt:226:13
 check-struct-add-i : (t : ℕ) → check-struct-lts.Need-add-i (check-struct-calls t) (check-struct-at t) check-struct.Post check-struct-Inv-loop check-struct-μ-loop
 check-struct-add-i t c = omega arith
 
--- src/lib.rt:218:5
 check-struct-loop-less : (t : ℕ) → check-struct-lts.Need-loop-less (check-struct-calls t) (check-struct-at t) check-struct.Post check-struct-Inv-loop check-struct-μ-loop
 check-struct-loop-less t c = omega arith
 
--- src/lib.rt:218:5
 check-struct-loop-again : (t : ℕ) → check-struct-lts.Need-loop-again (check-struct-calls t) (check-struct-at t) check-struct.Post check-struct-Inv-loop check-struct-μ-loop
 check-struct-loop-again t c = let A = c .before .before .before .before .before .before .before .before .before .before .before .before .args in let S = A .s .now in let B = A .b .now in let P = c .before .before .before .before .before .before .before .before .before .before .before .before .pre .1 in let HB = bytes-of B (λ i. c .before .before .before .before .before .before .before .before .before .before .shared-slice-known2 .given i .fits) in let F = c .before .before .before .before .before .before .before .before .before .bitmap-size .ensures in let K = kids (typesAt S (A .first) (A .depth) (A .n)) in let D = fields-slots S (A .first) (A .n) (A .depth) B P HB (c .before .before .before .before .before .before .before .before .before .bitmap-size .result) (c .before .before .before .before .before .before .before .before .before .bitmap-size .result + 8 * A .n) F refl (c .before .before .before .before .before .before .before .before .if1 .left) in record { type = field-on S (A .first) (A .n) (A .depth) B P HB (c .before .before .before .before .before .loop .at) (c .before .before .before .before .before .loop .i) (c .before .before .before .before .before .loop .inv .type) (c .before .before .before .before .loop-test .taken) _ (leaf-next S (c .before .before .before .before .before .loop .at) (A .depth) (c .before .before .before .place-at .result) (field-here S (A .first) (A .n) (A .depth) B P HB (c .before .before .before .before .before .loop .at) (c .before .before .before .before .before .loop .i) (c .before .before .before .before .before .loop .inv .type) (c .before .before .before .before .loop-test .taken)) (c .before .before .before .place-at .ensures) (omega (arith, c .before .before .if3 .taken))); state = at-same 0 K B (A .n) (c .before .before .before .before .before .before .before .before .before .bitmap-size .result) (c .before .before .before .before .before .before .before .before .before .bitmap-size .result + 8 * A .n) D (c .before .before .before .before .before .loop .i) (c .before .before .before .before .before .loop .slot) (c .before .before .before .before .before .loop .cur) (c .before .before .before .before .before .loop .inv .state) (c .before .before .before .before .loop-test .taken) _ (sym (c .before .check-field .ensures) ∙ not-false _ (c .if4 .left)) (field-judged S (A .first) (A .n) (A .depth) B P HB (c .before .before .before .before .before .loop .at) (c .before .before .before .before .before .loop .i) (c .before .before .before .before .before .loop .inv .type) (c .before .before .before .before .loop-test .taken) (c .before .before .before .place-at .result) (c .before .before .before .place-at .ensures) (c .before .before .before .before .before .before .before .before .before .bitmap-size .result) (c .before .before .before .before .before .before .before .before .before .bitmap-size .result + 8 * A .n) (c .before .before .before .before .before .loop .slot) (c .before .before .before .before .before .loop .cur) D (c .before .before .before .before .before .loop .inv .state) (c .before .before .if3 .taken)) }
 
--- src/lib.rt:230:9
-check-struct-next-field-requires : (t : ℕ) → check-struct-lts.Need-next-field-requires (check-struct-calls t) (check-struct-at t) check-struct.Post check-struct-Inv-loop check-struct-μ-loop
-check-struct-next-field-requires t c κs = let A = c .before .before .before .before .before .before .before .before .before .before .args in let S = A .s .now in let B = A .b .now in let P = c .before .before .before .before .before .before .before .before .before .before .pre .1 in let HB = bytes-of B (λ i. c .before .before .before .before .before .before .before .before .shared-slice-known2 .given i .fits) in let F = c .before .before .before .before .before .before .before .bitmap-size .ensures in (field-here S (A .first) (A .n) (A .depth) B P HB (c .before .before .before .loop .at) (c .before .before .before .loop .i) (c .before .before .before .loop .inv .type) (c .before .before .loop-test .taken), c .before .place-at .ensures)
+check-struct-next-type-requires : (t : ℕ) → check-struct-lts.Need-next-type-requires (check-struct-calls t) (check-struct-at t) check-struct.Post check-struct-Inv-loop check-struct-μ-loop
+check-struct-next-type-requires t c κs = let A = c .before .before .before .before .before .before .before .before .before .before .args in let S = A .s .now in let B = A .b .now in let P = c .before .before .before .before .before .before .before .before .before .before .pre .1 in let HB = bytes-of B (λ i. c .before .before .before .before .before .before .before .before .shared-slice-known2 .given i .fits) in let F = c .before .before .before .before .before .before .before .bitmap-size .ensures in (field-here S (A .first) (A .n) (A .depth) B P HB (c .before .before .before .loop .at) (c .before .before .before .loop .i) (c .before .before .before .loop .inv .type) (c .before .before .loop-test .taken), c .before .place-at .ensures)
 
--- src/lib.rt:231:12
 check-struct-is-null-requires : (t : ℕ) → check-struct-lts.Need-is-null-requires (check-struct-calls t) (check-struct-at t) check-struct.Post check-struct-Inv-loop check-struct-μ-loop
 check-struct-is-null-requires t c κs = let A = c .before .before .before .before .before .before .before .before .before .before .before .args in let S = A .s .now in let B = A .b .now in let P = c .before .before .before .before .before .before .before .before .before .before .before .pre .1 in let HB = bytes-of B (λ i. c .before .before .before .before .before .before .before .before .before .shared-slice-known2 .given i .fits) in let F = c .before .before .before .before .before .before .before .before .bitmap-size .ensures in let K = kids (typesAt S (A .first) (A .depth) (A .n)) in let D = fields-slots S (A .first) (A .n) (A .depth) B P HB (c .before .before .before .before .before .before .before .before .bitmap-size .result) (c .before .before .before .before .before .before .before .before .bitmap-size .result + 8 * A .n) F refl (c .before .before .before .before .before .before .before .if1 .left) in bit-room 0 K B (A .n) (c .before .before .before .before .before .before .before .before .bitmap-size .result) (c .before .before .before .before .before .before .before .before .bitmap-size .result + 8 * A .n) D (c .before .before .before .before .loop .i) (c .before .before .before .before .loop .slot) (c .before .before .before .before .loop .cur) (c .before .before .before .before .loop .inv .state) (c .before .before .before .loop-test .taken)
 
--- src/lib.rt:232:13
 check-struct-add-slot-2 : (t : ℕ) → check-struct-lts.Need-add-slot-2 (check-struct-calls t) (check-struct-at t) check-struct.Post check-struct-Inv-loop check-struct-μ-loop
 check-struct-add-slot-2 t c = let p = c .before .before .before .before .before .before .before .before .before .before .before .before .before .pre .1 in let r = c .before .before .before .before .before .before .loop .inv .state in omega (arith, r .slot-is, c .before .before .before .before .before .before .before .before .before .if1 .left, p .small)
 
--- src/lib.rt:233:13
 check-struct-add-i-2 : (t : ℕ) → check-struct-lts.Need-add-i-2 (check-struct-calls t) (check-struct-at t) check-struct.Post check-struct-Inv-loop check-struct-μ-loop
 check-struct-add-i-2 t c = omega arith
 
--- src/lib.rt:218:5
 check-struct-loop-less-2 : (t : ℕ) → check-struct-lts.Need-loop-less-2 (check-struct-calls t) (check-struct-at t) check-struct.Post check-struct-Inv-loop check-struct-μ-loop
 check-struct-loop-less-2 t c = omega arith
 
--- src/lib.rt:218:5
 check-struct-loop-again-2 : (t : ℕ) → check-struct-lts.Need-loop-again-2 (check-struct-calls t) (check-struct-at t) check-struct.Post check-struct-Inv-loop check-struct-μ-loop
-check-struct-loop-again-2 t c = let A = c .before .before .before .before .before .before .before .before .before .before .before .before .before .args in let S = A .s .now in let B = A .b .now in let P = c .before .before .before .before .before .before .before .before .before .before .before .before .before .pre .1 in let HB = bytes-of B (λ i. c .before .before .before .before .before .before .before .before .before .before .before .shared-slice-known2 .given i .fits) in let F = c .before .before .before .before .before .before .before .before .before .before .bitmap-size .ensures in let K = kids (typesAt S (A .first) (A .depth) (A .n)) in let D = fields-slots S (A .first) (A .n) (A .depth) B P HB (c .before .before .before .before .before .before .before .before .before .before .bitmap-size .result) (c .before .before .before .before .before .before .before .before .before .before .bitmap-size .result + 8 * A .n) F refl (c .before .before .before .before .before .before .before .before .before .if1 .left) in record { type = field-on S (A .first) (A .n) (A .depth) B P HB (c .before .before .before .before .before .before .loop .at) (c .before .before .before .before .before .before .loop .i) (c .before .before .before .before .before .before .loop .inv .type) (c .before .before .before .before .before .loop-test .taken) _ (c .before .before .next-field .ensures); state = at-null 0 K B (A .n) (c .before .before .before .before .before .before .before .before .before .before .bitmap-size .result) (c .before .before .before .before .before .before .before .before .before .before .bitmap-size .result + 8 * A .n) D (c .before .before .before .before .before .before .loop .i) (c .before .before .before .before .before .before .loop .slot) (c .before .before .before .before .before .before .loop .cur) (c .before .before .before .before .before .before .loop .inv .state) (c .before .before .before .before .before .loop-test .taken) (sym (c .before .is-null .ensures) ∙ c .if5 .taken) }
+check-struct-loop-again-2 t c = let A = c .before .before .before .before .before .before .before .before .before .before .before .before .before .args in let S = A .s .now in let B = A .b .now in let P = c .before .before .before .before .before .before .before .before .before .before .before .before .before .pre .1 in let HB = bytes-of B (λ i. c .before .before .before .before .before .before .before .before .before .before .before .shared-slice-known2 .given i .fits) in let F = c .before .before .before .before .before .before .before .before .before .before .bitmap-size .ensures in let K = kids (typesAt S (A .first) (A .depth) (A .n)) in let D = fields-slots S (A .first) (A .n) (A .depth) B P HB (c .before .before .before .before .before .before .before .before .before .before .bitmap-size .result) (c .before .before .before .before .before .before .before .before .before .before .bitmap-size .result + 8 * A .n) F refl (c .before .before .before .before .before .before .before .before .before .if1 .left) in record { type = field-on S (A .first) (A .n) (A .depth) B P HB (c .before .before .before .before .before .before .loop .at) (c .before .before .before .before .before .before .loop .i) (c .before .before .before .before .before .before .loop .inv .type) (c .before .before .before .before .before .loop-test .taken) _ (c .before .before .next-type .ensures); state = at-null 0 K B (A .n) (c .before .before .before .before .before .before .before .before .before .before .bitmap-size .result) (c .before .before .before .before .before .before .before .before .before .before .bitmap-size .result + 8 * A .n) D (c .before .before .before .before .before .before .loop .i) (c .before .before .before .before .before .before .loop .slot) (c .before .before .before .before .before .before .loop .cur) (c .before .before .before .before .before .before .loop .inv .state) (c .before .before .before .before .before .loop-test .taken) (sym (c .before .is-null .ensures) ∙ c .if5 .taken) }
 
--- src/lib.rt:236:13
 check-struct-get8-requires : (t : ℕ) → check-struct-lts.Need-get8-requires (check-struct-calls t) (check-struct-at t) check-struct.Post check-struct-Inv-loop check-struct-μ-loop
 check-struct-get8-requires t c κs = let A = c .before .before .before .before .before .before .before .before .before .before .before .before .before .args in let S = A .s .now in let B = A .b .now in let P = c .before .before .before .before .before .before .before .before .before .before .before .before .before .pre .1 in let HB = bytes-of B (λ i. c .before .before .before .before .before .before .before .before .before .before .before .shared-slice-known2 .given i .fits) in let F = c .before .before .before .before .before .before .before .before .before .before .bitmap-size .ensures in let K = kids (typesAt S (A .first) (A .depth) (A .n)) in let D = fields-slots S (A .first) (A .n) (A .depth) B P HB (c .before .before .before .before .before .before .before .before .before .before .bitmap-size .result) (c .before .before .before .before .before .before .before .before .before .before .bitmap-size .result + 8 * A .n) F refl (c .before .before .before .before .before .before .before .before .before .if1 .left) in omega (arith, slot-room 0 K B (A .n) (c .before .before .before .before .before .before .before .before .before .before .bitmap-size .result) (c .before .before .before .before .before .before .before .before .before .before .bitmap-size .result + 8 * A .n) D (c .before .before .before .before .before .before .loop .i) (c .before .before .before .before .before .before .loop .slot) (c .before .before .before .before .before .before .loop .cur) (c .before .before .before .before .before .before .loop .inv .state) (c .before .before .before .before .before .loop-test .taken), D .room)
 
--- src/lib.rt:237:12
 check-struct-slot-offset-requires : (t : ℕ) → check-struct-lts.Need-slot-offset-requires (check-struct-calls t) (check-struct-at t) check-struct.Post check-struct-Inv-loop check-struct-μ-loop
 check-struct-slot-offset-requires t c κs = tt
 
--- src/lib.rt:238:13
 check-struct-returns-4 : (t : ℕ) → check-struct-lts.Need-returns-4 (check-struct-calls t) (check-struct-at t) check-struct.Post check-struct-Inv-loop check-struct-μ-loop
 check-struct-returns-4 t c = let A = c .before .before .before .before .before .before .before .before .before .before .before .before .before .before .before .before .args in let S = A .s .now in let B = A .b .now in let P = c .before .before .before .before .before .before .before .before .before .before .before .before .before .before .before .before .pre .1 in let HB = bytes-of B (λ i. c .before .before .before .before .before .before .before .before .before .before .before .before .before .before .shared-slice-known2 .given i .fits) in let F = c .before .before .before .before .before .before .before .before .before .before .before .before .before .bitmap-size .ensures in let K = kids (typesAt S (A .first) (A .depth) (A .n)) in let D = fields-slots S (A .first) (A .n) (A .depth) B P HB (c .before .before .before .before .before .before .before .before .before .before .before .before .before .bitmap-size .result) (c .before .before .before .before .before .before .before .before .before .before .before .before .before .bitmap-size .result + 8 * A .n) F refl (c .before .before .before .before .before .before .before .before .before .before .before .before .if1 .left) in fields-good S (A .first) (A .n) (A .depth) B P HB (c .before .before .before .before .before .before .before .before .before .before .before .before .before .bitmap-size .result) (c .before .before .before .before .before .before .before .before .before .before .before .before .before .bitmap-size .result + 8 * A .n) F refl (c .before .before .before .before .before .before .before .before .before .before .before .before .if1 .left) (c .before .before .before .before .before .before .before .before .before .before .before .past-clear .result) (c .before .before .before .before .before .before .before .before .before .before .before .past-clear .ensures) (not-false _ (c .before .before .before .before .before .before .before .before .before .before .if2 .left)) _ (off-either S (A .first) (A .n) (A .depth) B P HB (c .before .before .before .before .before .before .before .before .before .loop .at) (c .before .before .before .before .before .before .before .before .before .loop .i) (c .before .before .before .before .before .before .before .before .before .loop .inv .type) (c .before .before .before .before .before .before .before .before .loop-test .taken) (c .before .before .before .before .before .before .before .place-at .result) (c .before .before .before .before .before .before .before .place-at .ensures) (c .before .before .before .before .before .before .before .before .before .before .before .before .before .bitmap-size .result) (c .before .before .before .before .before .before .before .before .before .before .before .before .before .bitmap-size .result + 8 * A .n) (c .before .before .before .before .before .before .before .before .before .loop .slot) (c .before .before .before .before .before .before .before .before .before .loop .cur) D (c .before .before .before .before .before .before .before .before .before .loop .inv .state) (omega (arith, c .before .before .before .before .before .before .if3 .left)) (sym (c .before .before .before .before .is-null .ensures) ∙ c .before .before .before .if5 .left) (c .before .before .get8 .result) (c .before .before .get8 .ensures) (c .before .slot-offset .result) (c .before .slot-offset .ensures) (c .if6 .taken))
 
--- src/lib.rt:240:25
 check-struct-slot-size-requires : (t : ℕ) → check-struct-lts.Need-slot-size-requires (check-struct-calls t) (check-struct-at t) check-struct.Post check-struct-Inv-loop check-struct-μ-loop
 check-struct-slot-size-requires t c κs = tt
 
--- src/lib.rt:240:19
 check-struct-add-end : (t : ℕ) → check-struct-lts.Need-add-end (check-struct-calls t) (check-struct-at t) check-struct.Post check-struct-Inv-loop check-struct-μ-loop
 check-struct-add-end t c = let p = c .before .before .before .before .before .before .before .before .before .before .loop .inv .state in omega (arith, p .high, c .slot-size .ensures, c .before .before .before .before .before .before .before .before .before .before .before .before .before .before .before .before .before .pre .1 .small)
 
--- src/lib.rt:241:13
 check-struct-pad-size-requires : (t : ℕ) → check-struct-lts.Need-pad-size-requires (check-struct-calls t) (check-struct-at t) check-struct.Post check-struct-Inv-loop check-struct-μ-loop
 check-struct-pad-size-requires t c κs = let p = c .before .before .before .before .before .before .before .before .before .before .loop .inv .state in omega (arith, p .high, c .slot-size .ensures, c .before .before .before .before .before .before .before .before .before .before .before .before .before .before .before .before .before .pre .1 .small)
 
--- src/lib.rt:243:13
 check-struct-returns-5 : (t : ℕ) → check-struct-lts.Need-returns-5 (check-struct-calls t) (check-struct-at t) check-struct.Post check-struct-Inv-loop check-struct-μ-loop
 check-struct-returns-5 t c = let A = c .before .before .before .before .before .before .before .before .before .before .before .before .before .before .before .before .before .before .before .args in let S = A .s .now in let B = A .b .now in let P = c .before .before .before .before .before .before .before .before .before .before .before .before .before .before .before .before .before .before .before .pre .1 in let HB = bytes-of B (λ i. c .before .before .before .before .before .before .before .before .before .before .before .before .before .before .before .before .before .shared-slice-known2 .given i .fits) in let F = c .before .before .before .before .before .before .before .before .before .before .before .before .before .before .before .before .bitmap-size .ensures in let K = kids (typesAt S (A .first) (A .depth) (A .n)) in let D = fields-slots S (A .first) (A .n) (A .depth) B P HB (c .before .before .before .before .before .before .before .before .before .before .before .before .before .before .before .before .bitmap-size .result) (c .before .before .before .before .before .before .before .before .before .before .before .before .before .before .before .before .bitmap-size .result + 8 * A .n) F refl (c .before .before .before .before .before .before .before .before .before .before .before .before .before .before .before .if1 .left) in fields-good S (A .first) (A .n) (A .depth) B P HB (c .before .before .before .before .before .before .before .before .before .before .before .before .before .before .before .before .bitmap-size .result) (c .before .before .before .before .before .before .before .before .before .before .before .before .before .before .before .before .bitmap-size .result + 8 * A .n) F refl (c .before .before .before .before .before .before .before .before .before .before .before .before .before .before .before .if1 .left) (c .before .before .before .before .before .before .before .before .before .before .before .before .before .before .past-clear .result) (c .before .before .before .before .before .before .before .before .before .before .before .before .before .before .past-clear .ensures) (not-false _ (c .before .before .before .before .before .before .before .before .before .before .before .before .before .if2 .left)) _ (long-either S (A .first) (A .n) (A .depth) B P HB (c .before .before .before .before .before .before .before .before .before .before .before .before .loop .at) (c .before .before .before .before .before .before .before .before .before .before .before .before .loop .i) (c .before .before .before .before .before .before .before .before .before .before .before .before .loop .inv .type) (c .before .before .before .before .before .before .before .before .before .before .before .loop-test .taken) (c .before .before .before .before .before .before .before .before .before .before .place-at .result) (c .before .before .before .before .before .before .before .before .before .before .place-at .ensures) (c .before .before .before .before .before .before .before .before .before .before .before .before .before .before .before .before .bitmap-size .result) (c .before .before .before .before .before .before .before .before .before .before .before .before .before .before .before .before .bitmap-size .result + 8 * A .n) (c .before .before .before .before .before .before .before .before .before .before .before .before .loop .slot) (c .before .before .before .before .before .before .before .before .before .before .before .before .loop .cur) D (c .before .before .before .before .before .before .before .before .before .before .before .before .loop .inv .state) (omega (arith, c .before .before .before .before .before .before .before .before .before .if3 .left)) (sym (c .before .before .before .before .before .before .before .is-null .ensures) ∙ c .before .before .before .before .before .before .if5 .left) (c .before .before .before .before .before .get8 .result) (c .before .before .before .before .before .get8 .ensures) (c .before .before .before .before .slot-offset .result) (c .before .before .before .before .slot-offset .ensures) (c .before .before .before .if6 .left) (c .before .before .slot-size .result) (c .before .before .slot-size .ensures) (c .before .before .before .before .before .before .before .before .before .before .before .before .loop .cur + c .before .before .slot-size .result) (c .before .pad-size .result) refl (c .before .pad-size .ensures) (c .if7 .taken))
 
--- src/lib.rt:246:17
 check-struct-pad-clear-requires : (t : ℕ) → check-struct-lts.Need-pad-clear-requires (check-struct-calls t) (check-struct-at t) check-struct.Post check-struct-Inv-loop check-struct-μ-loop
 check-struct-pad-clear-requires t c κs = let A = c .before .before .before .before .before .before .before .before .before .before .before .before .before .before .before .before .before .before .before .before .args in let S = A .s .now in let B = A .b .now in let P = c .before .before .before .before .before .before .before .before .before .before .before .before .before .before .before .before .before .before .before .before .pre .1 in let HB = bytes-of B (λ i. c .before .before .before .before .before .before .before .before .before .before .before .before .before .before .before .before .before .before .shared-slice-known2 .given i .fits) in let F = c .before .before .before .before .before .before .before .before .before .before .before .before .before .before .before .before .before .bitmap-size .ensures in let K = kids (typesAt S (A .first) (A .depth) (A .n)) in let D = fields-slots S (A .first) (A .n) (A .depth) B P HB (c .before .before .before .before .before .before .before .before .before .before .before .before .before .before .before .before .before .bitmap-size .result) (c .before .before .before .before .before .before .before .before .before .before .before .before .before .before .before .before .before .bitmap-size .result + 8 * A .n) F refl (c .before .before .before .before .before .before .before .before .before .before .before .before .before .before .before .before .if1 .left) in let p = c .before .before .before .before .before .before .before .before .before .before .before .before .before .loop .inv .state in (omega (arith, p .low, D .data₀, D .map, slot-room 0 K B (A .n) (c .before .before .before .before .before .before .before .before .before .before .before .before .before .before .before .before .before .bitmap-size .result) (c .before .before .before .before .before .before .before .before .before .before .before .before .before .before .before .before .before .bitmap-size .result + 8 * A .n) D (c .before .before .before .before .before .before .before .before .before .before .before .before .before .loop .i) (c .before .before .before .before .before .before .before .before .before .before .before .before .before .loop .slot) (c .before .before .before .before .before .before .before .before .before .before .before .before .before .loop .cur) (c .before .before .before .before .before .before .before .before .before .before .before .before .before .loop .inv .state) (c .before .before .before .before .before .before .before .before .before .before .before .before .loop-test .taken), c .before .before .pad-size .ensures), omega arith, omega (arith, p .high, c .before .before .before .slot-size .ensures, D .small), c .before .before .pad-size .ensures)
 
--- src/lib.rt:247:17
 check-struct-returns-6 : (t : ℕ) → check-struct-lts.Need-returns-6 (check-struct-calls t) (check-struct-at t) check-struct.Post check-struct-Inv-loop check-struct-μ-loop
 check-struct-returns-6 t c = let A = c .before .before .before .before .before .before .before .before .before .before .before .before .before .before .before .before .before .before .before .before .before .before .args in let S = A .s .now in let B = A .b .now in let P = c .before .before .before .before .before .before .before .before .before .before .before .before .before .before .before .before .before .before .before .before .before .before .pre .1 in let HB = bytes-of B (λ i. c .before .before .before .before .before .before .before .before .before .before .before .before .before .before .before .before .before .before .before .before .shared-slice-known2 .given i .fits) in let F = c .before .before .before .before .before .before .before .before .before .before .before .before .before .before .before .before .before .before .before .bitmap-size .ensures in let K = kids (typesAt S (A .first) (A .depth) (A .n)) in let D = fields-slots S (A .first) (A .n) (A .depth) B P HB (c .before .before .before .before .before .before .before .before .before .before .before .before .before .before .before .before .before .before .before .bitmap-size .result) (c .before .before .before .before .before .before .before .before .before .before .before .before .before .before .before .before .before .before .before .bitmap-size .result + 8 * A .n) F refl (c .before .before .before .before .before .before .before .before .before .before .before .before .before .before .before .before .before .before .if1 .left) in fields-good S (A .first) (A .n) (A .depth) B P HB (c .before .before .before .before .before .before .before .before .before .before .before .before .before .before .before .before .before .before .before .bitmap-size .result) (c .before .before .before .before .before .before .before .before .before .before .before .before .before .before .before .before .before .before .before .bitmap-size .result + 8 * A .n) F refl (c .before .before .before .before .before .before .before .before .before .before .before .before .before .before .before .before .before .before .if1 .left) (c .before .before .before .before .before .before .before .before .before .before .before .before .before .before .before .before .before .past-clear .result) (c .before .before .before .before .before .before .before .before .before .before .before .before .before .before .before .before .before .past-clear .ensures) (not-false _ (c .before .before .before .before .before .before .before .before .before .before .before .before .before .before .before .before .if2 .left)) _ (at-unpadded 0 K B (A .n) (c .before .before .before .before .before .before .before .before .before .before .before .before .before .before .before .before .before .before .before .bitmap-size .result) (c .before .before .before .before .before .before .before .before .before .before .before .before .before .before .before .before .before .before .before .bitmap-size .result + 8 * A .n) D (c .before .before .before .before .before .before .before .before .before .before .before .before .before .before .before .loop .i) (c .before .before .before .before .before .before .before .before .before .before .before .before .before .before .before .loop .slot) (c .before .before .before .before .before .before .before .before .before .before .before .before .before .before .before .loop .cur) (c .before .before .before .before .before .before .before .before .before .before .before .before .before .before .before .loop .inv .state) (c .before .before .before .before .before .before .before .before .before .before .before .before .before .before .loop-test .taken) string (field-string S (A .first) (A .n) (A .depth) B P HB (c .before .before .before .before .before .before .before .before .before .before .before .before .before .before .before .loop .at) (c .before .before .before .before .before .before .before .before .before .before .before .before .before .before .before .loop .i) (c .before .before .before .before .before .before .before .before .before .before .before .before .before .before .before .loop .inv .type) (c .before .before .before .before .before .before .before .before .before .before .before .before .before .before .loop-test .taken) (c .before .before .before .before .before .before .before .before .before .before .before .before .before .place-at .result) (c .before .before .before .before .before .before .before .before .before .before .before .before .before .place-at .ensures) (omega (arith, c .before .before .before .before .before .before .before .before .before .before .before .before .if3 .left)) (c .before .before .if8 .taken)) (sym (c .before .before .before .before .before .before .before .before .before .before .is-null .ensures) ∙ c .before .before .before .before .before .before .before .before .before .if5 .left) (c .before .before .before .before .before .before .before .before .get8 .result) (c .before .before .before .before .before .before .before .before .get8 .ensures) (c .before .before .before .before .before .before .before .slot-offset .result) (c .before .before .before .before .before .before .before .slot-offset .ensures) (c .before .before .before .before .before .before .if6 .left) (c .before .before .before .before .before .slot-size .result) (c .before .before .before .before .before .slot-size .ensures) (c .before .before .before .before .before .before .before .before .before .before .before .before .before .before .before .loop .cur + c .before .before .before .before .before .slot-size .result) (c .before .before .before .before .pad-size .result) refl (c .before .before .before .before .pad-size .ensures) (omega arith) (c .before .pad-clear .result) (c .before .pad-clear .ensures) (not-true _ (c .if9 .taken)))
 
--- src/lib.rt:250:13
 check-struct-add-slot-3 : (t : ℕ) → check-struct-lts.Need-add-slot-3 (check-struct-calls t) (check-struct-at t) check-struct.Post check-struct-Inv-loop check-struct-μ-loop
 check-struct-add-slot-3 t c = let p = c .before .before .before .before .before .before .before .before .before .before .before .before .before .before .before .before .before .before .before .before .before .before .pre .1 in let r = c .before .before .before .before .before .before .before .before .before .before .before .before .before .before .before .loop .inv .state in omega (arith, r .slot-is, c .before .before .before .before .before .before .before .before .before .before .before .before .before .before .before .before .before .before .if1 .left, p .small)
 
--- src/lib.rt:251:13
 check-struct-add-i-3 : (t : ℕ) → check-struct-lts.Need-add-i-3 (check-struct-calls t) (check-struct-at t) check-struct.Post check-struct-Inv-loop check-struct-μ-loop
 check-struct-add-i-3 t c = omega arith
 
--- src/lib.rt:218:5
 check-struct-loop-less-3 : (t : ℕ) → check-struct-lts.Need-loop-less-3 (check-struct-calls t) (check-struct-at t) check-struct.Post check-struct-Inv-loop check-struct-μ-loop
 check-struct-loop-less-3 t c = omega arith
 
--- src/lib.rt:218:5
 check-struct-loop-again-3 : (t : ℕ) → check-struct-lts.Need-loop-again-3 (check-struct-calls t) (check-struct-at t) check-struct.Post check-struct-Inv-loop check-struct-μ-loop
-check-struct-loop-again-3 t c = let A = c .before .before .before .before .before .before .before .before .before .before .before .before .before .before .before .before .before .before .before .before .before .before .args in let S = A .s .now in let B = A .b .now in let P = c .before .before .before .before .before .before .before .before .before .before .before .before .before .before .before .before .before .before .before .before .before .before .pre .1 in let HB = bytes-of B (λ i. c .before .before .before .before .before .before .before .before .before .before .before .before .before .before .before .before .before .before .before .before .shared-slice-known2 .given i .fits) in let F = c .before .before .before .before .before .before .before .before .before .before .before .before .before .before .before .before .before .before .before .bitmap-size .ensures in let K = kids (typesAt S (A .first) (A .depth) (A .n)) in let D = fields-slots S (A .first) (A .n) (A .depth) B P HB (c .before .before .before .before .before .before .before .before .before .before .before .before .before .before .before .before .before .before .before .bitmap-size .result) (c .before .before .before .before .before .before .before .before .before .before .before .before .before .before .before .before .before .before .before .bitmap-size .result + 8 * A .n) F refl (c .before .before .before .before .before .before .before .before .before .before .before .before .before .before .before .before .before .before .if1 .left) in record { type = field-on S (A .first) (A .n) (A .depth) B P HB (c .before .before .before .before .before .before .before .before .before .before .before .before .before .before .before .loop .at) (c .before .before .before .before .before .before .before .before .before .before .before .before .before .before .before .loop .i) (c .before .before .before .before .before .before .before .before .before .before .before .before .before .before .before .loop .inv .type) (c .before .before .before .before .before .before .before .before .before .before .before .before .before .before .loop-test .taken) _ (c .before .before .before .before .before .before .before .before .before .before .before .next-field .ensures); state = at-next 0 K B (A .n) (c .before .before .before .before .before .before .before .before .before .before .before .before .before .before .before .before .before .before .before .bitmap-size .result) (c .before .before .before .before .before .before .before .before .before .before .before .before .before .before .before .before .before .before .before .bitmap-size .result + 8 * A .n) D (c .before .before .before .before .before .before .before .before .before .before .before .before .before .before .before .loop .i) (c .before .before .before .before .before .before .before .before .before .before .before .before .before .before .before .loop .slot) (c .before .before .before .before .before .before .before .before .before .before .before .before .before .before .before .loop .cur) (c .before .before .before .before .before .before .before .before .before .before .before .before .before .before .before .loop .inv .state) (c .before .before .before .before .before .before .before .before .before .before .before .before .before .before .loop-test .taken) string (field-string S (A .first) (A .n) (A .depth) B P HB (c .before .before .before .before .before .before .before .before .before .before .before .before .before .before .before .loop .at) (c .before .before .before .before .before .before .before .before .before .before .before .before .before .before .before .loop .i) (c .before .before .before .before .before .before .before .before .before .before .before .before .before .before .before .loop .inv .type) (c .before .before .before .before .before .before .before .before .before .before .before .before .before .before .loop-test .taken) (c .before .before .before .before .before .before .before .before .before .before .before .before .before .place-at .result) (c .before .before .before .before .before .before .before .before .before .before .before .before .before .place-at .ensures) (omega (arith, c .before .before .before .before .before .before .before .before .before .before .before .before .if3 .left)) (c .before .before .if8 .taken)) (sym (c .before .before .before .before .before .before .before .before .before .before .is-null .ensures) ∙ c .before .before .before .before .before .before .before .before .before .if5 .left) (c .before .before .before .before .before .before .before .before .get8 .result) (c .before .before .before .before .before .before .before .before .get8 .ensures) (c .before .before .before .before .before .before .before .slot-offset .result) (c .before .before .before .before .before .before .before .slot-offset .ensures) (c .before .before .before .before .before .before .if6 .left) (c .before .before .before .before .before .slot-size .result) (c .before .before .before .before .before .slot-size .ensures) (c .before .before .before .before .before .before .before .before .before .before .before .before .before .before .before .loop .cur + c .before .before .before .before .before .slot-size .result) (c .before .before .before .before .pad-size .result) refl (c .before .before .before .before .pad-size .ensures) (omega arith) (text-fine _) (c .before .pad-clear .result) (c .before .pad-clear .ensures) (not-false _ (c .if9 .left)) }
+check-struct-loop-again-3 t c = let A = c .before .before .before .before .before .before .before .before .before .before .before .before .before .before .before .before .before .before .before .before .before .before .args in let S = A .s .now in let B = A .b .now in let P = c .before .before .before .before .before .before .before .before .before .before .before .before .before .before .before .before .before .before .before .before .before .before .pre .1 in let HB = bytes-of B (λ i. c .before .before .before .before .before .before .before .before .before .before .before .before .before .before .before .before .before .before .before .before .shared-slice-known2 .given i .fits) in let F = c .before .before .before .before .before .before .before .before .before .before .before .before .before .before .before .before .before .before .before .bitmap-size .ensures in let K = kids (typesAt S (A .first) (A .depth) (A .n)) in let D = fields-slots S (A .first) (A .n) (A .depth) B P HB (c .before .before .before .before .before .before .before .before .before .before .before .before .before .before .before .before .before .before .before .bitmap-size .result) (c .before .before .before .before .before .before .before .before .before .before .before .before .before .before .before .before .before .before .before .bitmap-size .result + 8 * A .n) F refl (c .before .before .before .before .before .before .before .before .before .before .before .before .before .before .before .before .before .before .if1 .left) in record { type = field-on S (A .first) (A .n) (A .depth) B P HB (c .before .before .before .before .before .before .before .before .before .before .before .before .before .before .before .loop .at) (c .before .before .before .before .before .before .before .before .before .before .before .before .before .before .before .loop .i) (c .before .before .before .before .before .before .before .before .before .before .before .before .before .before .before .loop .inv .type) (c .before .before .before .before .before .before .before .before .before .before .before .before .before .before .loop-test .taken) _ (c .before .before .before .before .before .before .before .before .before .before .before .next-type .ensures); state = at-next 0 K B (A .n) (c .before .before .before .before .before .before .before .before .before .before .before .before .before .before .before .before .before .before .before .bitmap-size .result) (c .before .before .before .before .before .before .before .before .before .before .before .before .before .before .before .before .before .before .before .bitmap-size .result + 8 * A .n) D (c .before .before .before .before .before .before .before .before .before .before .before .before .before .before .before .loop .i) (c .before .before .before .before .before .before .before .before .before .before .before .before .before .before .before .loop .slot) (c .before .before .before .before .before .before .before .before .before .before .before .before .before .before .before .loop .cur) (c .before .before .before .before .before .before .before .before .before .before .before .before .before .before .before .loop .inv .state) (c .before .before .before .before .before .before .before .before .before .before .before .before .before .before .loop-test .taken) string (field-string S (A .first) (A .n) (A .depth) B P HB (c .before .before .before .before .before .before .before .before .before .before .before .before .before .before .before .loop .at) (c .before .before .before .before .before .before .before .before .before .before .before .before .before .before .before .loop .i) (c .before .before .before .before .before .before .before .before .before .before .before .before .before .before .before .loop .inv .type) (c .before .before .before .before .before .before .before .before .before .before .before .before .before .before .loop-test .taken) (c .before .before .before .before .before .before .before .before .before .before .before .before .before .place-at .result) (c .before .before .before .before .before .before .before .before .before .before .before .before .before .place-at .ensures) (omega (arith, c .before .before .before .before .before .before .before .before .before .before .before .before .if3 .left)) (c .before .before .if8 .taken)) (sym (c .before .before .before .before .before .before .before .before .before .before .is-null .ensures) ∙ c .before .before .before .before .before .before .before .before .before .if5 .left) (c .before .before .before .before .before .before .before .before .get8 .result) (c .before .before .before .before .before .before .before .before .get8 .ensures) (c .before .before .before .before .before .before .before .slot-offset .result) (c .before .before .before .before .before .before .before .slot-offset .ensures) (c .before .before .before .before .before .before .if6 .left) (c .before .before .before .before .before .slot-size .result) (c .before .before .before .before .before .slot-size .ensures) (c .before .before .before .before .before .before .before .before .before .before .before .before .before .before .before .loop .cur + c .before .before .before .before .before .slot-size .result) (c .before .before .before .before .pad-size .result) refl (c .before .before .before .before .pad-size .ensures) (omega arith) (text-fine _) (c .before .pad-clear .result) (c .before .pad-clear .ensures) (not-false _ (c .if9 .left)) }
 
--- src/lib.rt:254:44
 check-struct-sub-check-value : (t : ℕ) → check-struct-lts.Need-sub-check-value (check-struct-calls t) (check-struct-at t) check-struct.Post check-struct-Inv-loop check-struct-μ-loop
 check-struct-sub-check-value t c = omega arith
 
--- src/lib.rt:254:44
 check-struct-part-check-value-start : (t : ℕ) → check-struct-lts.Need-part-check-value-start (check-struct-calls t) (check-struct-at t) check-struct.Post check-struct-Inv-loop check-struct-μ-loop
 check-struct-part-check-value-start t c = omega arith
 
--- src/lib.rt:254:44
 check-struct-part-check-value-end : (t : ℕ) → check-struct-lts.Need-part-check-value-end (check-struct-calls t) (check-struct-at t) check-struct.Post check-struct-Inv-loop check-struct-μ-loop
 check-struct-part-check-value-end t c = omega (arith, c .before .before .pad-size .ensures, c .before .if7 .left)
 
--- src/lib.rt:254:13
 check-struct-check-value-requires : (t : ℕ) → check-struct-lts.Need-check-value-requires (check-struct-calls t) (check-struct-at t) check-struct.Post check-struct-Inv-loop check-struct-μ-loop
 check-struct-check-value-requires t c κs = let A = c .before .before .before .before .before .before .before .before .before .before .before .before .before .before .before .before .before .before .before .before .before .args in let S = A .s .now in let B = A .b .now in let P = c .before .before .before .before .before .before .before .before .before .before .before .before .before .before .before .before .before .before .before .before .before .pre .1 in let HB = bytes-of B (λ i. c .before .before .before .before .before .before .before .before .before .before .before .before .before .before .before .before .before .before .before .shared-slice-known2 .given i .fits) in let F = c .before .before .before .before .before .before .before .before .before .before .before .before .before .before .before .before .before .before .bitmap-size .ensures in (omega arith, record { typed = field-here S (A .first) (A .n) (A .depth) B P HB (c .before .before .before .before .before .before .before .before .before .before .before .before .before .before .loop .at) (c .before .before .before .before .before .before .before .before .before .before .before .before .before .before .loop .i) (c .before .before .before .before .before .before .before .before .before .before .before .before .before .before .loop .inv .type) (c .before .before .before .before .before .before .before .before .before .before .before .before .before .loop-test .taken); place = c .before .before .before .before .before .before .before .before .before .before .before .before .place-at .ensures; holds = omega (arith, c .before .if8 .left); small = rw length-take (omega (arith, P .small, length-drop (c .before .before .before .before .before .before .before .before .before .before .before .before .before .before .loop .cur) B)) })
 
--- src/lib.rt:255:13
 check-struct-returns-7 : (t : ℕ) → check-struct-lts.Need-returns-7 (check-struct-calls t) (check-struct-at t) check-struct.Post check-struct-Inv-loop check-struct-μ-loop
 check-struct-returns-7 t c = let A = c .before .before .before .before .before .before .before .before .before .before .before .before .before .before .before .before .before .before .before .before .before .before .before .args in let S = A .s .now in let B = A .b .now in let P = c .before .before .before .before .before .before .before .before .before .before .before .before .before .before .before .before .before .before .before .before .before .before .before .pre .1 in let HB = bytes-of B (λ i. c .before .before .before .before .before .before .before .before .before .before .before .before .before .before .before .before .before .before .before .before .before .shared-slice-known2 .given i .fits) in let F = c .before .before .before .before .before .before .before .before .before .before .before .before .before .before .before .before .before .before .before .before .bitmap-size .ensures in let K = kids (typesAt S (A .first) (A .depth) (A .n)) in let D = fields-slots S (A .first) (A .n) (A .depth) B P HB (c .before .before .before .before .before .before .before .before .before .before .before .before .before .before .before .before .before .before .before .before .bitmap-size .result) (c .before .before .before .before .before .before .before .before .before .before .before .before .before .before .before .before .before .before .before .before .bitmap-size .result + 8 * A .n) F refl (c .before .before .before .before .before .before .before .before .before .before .before .before .before .before .before .before .before .before .before .if1 .left) in fields-good S (A .first) (A .n) (A .depth) B P HB (c .before .before .before .before .before .before .before .before .before .before .before .before .before .before .before .before .before .before .before .before .bitmap-size .result) (c .before .before .before .before .before .before .before .before .before .before .before .before .before .before .before .before .before .before .before .before .bitmap-size .result + 8 * A .n) F refl (c .before .before .before .before .before .before .before .before .before .before .before .before .before .before .before .before .before .before .before .if1 .left) (c .before .before .before .before .before .before .before .before .before .before .before .before .before .before .before .before .before .before .past-clear .result) (c .before .before .before .before .before .before .before .before .before .before .before .before .before .before .before .before .before .before .past-clear .ensures) (not-false _ (c .before .before .before .before .before .before .before .before .before .before .before .before .before .before .before .before .before .if2 .left)) _ (at-bad 0 K B (A .n) (c .before .before .before .before .before .before .before .before .before .before .before .before .before .before .before .before .before .before .before .before .bitmap-size .result) (c .before .before .before .before .before .before .before .before .before .before .before .before .before .before .before .before .before .before .before .before .bitmap-size .result + 8 * A .n) D (c .before .before .before .before .before .before .before .before .before .before .before .before .before .before .before .before .loop .i) (c .before .before .before .before .before .before .before .before .before .before .before .before .before .before .before .before .loop .slot) (c .before .before .before .before .before .before .before .before .before .before .before .before .before .before .before .before .loop .cur) (c .before .before .before .before .before .before .before .before .before .before .before .before .before .before .before .before .loop .inv .state) (c .before .before .before .before .before .before .before .before .before .before .before .before .before .before .before .loop-test .taken) (codec (typeAt S (c .before .before .before .before .before .before .before .before .before .before .before .before .before .before .before .before .loop .at) (A .depth))) (field-container S (A .first) (A .n) (A .depth) B P HB (c .before .before .before .before .before .before .before .before .before .before .before .before .before .before .before .before .loop .at) (c .before .before .before .before .before .before .before .before .before .before .before .before .before .before .before .before .loop .i) (c .before .before .before .before .before .before .before .before .before .before .before .before .before .before .before .before .loop .inv .type) (c .before .before .before .before .before .before .before .before .before .before .before .before .before .before .before .loop-test .taken) (c .before .before .before .before .before .before .before .before .before .before .before .before .before .before .place-at .result) (c .before .before .before .before .before .before .before .before .before .before .before .before .before .before .place-at .ensures) (omega (arith, c .before .before .before .if8 .left))) (sym (c .before .before .before .before .before .before .before .before .before .before .before .is-null .ensures) ∙ c .before .before .before .before .before .before .before .before .before .before .if5 .left) (c .before .before .before .before .before .before .before .before .before .get8 .result) (c .before .before .before .before .before .before .before .before .before .get8 .ensures) (c .before .before .before .before .before .before .before .before .slot-offset .result) (c .before .before .before .before .before .before .before .before .slot-offset .ensures) (c .before .before .before .before .before .before .before .if6 .left) (c .before .before .before .before .before .before .slot-size .result) (c .before .before .before .before .before .before .slot-size .ensures) (c .before .before .before .before .before .before .before .before .before .before .before .before .before .before .before .before .loop .cur + c .before .before .before .before .before .before .slot-size .result) (c .before .before .before .before .before .pad-size .result) refl (c .before .before .before .before .before .pad-size .ensures) (omega arith) (part-sound (typeAt S (c .before .before .before .before .before .before .before .before .before .before .before .before .before .before .before .before .loop .at) (A .depth)) _ _ (c .before .check-value .ensures) ∙ not-true _ (c .if10 .taken)))
 
--- src/lib.rt:257:13
 check-struct-pad-clear-requires-2 : (t : ℕ) → check-struct-lts.Need-pad-clear-requires-2 (check-struct-calls t) (check-struct-at t) check-struct.Post check-struct-Inv-loop check-struct-μ-loop
 check-struct-pad-clear-requires-2 t c κs = let A = c .before .before .before .before .before .before .before .before .before .before .before .before .before .before .before .before .before .before .before .before .before .before .before .args in let S = A .s .now in let B = A .b .now in let P = c .before .before .before .before .before .before .before .before .before .before .before .before .before .before .before .before .before .before .before .before .before .before .before .pre .1 in let HB = bytes-of B (λ i. c .before .before .before .before .before .before .before .before .before .before .before .before .before .before .before .before .before .before .before .before .before .shared-slice-known2 .given i .fits) in let F = c .before .before .before .before .before .before .before .before .before .before .before .before .before .before .before .before .before .before .before .before .bitmap-size .ensures in let K = kids (typesAt S (A .first) (A .depth) (A .n)) in let D = fields-slots S (A .first) (A .n) (A .depth) B P HB (c .before .before .before .before .before .before .before .before .before .before .before .before .before .before .before .before .before .before .before .before .bitmap-size .result) (c .before .before .before .before .before .before .before .before .before .before .before .before .before .before .before .before .before .before .before .before .bitmap-size .result + 8 * A .n) F refl (c .before .before .before .before .before .before .before .before .before .before .before .before .before .before .before .before .before .before .before .if1 .left) in let p = c .before .before .before .before .before .before .before .before .before .before .before .before .before .before .before .before .loop .inv .state in (omega (arith, p .low, D .data₀, D .map, slot-room 0 K B (A .n) (c .before .before .before .before .before .before .before .before .before .before .before .before .before .before .before .before .before .before .before .before .bitmap-size .result) (c .before .before .before .before .before .before .before .before .before .before .before .before .before .before .before .before .before .before .before .before .bitmap-size .result + 8 * A .n) D (c .before .before .before .before .before .before .before .before .before .before .before .before .before .before .before .before .loop .i) (c .before .before .before .before .before .before .before .before .before .before .before .before .before .before .before .before .loop .slot) (c .before .before .before .before .before .before .before .before .before .before .before .before .before .before .before .before .loop .cur) (c .before .before .before .before .before .before .before .before .before .before .before .before .before .before .before .before .loop .inv .state) (c .before .before .before .before .before .before .before .before .before .before .before .before .before .before .before .loop-test .taken), c .before .before .before .before .before .pad-size .ensures), omega arith, omega (arith, p .high, c .before .before .before .before .before .before .slot-size .ensures, D .small), c .before .before .before .before .before .pad-size .ensures)
 
--- src/lib.rt:258:13
 check-struct-returns-8 : (t : ℕ) → check-struct-lts.Need-returns-8 (check-struct-calls t) (check-struct-at t) check-struct.Post check-struct-Inv-loop check-struct-μ-loop
 check-struct-returns-8 t c = let A = c .before .before .before .before .before .before .before .before .before .before .before .before .before .before .before .before .before .before .before .before .before .before .before .before .before .args in let S = A .s .now in let B = A .b .now in let P = c .before .before .before .before .before .before .before .before .before .before .before .before .before .before .before .before .before .before .before .before .before .before .before .before .before .pre .1 in let HB = bytes-of B (λ i. c .before .before .before .before .before .before .before .before .before .before .before .before .before .before .before .before .before .before .before .before .before .before .before .shared-slice-known2 .given i .fits) in let F = c .before .before .before .before .before .before .before .before .before .before .before .before .before .before .before .before .before .before .before .before .before .before .bitmap-size .ensures in let K = kids (typesAt S (A .first) (A .depth) (A .n)) in let D = fields-slots S (A .first) (A .n) (A .depth) B P HB (c .before .before .before .before .before .before .before .before .before .before .before .before .before .before .before .before .before .before .before .before .before .before .bitmap-size .result) (c .before .before .before .before .before .before .before .before .before .before .before .before .before .before .before .before .before .before .before .before .before .before .bitmap-size .result + 8 * A .n) F refl (c .before .before .before .before .before .before .before .before .before .before .before .before .before .before .before .before .before .before .before .before .before .if1 .left) in fields-good S (A .first) (A .n) (A .depth) B P HB (c .before .before .before .before .before .before .before .before .before .before .before .before .before .before .before .before .before .before .before .before .before .before .bitmap-size .result) (c .before .before .before .before .before .before .before .before .before .before .before .before .before .before .before .before .before .before .before .before .before .before .bitmap-size .result + 8 * A .n) F refl (c .before .before .before .before .before .before .before .before .before .before .before .before .before .before .before .before .before .before .before .before .before .if1 .left) (c .before .before .before .before .before .before .before .before .before .before .before .before .before .before .before .before .before .before .before .before .past-clear .result) (c .before .before .before .before .before .before .before .before .before .before .before .before .before .before .before .before .before .before .before .before .past-clear .ensures) (not-false _ (c .before .before .before .before .before .before .before .before .before .before .before .before .before .before .before .before .before .before .before .if2 .left)) _ (at-unpadded 0 K B (A .n) (c .before .before .before .before .before .before .before .before .before .before .before .before .before .before .before .before .before .before .before .before .before .before .bitmap-size .result) (c .before .before .before .before .before .before .before .before .before .before .before .before .before .before .before .before .before .before .before .before .before .before .bitmap-size .result + 8 * A .n) D (c .before .before .before .before .before .before .before .before .before .before .before .before .before .before .before .before .before .before .loop .i) (c .before .before .before .before .before .before .before .before .before .before .before .before .before .before .before .before .before .before .loop .slot) (c .before .before .before .before .before .before .before .before .before .before .before .before .before .before .before .before .before .before .loop .cur) (c .before .before .before .before .before .before .before .before .before .before .before .before .before .before .before .before .before .before .loop .inv .state) (c .before .before .before .before .before .before .before .before .before .before .before .before .before .before .before .before .before .loop-test .taken) (codec (typeAt S (c .before .before .before .before .before .before .before .before .before .before .before .before .before .before .before .before .before .before .loop .at) (A .depth))) (field-container S (A .first) (A .n) (A .depth) B P HB (c .before .before .before .before .before .before .before .before .before .before .before .before .before .before .before .before .before .before .loop .at) (c .before .before .before .before .before .before .before .before .before .before .before .before .before .before .before .before .before .before .loop .i) (c .before .before .before .before .before .before .before .before .before .before .before .before .before .before .before .before .before .before .loop .inv .type) (c .before .before .before .before .before .before .before .before .before .before .before .before .before .before .before .before .before .loop-test .taken) (c .before .before .before .before .before .before .before .before .before .before .before .before .before .before .before .before .place-at .result) (c .before .before .before .before .before .before .before .before .before .before .before .before .before .before .before .before .place-at .ensures) (omega (arith, c .before .before .before .before .before .if8 .left))) (sym (c .before .before .before .before .before .before .before .before .before .before .before .before .before .is-null .ensures) ∙ c .before .before .before .before .before .before .before .before .before .before .before .before .if5 .left) (c .before .before .before .before .before .before .before .before .before .before .before .get8 .result) (c .before .before .before .before .before .before .before .before .before .before .before .get8 .ensures) (c .before .before .before .before .before .before .before .before .before .before .slot-offset .result) (c .before .before .before .before .before .before .before .before .before .before .slot-offset .ensures) (c .before .before .before .before .before .before .before .before .before .if6 .left) (c .before .before .before .before .before .before .before .before .slot-size .result) (c .before .before .before .before .before .before .before .before .slot-size .ensures) (c .before .before .before .before .before .before .before .before .before .before .before .before .before .before .before .before .before .before .loop .cur + c .before .before .before .before .before .before .before .before .slot-size .result) (c .before .before .before .before .before .before .before .pad-size .result) refl (c .before .before .before .before .before .before .before .pad-size .ensures) (omega arith) (c .before .pad-clear2 .result) (c .before .pad-clear2 .ensures) (not-true _ (c .if11 .taken)))
 
--- src/lib.rt:261:9
 check-struct-add-slot-4 : (t : ℕ) → check-struct-lts.Need-add-slot-4 (check-struct-calls t) (check-struct-at t) check-struct.Post check-struct-Inv-loop check-struct-μ-loop
 check-struct-add-slot-4 t c = let p = c .before .before .before .before .before .before .before .before .before .before .before .before .before .before .before .before .before .before .before .before .before .before .before .before .before .pre .1 in let r = c .before .before .before .before .before .before .before .before .before .before .before .before .before .before .before .before .before .before .loop .inv .state in omega (arith, r .slot-is, c .before .before .before .before .before .before .before .before .before .before .before .before .before .before .before .before .before .before .before .before .before .if1 .left, p .small)
 
--- src/lib.rt:262:9
 check-struct-add-i-4 : (t : ℕ) → check-struct-lts.Need-add-i-4 (check-struct-calls t) (check-struct-at t) check-struct.Post check-struct-Inv-loop check-struct-μ-loop
 check-struct-add-i-4 t c = omega arith
 
--- src/lib.rt:218:5
 check-struct-loop-less-4 : (t : ℕ) → check-struct-lts.Need-loop-less-4 (check-struct-calls t) (check-struct-at t) check-struct.Post check-struct-Inv-loop check-struct-μ-loop
 check-struct-loop-less-4 t c = omega arith
 
--- src/lib.rt:218:5
 check-struct-loop-again-4 : (t : ℕ) → check-struct-lts.Need-loop-again-4 (check-struct-calls t) (check-struct-at t) check-struct.Post check-struct-Inv-loop check-struct-μ-loop
-check-struct-loop-again-4 t c = let A = c .before .before .before .before .before .before .before .before .before .before .before .before .before .before .before .before .before .before .before .before .before .before .before .before .before .args in let S = A .s .now in let B = A .b .now in let P = c .before .before .before .before .before .before .before .before .before .before .before .before .before .before .before .before .before .before .before .before .before .before .before .before .before .pre .1 in let HB = bytes-of B (λ i. c .before .before .before .before .before .before .before .before .before .before .before .before .before .before .before .before .before .before .before .before .before .before .before .shared-slice-known2 .given i .fits) in let F = c .before .before .before .before .before .before .before .before .before .before .before .before .before .before .before .before .before .before .before .before .before .before .bitmap-size .ensures in let K = kids (typesAt S (A .first) (A .depth) (A .n)) in let D = fields-slots S (A .first) (A .n) (A .depth) B P HB (c .before .before .before .before .before .before .before .before .before .before .before .before .before .before .before .before .before .before .before .before .before .before .bitmap-size .result) (c .before .before .before .before .before .before .before .before .before .before .before .before .before .before .before .before .before .before .before .before .before .before .bitmap-size .result + 8 * A .n) F refl (c .before .before .before .before .before .before .before .before .before .before .before .before .before .before .before .before .before .before .before .before .before .if1 .left) in record { type = field-on S (A .first) (A .n) (A .depth) B P HB (c .before .before .before .before .before .before .before .before .before .before .before .before .before .before .before .before .before .before .loop .at) (c .before .before .before .before .before .before .before .before .before .before .before .before .before .before .before .before .before .before .loop .i) (c .before .before .before .before .before .before .before .before .before .before .before .before .before .before .before .before .before .before .loop .inv .type) (c .before .before .before .before .before .before .before .before .before .before .before .before .before .before .before .before .before .loop-test .taken) _ (c .before .before .before .before .before .before .before .before .before .before .before .before .before .before .next-field .ensures); state = at-next 0 K B (A .n) (c .before .before .before .before .before .before .before .before .before .before .before .before .before .before .before .before .before .before .before .before .before .before .bitmap-size .result) (c .before .before .before .before .before .before .before .before .before .before .before .before .before .before .before .before .before .before .before .before .before .before .bitmap-size .result + 8 * A .n) D (c .before .before .before .before .before .before .before .before .before .before .before .before .before .before .before .before .before .before .loop .i) (c .before .before .before .before .before .before .before .before .before .before .before .before .before .before .before .before .before .before .loop .slot) (c .before .before .before .before .before .before .before .before .before .before .before .before .before .before .before .before .before .before .loop .cur) (c .before .before .before .before .before .before .before .before .before .before .before .before .before .before .before .before .before .before .loop .inv .state) (c .before .before .before .before .before .before .before .before .before .before .before .before .before .before .before .before .before .loop-test .taken) (codec (typeAt S (c .before .before .before .before .before .before .before .before .before .before .before .before .before .before .before .before .before .before .loop .at) (A .depth))) (field-container S (A .first) (A .n) (A .depth) B P HB (c .before .before .before .before .before .before .before .before .before .before .before .before .before .before .before .before .before .before .loop .at) (c .before .before .before .before .before .before .before .before .before .before .before .before .before .before .before .before .before .before .loop .i) (c .before .before .before .before .before .before .before .before .before .before .before .before .before .before .before .before .before .before .loop .inv .type) (c .before .before .before .before .before .before .before .before .before .before .before .before .before .before .before .before .before .loop-test .taken) (c .before .before .before .before .before .before .before .before .before .before .before .before .before .before .before .before .place-at .result) (c .before .before .before .before .before .before .before .before .before .before .before .before .before .before .before .before .place-at .ensures) (omega (arith, c .before .before .before .before .before .if8 .left))) (sym (c .before .before .before .before .before .before .before .before .before .before .before .before .before .is-null .ensures) ∙ c .before .before .before .before .before .before .before .before .before .before .before .before .if5 .left) (c .before .before .before .before .before .before .before .before .before .before .before .get8 .result) (c .before .before .before .before .before .before .before .before .before .before .before .get8 .ensures) (c .before .before .before .before .before .before .before .before .before .before .slot-offset .result) (c .before .before .before .before .before .before .before .before .before .before .slot-offset .ensures) (c .before .before .before .before .before .before .before .before .before .if6 .left) (c .before .before .before .before .before .before .before .before .slot-size .result) (c .before .before .before .before .before .before .before .before .slot-size .ensures) (c .before .before .before .before .before .before .before .before .before .before .before .before .before .before .before .before .before .before .loop .cur + c .before .before .before .before .before .before .before .before .slot-size .result) (c .before .before .before .before .before .before .before .pad-size .result) refl (c .before .before .before .before .before .before .before .pad-size .ensures) (omega arith) (part-sound (typeAt S (c .before .before .before .before .before .before .before .before .before .before .before .before .before .before .before .before .before .before .loop .at) (A .depth)) _ _ (c .before .before .before .check-value .ensures) ∙ not-false _ (c .before .before .if10 .left)) (c .before .pad-clear2 .result) (c .before .pad-clear2 .ensures) (not-false _ (c .if11 .left)) }
+check-struct-loop-again-4 t c = let A = c .before .before .before .before .before .before .before .before .before .before .before .before .before .before .before .before .before .before .before .before .before .before .before .before .before .args in let S = A .s .now in let B = A .b .now in let P = c .before .before .before .before .before .before .before .before .before .before .before .before .before .before .before .before .before .before .before .before .before .before .before .before .before .pre .1 in let HB = bytes-of B (λ i. c .before .before .before .before .before .before .before .before .before .before .before .before .before .before .before .before .before .before .before .before .before .before .before .shared-slice-known2 .given i .fits) in let F = c .before .before .before .before .before .before .before .before .before .before .before .before .before .before .before .before .before .before .before .before .before .before .bitmap-size .ensures in let K = kids (typesAt S (A .first) (A .depth) (A .n)) in let D = fields-slots S (A .first) (A .n) (A .depth) B P HB (c .before .before .before .before .before .before .before .before .before .before .before .before .before .before .before .before .before .before .before .before .before .before .bitmap-size .result) (c .before .before .before .before .before .before .before .before .before .before .before .before .before .before .before .before .before .before .before .before .before .before .bitmap-size .result + 8 * A .n) F refl (c .before .before .before .before .before .before .before .before .before .before .before .before .before .before .before .before .before .before .before .before .before .if1 .left) in record { type = field-on S (A .first) (A .n) (A .depth) B P HB (c .before .before .before .before .before .before .before .before .before .before .before .before .before .before .before .before .before .before .loop .at) (c .before .before .before .before .before .before .before .before .before .before .before .before .before .before .before .before .before .before .loop .i) (c .before .before .before .before .before .before .before .before .before .before .before .before .before .before .before .before .before .before .loop .inv .type) (c .before .before .before .before .before .before .before .before .before .before .before .before .before .before .before .before .before .loop-test .taken) _ (c .before .before .before .before .before .before .before .before .before .before .before .before .before .before .next-type .ensures); state = at-next 0 K B (A .n) (c .before .before .before .before .before .before .before .before .before .before .before .before .before .before .before .before .before .before .before .before .before .before .bitmap-size .result) (c .before .before .before .before .before .before .before .before .before .before .before .before .before .before .before .before .before .before .before .before .before .before .bitmap-size .result + 8 * A .n) D (c .before .before .before .before .before .before .before .before .before .before .before .before .before .before .before .before .before .before .loop .i) (c .before .before .before .before .before .before .before .before .before .before .before .before .before .before .before .before .before .before .loop .slot) (c .before .before .before .before .before .before .before .before .before .before .before .before .before .before .before .before .before .before .loop .cur) (c .before .before .before .before .before .before .before .before .before .before .before .before .before .before .before .before .before .before .loop .inv .state) (c .before .before .before .before .before .before .before .before .before .before .before .before .before .before .before .before .before .loop-test .taken) (codec (typeAt S (c .before .before .before .before .before .before .before .before .before .before .before .before .before .before .before .before .before .before .loop .at) (A .depth))) (field-container S (A .first) (A .n) (A .depth) B P HB (c .before .before .before .before .before .before .before .before .before .before .before .before .before .before .before .before .before .before .loop .at) (c .before .before .before .before .before .before .before .before .before .before .before .before .before .before .before .before .before .before .loop .i) (c .before .before .before .before .before .before .before .before .before .before .before .before .before .before .before .before .before .before .loop .inv .type) (c .before .before .before .before .before .before .before .before .before .before .before .before .before .before .before .before .before .loop-test .taken) (c .before .before .before .before .before .before .before .before .before .before .before .before .before .before .before .before .place-at .result) (c .before .before .before .before .before .before .before .before .before .before .before .before .before .before .before .before .place-at .ensures) (omega (arith, c .before .before .before .before .before .if8 .left))) (sym (c .before .before .before .before .before .before .before .before .before .before .before .before .before .is-null .ensures) ∙ c .before .before .before .before .before .before .before .before .before .before .before .before .if5 .left) (c .before .before .before .before .before .before .before .before .before .before .before .get8 .result) (c .before .before .before .before .before .before .before .before .before .before .before .get8 .ensures) (c .before .before .before .before .before .before .before .before .before .before .slot-offset .result) (c .before .before .before .before .before .before .before .before .before .before .slot-offset .ensures) (c .before .before .before .before .before .before .before .before .before .if6 .left) (c .before .before .before .before .before .before .before .before .slot-size .result) (c .before .before .before .before .before .before .before .before .slot-size .ensures) (c .before .before .before .before .before .before .before .before .before .before .before .before .before .before .before .before .before .before .loop .cur + c .before .before .before .before .before .before .before .before .slot-size .result) (c .before .before .before .before .before .before .before .pad-size .result) refl (c .before .before .before .before .before .before .before .pad-size .ensures) (omega arith) (part-sound (typeAt S (c .before .before .before .before .before .before .before .before .before .before .before .before .before .before .before .before .before .before .loop .at) (A .depth)) _ _ (c .before .before .before .check-value .ensures) ∙ not-false _ (c .before .before .if10 .left)) (c .before .pad-clear2 .result) (c .before .pad-clear2 .ensures) (not-false _ (c .if11 .left)) }
 
--- src/lib.rt:202:1
 check-struct-returns-9 : (t : ℕ) → check-struct-lts.Need-returns-9 (check-struct-calls t) (check-struct-at t) check-struct.Post check-struct-Inv-loop check-struct-μ-loop
 check-struct-returns-9 t c = let A = c .before .before .before .before .before .before .before .before .args in let S = A .s .now in let B = A .b .now in let P = c .before .before .before .before .before .before .before .before .pre .1 in let HB = bytes-of B (λ i. c .before .before .before .before .before .before .shared-slice-known2 .given i .fits) in let F = c .before .before .before .before .before .bitmap-size .ensures in let K = kids (typesAt S (A .first) (A .depth) (A .n)) in let D = fields-slots S (A .first) (A .n) (A .depth) B P HB (c .before .before .before .before .before .bitmap-size .result) (c .before .before .before .before .before .bitmap-size .result + 8 * A .n) F refl (c .before .before .before .before .if1 .left) in fields-good S (A .first) (A .n) (A .depth) B P HB (c .before .before .before .before .before .bitmap-size .result) (c .before .before .before .before .before .bitmap-size .result + 8 * A .n) F refl (c .before .before .before .before .if1 .left) (c .before .before .before .past-clear .result) (c .before .before .before .past-clear .ensures) (not-false _ (c .before .before .if2 .left)) _ (at-end 0 K B (A .n) (c .before .before .before .before .before .bitmap-size .result) (c .before .before .before .before .before .bitmap-size .result + 8 * A .n) D (c .before .loop .i) (c .before .loop .slot) (c .before .loop .cur) (c .before .loop .inv .state) (omega arith))
 
@@ -661,179 +539,135 @@ check-structs-Inv-loop s first fields depth b n slots start i₀ slot₀ cur₀ 
 abbrev check-structs-μ-loop : check-structs-lts.MeasureT-loop
 check-structs-μ-loop s first fields depth b n slots start i₀ slot₀ cur₀ i slot cur = n - i
 
--- src/lib.rt:108:21
 check-structs-bitmap-size-requires : (t : ℕ) → check-structs-lts.Need-bitmap-size-requires (check-structs-calls t) (check-structs-at t) check-structs.Post check-structs-Inv-loop check-structs-μ-loop
 check-structs-bitmap-size-requires t c κs = omega (arith, c .before .before .pre .1 .room, c .before .before .pre .1 .small)
 
--- src/lib.rt:108:17
 check-structs-add-slots : (t : ℕ) → check-structs-lts.Need-add-slots (check-structs-calls t) (check-structs-at t) check-structs.Post check-structs-Inv-loop check-structs-μ-loop
 check-structs-add-slots t c = omega (arith, c .before .before .before .pre .1 .room, c .before .before .before .pre .1 .small, c .bitmap-size .ensures)
 
--- src/lib.rt:109:25
 check-structs-mul-start : (t : ℕ) → check-structs-lts.Need-mul-start (check-structs-calls t) (check-structs-at t) check-structs.Post check-structs-Inv-loop check-structs-μ-loop
 check-structs-mul-start t c = omega (arith, c .before .before .before .pre .1 .room, c .before .before .before .pre .1 .small)
 
--- src/lib.rt:109:17
 check-structs-add-start : (t : ℕ) → check-structs-lts.Need-add-start (check-structs-calls t) (check-structs-at t) check-structs.Post check-structs-Inv-loop check-structs-μ-loop
 check-structs-add-start t c = omega (arith, c .before .before .before .pre .1 .room, c .before .before .before .pre .1 .small, c .bitmap-size .ensures)
 
--- src/lib.rt:113:5
 check-structs-loop-holds : (t : ℕ) → check-structs-lts.Need-loop-holds (check-structs-calls t) (check-structs-at t) check-structs.Post check-structs-Inv-loop check-structs-μ-loop
 check-structs-loop-holds t c = let A = c .before .before .before .args in let S = A .s .now in let B = A .b .now in let P = c .before .before .before .pre .1 in let HB = bytes-of B (λ i. c .before .shared-slice-known2 .given i .fits) in let T = ro (typesAt S (A .first) (A .depth) (A .fields)) in let D = structs-slots (typesAt S (A .first) (A .depth) (A .fields)) B (A .n) HB (P .small) (P .room) (8 + c .bitmap-size .result) (8 + c .bitmap-size .result + 8 * A .n) (ap (λ (x : ℕ). 8 + x) (c .bitmap-size .ensures)) refl in at-start 8 (elements T (A .n)) B (A .n) (8 + c .bitmap-size .result) (8 + c .bitmap-size .result + 8 * A .n) D
 
--- src/lib.rt:114:12
 check-structs-is-null-requires : (t : ℕ) → check-structs-lts.Need-is-null-requires (check-structs-calls t) (check-structs-at t) check-structs.Post check-structs-Inv-loop check-structs-μ-loop
 check-structs-is-null-requires t c κs = let A = c .before .before .before .before .before .args in let S = A .s .now in let B = A .b .now in let P = c .before .before .before .before .before .pre .1 in let HB = bytes-of B (λ i. c .before .before .before .shared-slice-known2 .given i .fits) in let T = ro (typesAt S (A .first) (A .depth) (A .fields)) in let D = structs-slots (typesAt S (A .first) (A .depth) (A .fields)) B (A .n) HB (P .small) (P .room) (8 + c .before .before .bitmap-size .result) (8 + c .before .before .bitmap-size .result + 8 * A .n) (ap (λ (x : ℕ). 8 + x) (c .before .before .bitmap-size .ensures)) refl in bit-room 8 (elements T (A .n)) B (A .n) (8 + c .before .before .bitmap-size .result) (8 + c .before .before .bitmap-size .result + 8 * A .n) D (c .before .loop .i) (c .before .loop .slot) (c .before .loop .cur) (c .before .loop .inv) (c .loop-test .taken)
 
--- src/lib.rt:115:13
 check-structs-add-slot : (t : ℕ) → check-structs-lts.Need-add-slot (check-structs-calls t) (check-structs-at t) check-structs.Post check-structs-Inv-loop check-structs-μ-loop
 check-structs-add-slot t c = let p = c .before .before .before .before .before .before .before .pre .1 in let r = c .before .before .before .loop .inv in omega (arith, r .slot-is, p .room, p .small, c .before .before .before .before .bitmap-size .ensures)
 
--- src/lib.rt:116:13
 check-structs-add-i : (t : ℕ) → check-structs-lts.Need-add-i (check-structs-calls t) (check-structs-at t) check-structs.Post check-structs-Inv-loop check-structs-μ-loop
 check-structs-add-i t c = omega arith
 
--- src/lib.rt:113:5
 check-structs-loop-less : (t : ℕ) → check-structs-lts.Need-loop-less (check-structs-calls t) (check-structs-at t) check-structs.Post check-structs-Inv-loop check-structs-μ-loop
 check-structs-loop-less t c = omega arith
 
--- src/lib.rt:113:5
 check-structs-loop-again : (t : ℕ) → check-structs-lts.Need-loop-again (check-structs-calls t) (check-structs-at t) check-structs.Post check-structs-Inv-loop check-structs-μ-loop
 check-structs-loop-again t c = let A = c .before .before .before .before .before .before .before .args in let S = A .s .now in let B = A .b .now in let P = c .before .before .before .before .before .before .before .pre .1 in let HB = bytes-of B (λ i. c .before .before .before .before .before .shared-slice-known2 .given i .fits) in let T = ro (typesAt S (A .first) (A .depth) (A .fields)) in let D = structs-slots (typesAt S (A .first) (A .depth) (A .fields)) B (A .n) HB (P .small) (P .room) (8 + c .before .before .before .before .bitmap-size .result) (8 + c .before .before .before .before .bitmap-size .result + 8 * A .n) (ap (λ (x : ℕ). 8 + x) (c .before .before .before .before .bitmap-size .ensures)) refl in at-null 8 (elements T (A .n)) B (A .n) (8 + c .before .before .before .before .bitmap-size .result) (8 + c .before .before .before .before .bitmap-size .result + 8 * A .n) D (c .before .before .before .loop .i) (c .before .before .before .loop .slot) (c .before .before .before .loop .cur) (c .before .before .before .loop .inv) (c .before .before .loop-test .taken) (sym (c .before .is-null .ensures) ∙ c .if1 .taken)
 
--- src/lib.rt:119:13
 check-structs-get8-requires : (t : ℕ) → check-structs-lts.Need-get8-requires (check-structs-calls t) (check-structs-at t) check-structs.Post check-structs-Inv-loop check-structs-μ-loop
 check-structs-get8-requires t c κs = let A = c .before .before .before .before .before .before .before .args in let S = A .s .now in let B = A .b .now in let P = c .before .before .before .before .before .before .before .pre .1 in let HB = bytes-of B (λ i. c .before .before .before .before .before .shared-slice-known2 .given i .fits) in let T = ro (typesAt S (A .first) (A .depth) (A .fields)) in let D = structs-slots (typesAt S (A .first) (A .depth) (A .fields)) B (A .n) HB (P .small) (P .room) (8 + c .before .before .before .before .bitmap-size .result) (8 + c .before .before .before .before .bitmap-size .result + 8 * A .n) (ap (λ (x : ℕ). 8 + x) (c .before .before .before .before .bitmap-size .ensures)) refl in omega (arith, slot-room 8 (elements T (A .n)) B (A .n) (8 + c .before .before .before .before .bitmap-size .result) (8 + c .before .before .before .before .bitmap-size .result + 8 * A .n) D (c .before .before .before .loop .i) (c .before .before .before .loop .slot) (c .before .before .before .loop .cur) (c .before .before .before .loop .inv) (c .before .before .loop-test .taken), D .room)
 
--- src/lib.rt:120:12
 check-structs-slot-offset-requires : (t : ℕ) → check-structs-lts.Need-slot-offset-requires (check-structs-calls t) (check-structs-at t) check-structs.Post check-structs-Inv-loop check-structs-μ-loop
 check-structs-slot-offset-requires t c κs = tt
 
--- src/lib.rt:121:13
 check-structs-returns : (t : ℕ) → check-structs-lts.Need-returns (check-structs-calls t) (check-structs-at t) check-structs.Post check-structs-Inv-loop check-structs-μ-loop
 check-structs-returns t c = let A = c .before .before .before .before .before .before .before .before .before .before .args in let S = A .s .now in let B = A .b .now in let P = c .before .before .before .before .before .before .before .before .before .before .pre .1 in let HB = bytes-of B (λ i. c .before .before .before .before .before .before .before .before .shared-slice-known2 .given i .fits) in let T = ro (typesAt S (A .first) (A .depth) (A .fields)) in let D = structs-slots (typesAt S (A .first) (A .depth) (A .fields)) B (A .n) HB (P .small) (P .room) (8 + c .before .before .before .before .before .before .before .bitmap-size .result) (8 + c .before .before .before .before .before .before .before .bitmap-size .result + 8 * A .n) (ap (λ (x : ℕ). 8 + x) (c .before .before .before .before .before .before .before .bitmap-size .ensures)) refl in to-start (elements T (A .n)) B _ _ _ (ap (λ (x : ℕ). 8 + x + 8 * A .n) (c .before .before .before .before .before .before .before .bitmap-size .ensures)) (at-off 8 (elements T (A .n)) B (A .n) (8 + c .before .before .before .before .before .before .before .bitmap-size .result) (8 + c .before .before .before .before .before .before .before .bitmap-size .result + 8 * A .n) D (c .before .before .before .before .before .before .loop .i) (c .before .before .before .before .before .before .loop .slot) (c .before .before .before .before .before .before .loop .cur) (c .before .before .before .before .before .before .loop .inv) (c .before .before .before .before .before .loop-test .taken) (codec T) (struct-at (typesAt S (A .first) (A .depth) (A .fields)) B (A .n) HB (P .small) (P .room) (c .before .before .before .before .before .before .loop .i) (c .before .before .before .before .before .loop-test .taken)) (sym (c .before .before .before .before .is-null .ensures) ∙ c .before .before .before .if1 .left) (c .before .before .get8 .result) (c .before .before .get8 .ensures) (c .before .slot-offset .result) (c .before .slot-offset .ensures) (c .if2 .taken))
 
--- src/lib.rt:123:25
 check-structs-slot-size-requires : (t : ℕ) → check-structs-lts.Need-slot-size-requires (check-structs-calls t) (check-structs-at t) check-structs.Post check-structs-Inv-loop check-structs-μ-loop
 check-structs-slot-size-requires t c κs = tt
 
--- src/lib.rt:123:19
 check-structs-add-end : (t : ℕ) → check-structs-lts.Need-add-end (check-structs-calls t) (check-structs-at t) check-structs.Post check-structs-Inv-loop check-structs-μ-loop
 check-structs-add-end t c = let p = c .before .before .before .before .before .before .before .loop .inv in omega (arith, p .high, c .slot-size .ensures, c .before .before .before .before .before .before .before .before .before .before .before .pre .1 .small)
 
--- src/lib.rt:124:13
 check-structs-pad-size-requires : (t : ℕ) → check-structs-lts.Need-pad-size-requires (check-structs-calls t) (check-structs-at t) check-structs.Post check-structs-Inv-loop check-structs-μ-loop
 check-structs-pad-size-requires t c κs = let p = c .before .before .before .before .before .before .before .loop .inv in omega (arith, p .high, c .slot-size .ensures, c .before .before .before .before .before .before .before .before .before .before .before .pre .1 .small)
 
--- src/lib.rt:126:13
 check-structs-returns-2 : (t : ℕ) → check-structs-lts.Need-returns-2 (check-structs-calls t) (check-structs-at t) check-structs.Post check-structs-Inv-loop check-structs-μ-loop
 check-structs-returns-2 t c = let A = c .before .before .before .before .before .before .before .before .before .before .before .before .before .args in let S = A .s .now in let B = A .b .now in let P = c .before .before .before .before .before .before .before .before .before .before .before .before .before .pre .1 in let HB = bytes-of B (λ i. c .before .before .before .before .before .before .before .before .before .before .before .shared-slice-known2 .given i .fits) in let T = ro (typesAt S (A .first) (A .depth) (A .fields)) in let D = structs-slots (typesAt S (A .first) (A .depth) (A .fields)) B (A .n) HB (P .small) (P .room) (8 + c .before .before .before .before .before .before .before .before .before .before .bitmap-size .result) (8 + c .before .before .before .before .before .before .before .before .before .before .bitmap-size .result + 8 * A .n) (ap (λ (x : ℕ). 8 + x) (c .before .before .before .before .before .before .before .before .before .before .bitmap-size .ensures)) refl in to-start (elements T (A .n)) B _ _ _ (ap (λ (x : ℕ). 8 + x + 8 * A .n) (c .before .before .before .before .before .before .before .before .before .before .bitmap-size .ensures)) (at-long 8 (elements T (A .n)) B (A .n) (8 + c .before .before .before .before .before .before .before .before .before .before .bitmap-size .result) (8 + c .before .before .before .before .before .before .before .before .before .before .bitmap-size .result + 8 * A .n) D (c .before .before .before .before .before .before .before .before .before .loop .i) (c .before .before .before .before .before .before .before .before .before .loop .slot) (c .before .before .before .before .before .before .before .before .before .loop .cur) (c .before .before .before .before .before .before .before .before .before .loop .inv) (c .before .before .before .before .before .before .before .before .loop-test .taken) (codec T) (struct-at (typesAt S (A .first) (A .depth) (A .fields)) B (A .n) HB (P .small) (P .room) (c .before .before .before .before .before .before .before .before .before .loop .i) (c .before .before .before .before .before .before .before .before .loop-test .taken)) (sym (c .before .before .before .before .before .before .before .is-null .ensures) ∙ c .before .before .before .before .before .before .if1 .left) (c .before .before .before .before .before .get8 .result) (c .before .before .before .before .before .get8 .ensures) (c .before .before .before .before .slot-offset .result) (c .before .before .before .before .slot-offset .ensures) (c .before .before .before .if2 .left) (c .before .before .slot-size .result) (c .before .before .slot-size .ensures) (c .before .before .before .before .before .before .before .before .before .loop .cur + c .before .before .slot-size .result) (c .before .pad-size .result) refl (c .before .pad-size .ensures) (c .if3 .taken))
 
--- src/lib.rt:128:51
 check-structs-sub-check-struct : (t : ℕ) → check-structs-lts.Need-sub-check-struct (check-structs-calls t) (check-structs-at t) check-structs.Post check-structs-Inv-loop check-structs-μ-loop
 check-structs-sub-check-struct t c = omega arith
 
--- src/lib.rt:128:51
 check-structs-part-check-struct-start : (t : ℕ) → check-structs-lts.Need-part-check-struct-start (check-structs-calls t) (check-structs-at t) check-structs.Post check-structs-Inv-loop check-structs-μ-loop
 check-structs-part-check-struct-start t c = omega arith
 
--- src/lib.rt:128:51
 check-structs-part-check-struct-end : (t : ℕ) → check-structs-lts.Need-part-check-struct-end (check-structs-calls t) (check-structs-at t) check-structs.Post check-structs-Inv-loop check-structs-μ-loop
 check-structs-part-check-struct-end t c = omega (arith, c .before .pad-size .ensures, c .if3 .left)
 
--- src/lib.rt:128:13
 check-structs-check-struct-requires : (t : ℕ) → check-structs-lts.Need-check-struct-requires (check-structs-calls t) (check-structs-at t) check-structs.Post check-structs-Inv-loop check-structs-μ-loop
 check-structs-check-struct-requires t c κs = let A = c .before .before .before .before .before .before .before .before .before .before .before .before .before .before .args in let S = A .s .now in let B = A .b .now in let P = c .before .before .before .before .before .before .before .before .before .before .before .before .before .before .pre .1 in let HB = bytes-of B (λ i. c .before .before .before .before .before .before .before .before .before .before .before .before .shared-slice-known2 .given i .fits) in let T = ro (typesAt S (A .first) (A .depth) (A .fields)) in let D = structs-slots (typesAt S (A .first) (A .depth) (A .fields)) B (A .n) HB (P .small) (P .room) (8 + c .before .before .before .before .before .before .before .before .before .before .before .bitmap-size .result) (8 + c .before .before .before .before .before .before .before .before .before .before .before .bitmap-size .result + 8 * A .n) (ap (λ (x : ℕ). 8 + x) (c .before .before .before .before .before .before .before .before .before .before .before .bitmap-size .ensures)) refl in (omega arith, record { typed = P .typed; high = P .high; small = rw length-take (omega (arith, P .small, length-drop (c .before .before .before .before .before .before .before .before .before .before .loop .cur) B)) })
 
--- src/lib.rt:129:13
 check-structs-returns-3 : (t : ℕ) → check-structs-lts.Need-returns-3 (check-structs-calls t) (check-structs-at t) check-structs.Post check-structs-Inv-loop check-structs-μ-loop
 check-structs-returns-3 t c = let A = c .before .before .before .before .before .before .before .before .before .before .before .before .before .before .before .before .args in let S = A .s .now in let B = A .b .now in let P = c .before .before .before .before .before .before .before .before .before .before .before .before .before .before .before .before .pre .1 in let HB = bytes-of B (λ i. c .before .before .before .before .before .before .before .before .before .before .before .before .before .before .shared-slice-known2 .given i .fits) in let T = ro (typesAt S (A .first) (A .depth) (A .fields)) in let D = structs-slots (typesAt S (A .first) (A .depth) (A .fields)) B (A .n) HB (P .small) (P .room) (8 + c .before .before .before .before .before .before .before .before .before .before .before .before .before .bitmap-size .result) (8 + c .before .before .before .before .before .before .before .before .before .before .before .before .before .bitmap-size .result + 8 * A .n) (ap (λ (x : ℕ). 8 + x) (c .before .before .before .before .before .before .before .before .before .before .before .before .before .bitmap-size .ensures)) refl in to-start (elements T (A .n)) B _ _ _ (ap (λ (x : ℕ). 8 + x + 8 * A .n) (c .before .before .before .before .before .before .before .before .before .before .before .before .before .bitmap-size .ensures)) (at-bad 8 (elements T (A .n)) B (A .n) (8 + c .before .before .before .before .before .before .before .before .before .before .before .before .before .bitmap-size .result) (8 + c .before .before .before .before .before .before .before .before .before .before .before .before .before .bitmap-size .result + 8 * A .n) D (c .before .before .before .before .before .before .before .before .before .before .before .before .loop .i) (c .before .before .before .before .before .before .before .before .before .before .before .before .loop .slot) (c .before .before .before .before .before .before .before .before .before .before .before .before .loop .cur) (c .before .before .before .before .before .before .before .before .before .before .before .before .loop .inv) (c .before .before .before .before .before .before .before .before .before .before .before .loop-test .taken) (codec T) (struct-at (typesAt S (A .first) (A .depth) (A .fields)) B (A .n) HB (P .small) (P .room) (c .before .before .before .before .before .before .before .before .before .before .before .before .loop .i) (c .before .before .before .before .before .before .before .before .before .before .before .loop-test .taken)) (sym (c .before .before .before .before .before .before .before .before .before .before .is-null .ensures) ∙ c .before .before .before .before .before .before .before .before .before .if1 .left) (c .before .before .before .before .before .before .before .before .get8 .result) (c .before .before .before .before .before .before .before .before .get8 .ensures) (c .before .before .before .before .before .before .before .slot-offset .result) (c .before .before .before .before .before .before .before .slot-offset .ensures) (c .before .before .before .before .before .before .if2 .left) (c .before .before .before .before .before .slot-size .result) (c .before .before .before .before .before .slot-size .ensures) (c .before .before .before .before .before .before .before .before .before .before .before .before .loop .cur + c .before .before .before .before .before .slot-size .result) (c .before .before .before .before .pad-size .result) refl (c .before .before .before .before .pad-size .ensures) (omega arith) (part-sound T _ _ (c .before .check-struct .ensures) ∙ not-true _ (c .if4 .taken)))
 
--- src/lib.rt:131:13
 check-structs-pad-clear-requires : (t : ℕ) → check-structs-lts.Need-pad-clear-requires (check-structs-calls t) (check-structs-at t) check-structs.Post check-structs-Inv-loop check-structs-μ-loop
 check-structs-pad-clear-requires t c κs = let A = c .before .before .before .before .before .before .before .before .before .before .before .before .before .before .before .before .args in let S = A .s .now in let B = A .b .now in let P = c .before .before .before .before .before .before .before .before .before .before .before .before .before .before .before .before .pre .1 in let HB = bytes-of B (λ i. c .before .before .before .before .before .before .before .before .before .before .before .before .before .before .shared-slice-known2 .given i .fits) in let T = ro (typesAt S (A .first) (A .depth) (A .fields)) in let D = structs-slots (typesAt S (A .first) (A .depth) (A .fields)) B (A .n) HB (P .small) (P .room) (8 + c .before .before .before .before .before .before .before .before .before .before .before .before .before .bitmap-size .result) (8 + c .before .before .before .before .before .before .before .before .before .before .before .before .before .bitmap-size .result + 8 * A .n) (ap (λ (x : ℕ). 8 + x) (c .before .before .before .before .before .before .before .before .before .before .before .before .before .bitmap-size .ensures)) refl in let p = c .before .before .before .before .before .before .before .before .before .before .before .before .loop .inv in (omega (arith, p .low, D .data₀, D .map, c .before .before .before .before .pad-size .ensures), omega arith, omega (arith, p .high, c .before .before .before .before .before .slot-size .ensures, D .small), c .before .before .before .before .pad-size .ensures)
 
--- src/lib.rt:132:13
 check-structs-returns-4 : (t : ℕ) → check-structs-lts.Need-returns-4 (check-structs-calls t) (check-structs-at t) check-structs.Post check-structs-Inv-loop check-structs-μ-loop
 check-structs-returns-4 t c = let A = c .before .before .before .before .before .before .before .before .before .before .before .before .before .before .before .before .before .before .args in let S = A .s .now in let B = A .b .now in let P = c .before .before .before .before .before .before .before .before .before .before .before .before .before .before .before .before .before .before .pre .1 in let HB = bytes-of B (λ i. c .before .before .before .before .before .before .before .before .before .before .before .before .before .before .before .before .shared-slice-known2 .given i .fits) in let T = ro (typesAt S (A .first) (A .depth) (A .fields)) in let D = structs-slots (typesAt S (A .first) (A .depth) (A .fields)) B (A .n) HB (P .small) (P .room) (8 + c .before .before .before .before .before .before .before .before .before .before .before .before .before .before .before .bitmap-size .result) (8 + c .before .before .before .before .before .before .before .before .before .before .before .before .before .before .before .bitmap-size .result + 8 * A .n) (ap (λ (x : ℕ). 8 + x) (c .before .before .before .before .before .before .before .before .before .before .before .before .before .before .before .bitmap-size .ensures)) refl in to-start (elements T (A .n)) B _ _ _ (ap (λ (x : ℕ). 8 + x + 8 * A .n) (c .before .before .before .before .before .before .before .before .before .before .before .before .before .before .before .bitmap-size .ensures)) (at-unpadded 8 (elements T (A .n)) B (A .n) (8 + c .before .before .before .before .before .before .before .before .before .before .before .before .before .before .before .bitmap-size .result) (8 + c .before .before .before .before .before .before .before .before .before .before .before .before .before .before .before .bitmap-size .result + 8 * A .n) D (c .before .before .before .before .before .before .before .before .before .before .before .before .before .before .loop .i) (c .before .before .before .before .before .before .before .before .before .before .before .before .before .before .loop .slot) (c .before .before .before .before .before .before .before .before .before .before .before .before .before .before .loop .cur) (c .before .before .before .before .before .before .before .before .before .before .before .before .before .before .loop .inv) (c .before .before .before .before .before .before .before .before .before .before .before .before .before .loop-test .taken) (codec T) (struct-at (typesAt S (A .first) (A .depth) (A .fields)) B (A .n) HB (P .small) (P .room) (c .before .before .before .before .before .before .before .before .before .before .before .before .before .before .loop .i) (c .before .before .before .before .before .before .before .before .before .before .before .before .before .loop-test .taken)) (sym (c .before .before .before .before .before .before .before .before .before .before .before .before .is-null .ensures) ∙ c .before .before .before .before .before .before .before .before .before .before .before .if1 .left) (c .before .before .before .before .before .before .before .before .before .before .get8 .result) (c .before .before .before .before .before .before .before .before .before .before .get8 .ensures) (c .before .before .before .before .before .before .before .before .before .slot-offset .result) (c .before .before .before .before .before .before .before .before .before .slot-offset .ensures) (c .before .before .before .before .before .before .before .before .if2 .left) (c .before .before .before .before .before .before .before .slot-size .result) (c .before .before .before .before .before .before .before .slot-size .ensures) (c .before .before .before .before .before .before .before .before .before .before .before .before .before .before .loop .cur + c .before .before .before .before .before .before .before .slot-size .result) (c .before .before .before .before .before .before .pad-size .result) refl (c .before .before .before .before .before .before .pad-size .ensures) (omega arith) (c .before .pad-clear .result) (c .before .pad-clear .ensures) (not-true _ (c .if5 .taken)))
 
--- src/lib.rt:135:9
 check-structs-add-slot-2 : (t : ℕ) → check-structs-lts.Need-add-slot-2 (check-structs-calls t) (check-structs-at t) check-structs.Post check-structs-Inv-loop check-structs-μ-loop
 check-structs-add-slot-2 t c = let p = c .before .before .before .before .before .before .before .before .before .before .before .before .before .before .before .before .before .before .pre .1 in let r = c .before .before .before .before .before .before .before .before .before .before .before .before .before .before .loop .inv in omega (arith, r .slot-is, p .room, p .small, c .before .before .before .before .before .before .before .before .before .before .before .before .before .before .before .bitmap-size .ensures)
 
--- src/lib.rt:136:9
 check-structs-add-i-2 : (t : ℕ) → check-structs-lts.Need-add-i-2 (check-structs-calls t) (check-structs-at t) check-structs.Post check-structs-Inv-loop check-structs-μ-loop
 check-structs-add-i-2 t c = omega arith
 
--- src/lib.rt:113:5
 check-structs-loop-less-2 : (t : ℕ) → check-structs-lts.Need-loop-less-2 (check-structs-calls t) (check-structs-at t) check-structs.Post check-structs-Inv-loop check-structs-μ-loop
 check-structs-loop-less-2 t c = omega arith
 
--- src/lib.rt:113:5
 check-structs-loop-again-2 : (t : ℕ) → check-structs-lts.Need-loop-again-2 (check-structs-calls t) (check-structs-at t) check-structs.Post check-structs-Inv-loop check-structs-μ-loop
 check-structs-loop-again-2 t c = let A = c .before .before .before .before .before .before .before .before .before .before .before .before .before .before .before .before .before .before .args in let S = A .s .now in let B = A .b .now in let P = c .before .before .before .before .before .before .before .before .before .before .before .before .before .before .before .before .before .before .pre .1 in let HB = bytes-of B (λ i. c .before .before .before .before .before .before .before .before .before .before .before .before .before .before .before .before .shared-slice-known2 .given i .fits) in let T = ro (typesAt S (A .first) (A .depth) (A .fields)) in let D = structs-slots (typesAt S (A .first) (A .depth) (A .fields)) B (A .n) HB (P .small) (P .room) (8 + c .before .before .before .before .before .before .before .before .before .before .before .before .before .before .before .bitmap-size .result) (8 + c .before .before .before .before .before .before .before .before .before .before .before .before .before .before .before .bitmap-size .result + 8 * A .n) (ap (λ (x : ℕ). 8 + x) (c .before .before .before .before .before .before .before .before .before .before .before .before .before .before .before .bitmap-size .ensures)) refl in at-next 8 (elements T (A .n)) B (A .n) (8 + c .before .before .before .before .before .before .before .before .before .before .before .before .before .before .before .bitmap-size .result) (8 + c .before .before .before .before .before .before .before .before .before .before .before .before .before .before .before .bitmap-size .result + 8 * A .n) D (c .before .before .before .before .before .before .before .before .before .before .before .before .before .before .loop .i) (c .before .before .before .before .before .before .before .before .before .before .before .before .before .before .loop .slot) (c .before .before .before .before .before .before .before .before .before .before .before .before .before .before .loop .cur) (c .before .before .before .before .before .before .before .before .before .before .before .before .before .before .loop .inv) (c .before .before .before .before .before .before .before .before .before .before .before .before .before .loop-test .taken) (codec T) (struct-at (typesAt S (A .first) (A .depth) (A .fields)) B (A .n) HB (P .small) (P .room) (c .before .before .before .before .before .before .before .before .before .before .before .before .before .before .loop .i) (c .before .before .before .before .before .before .before .before .before .before .before .before .before .loop-test .taken)) (sym (c .before .before .before .before .before .before .before .before .before .before .before .before .is-null .ensures) ∙ c .before .before .before .before .before .before .before .before .before .before .before .if1 .left) (c .before .before .before .before .before .before .before .before .before .before .get8 .result) (c .before .before .before .before .before .before .before .before .before .before .get8 .ensures) (c .before .before .before .before .before .before .before .before .before .slot-offset .result) (c .before .before .before .before .before .before .before .before .before .slot-offset .ensures) (c .before .before .before .before .before .before .before .before .if2 .left) (c .before .before .before .before .before .before .before .slot-size .result) (c .before .before .before .before .before .before .before .slot-size .ensures) (c .before .before .before .before .before .before .before .before .before .before .before .before .before .before .loop .cur + c .before .before .before .before .before .before .before .slot-size .result) (c .before .before .before .before .before .before .pad-size .result) refl (c .before .before .before .before .before .before .pad-size .ensures) (omega arith) (part-sound T _ _ (c .before .before .before .check-struct .ensures) ∙ not-false _ (c .before .before .if4 .left)) (c .before .pad-clear .result) (c .before .pad-clear .ensures) (not-false _ (c .if5 .left))
 
--- src/lib.rt:104:1
 check-structs-returns-5 : (t : ℕ) → check-structs-lts.Need-returns-5 (check-structs-calls t) (check-structs-at t) check-structs.Post check-structs-Inv-loop check-structs-μ-loop
 check-structs-returns-5 t c = let A = c .before .before .before .before .before .args in let S = A .s .now in let B = A .b .now in let P = c .before .before .before .before .before .pre .1 in let HB = bytes-of B (λ i. c .before .before .before .shared-slice-known2 .given i .fits) in let T = ro (typesAt S (A .first) (A .depth) (A .fields)) in let D = structs-slots (typesAt S (A .first) (A .depth) (A .fields)) B (A .n) HB (P .small) (P .room) (8 + c .before .before .bitmap-size .result) (8 + c .before .before .bitmap-size .result + 8 * A .n) (ap (λ (x : ℕ). 8 + x) (c .before .before .bitmap-size .ensures)) refl in to-start (elements T (A .n)) B _ _ _ (ap (λ (x : ℕ). 8 + x + 8 * A .n) (c .before .before .bitmap-size .ensures)) (at-end 8 (elements T (A .n)) B (A .n) (8 + c .before .before .bitmap-size .result) (8 + c .before .before .bitmap-size .result + 8 * A .n) D (c .before .loop .i) (c .before .loop .slot) (c .before .loop .cur) (c .before .loop .inv) (omega arith))
 
--- src/lib.rt:52:13
 check-value-sub-d : (t : ℕ) → check-value-lts.Need-sub-d (check-value-calls t) (check-value-at t) check-value.Post
 check-value-sub-d t c = let A = c .before .before .args in let S = A .s .now in let B = A .b .now in let P = c .before .before .pre .1 in value-deep S (A .at) (A .depth) (A .k) B P
 
--- src/lib.rt:54:30
 check-value-add-check-list : (t : ℕ) → check-value-lts.Need-add-check-list (check-value-calls t) (check-value-at t) check-value.Post
 check-value-add-check-list t c = let A = c .before .before .before .args in let S = A .s .now in let B = A .b .now in let P = c .before .before .before .pre .1 in omega (arith, value-mark S (A .at) (A .depth) (A .k) B P)
 
--- src/lib.rt:54:9
 check-value-check-list-requires : (t : ℕ) → check-value-lts.Need-check-list-requires (check-value-calls t) (check-value-at t) check-value.Post
 check-value-check-list-requires t c κs = let A = c .before .before .before .args in let S = A .s .now in let B = A .b .now in let P = c .before .before .before .pre .1 in let q = value-list S (A .at) (A .depth) (A .k) B P (c .if1 .taken) in (omega (arith, value-deep S (A .at) (A .depth) (A .k) B P), record { typed = q .element; small = P .small })
 
--- src/lib.rt:54:9
 check-value-returns : (t : ℕ) → check-value-lts.Need-returns (check-value-calls t) (check-value-at t) check-value.Post
 check-value-returns t c = let A = c .before .before .before .before .args in let S = A .s .now in let B = A .b .now in let P = c .before .before .before .before .pre .1 in as-sound _ _ B _ (value-list S (A .at) (A .depth) (A .k) B P (c .before .if1 .taken) .whole) (c .check-list .ensures)
 
--- src/lib.rt:57:29
 check-value-add-check-map : (t : ℕ) → check-value-lts.Need-add-check-map (check-value-calls t) (check-value-at t) check-value.Post
 check-value-add-check-map t c = let A = c .before .before .before .before .args in let S = A .s .now in let B = A .b .now in let P = c .before .before .before .before .pre .1 in omega (arith, value-mark S (A .at) (A .depth) (A .k) B P)
 
--- src/lib.rt:57:53
 check-value-add-next : (t : ℕ) → check-value-lts.Need-add-next (check-value-calls t) (check-value-at t) check-value.Post
 check-value-add-next t c = let A = c .before .before .before .before .args in let S = A .s .now in let B = A .b .now in let P = c .before .before .before .before .pre .1 in omega (arith, value-mark S (A .at) (A .depth) (A .k) B P)
 
--- src/lib.rt:57:37
 check-value-next-requires : (t : ℕ) → check-value-lts.Need-next-requires (check-value-calls t) (check-value-at t) check-value.Post
 check-value-next-requires t c κs = let A = c .before .before .before .before .args in let S = A .s .now in let B = A .b .now in let P = c .before .before .before .before .pre .1 in value-map S (A .at) (A .depth) (A .k) B P (c .if2 .taken) .keys
 
--- src/lib.rt:57:9
 check-value-check-map-requires : (t : ℕ) → check-value-lts.Need-check-map-requires (check-value-calls t) (check-value-at t) check-value.Post
 check-value-check-map-requires t c κs = let A = c .before .before .before .before .before .args in let S = A .s .now in let B = A .b .now in let P = c .before .before .before .before .before .pre .1 in let q = value-map S (A .at) (A .depth) (A .k) B P (c .before .if2 .taken) in (omega (arith, value-deep S (A .at) (A .depth) (A .k) B P), record { keys = q .keys; values = rw (c .next .ensures) (q .values); small = P .small })
 
--- src/lib.rt:57:9
 check-value-returns-2 : (t : ℕ) → check-value-lts.Need-returns-2 (check-value-calls t) (check-value-at t) check-value.Post
 check-value-returns-2 t c = let A = c .before .before .before .before .before .before .args in let S = A .s .now in let B = A .b .now in let P = c .before .before .before .before .before .before .pre .1 in as-sound _ _ B _ (value-map S (A .at) (A .depth) (A .k) B P (c .before .before .if2 .taken) .whole ∙ rw (c .before .next .ensures)) (c .check-map .ensures)
 
--- src/lib.rt:59:21
 check-value-add-check-struct : (t : ℕ) → check-value-lts.Need-add-check-struct (check-value-calls t) (check-value-at t) check-value.Post
 check-value-add-check-struct t c = let A = c .before .before .before .before .args in let S = A .s .now in let B = A .b .now in let P = c .before .before .before .before .pre .1 in omega (arith, value-mark S (A .at) (A .depth) (A .k) B P)
 
--- src/lib.rt:59:44
 check-value-add-wide : (t : ℕ) → check-value-lts.Need-add-wide (check-value-calls t) (check-value-at t) check-value.Post
 check-value-add-wide t c = let A = c .before .before .before .before .args in let S = A .s .now in let B = A .b .now in let P = c .before .before .before .before .pre .1 in omega (arith, value-mark S (A .at) (A .depth) (A .k) B P)
 
--- src/lib.rt:59:42
 check-value-shared-slice-read-wide : (t : ℕ) → check-value-lts.Need-shared-slice-read-wide (check-value-calls t) (check-value-at t) check-value.Post
 check-value-shared-slice-read-wide t c = let A = c .before .before .before .before .before .args in let S = A .s .now in let B = A .b .now in let P = c .before .before .before .before .before .pre .1 in count-room S (A .at) (A .depth) (A .k) B P (c .before .before .if1 .left) (c .before .if2 .left)
 
--- src/lib.rt:59:29
 check-value-wide-requires : (t : ℕ) → check-value-lts.Need-wide-requires (check-value-calls t) (check-value-at t) check-value.Post
 check-value-wide-requires t c κs = tt
 
--- src/lib.rt:59:5
 check-value-check-struct-requires : (t : ℕ) → check-value-lts.Need-check-struct-requires (check-value-calls t) (check-value-at t) check-value.Post
 check-value-check-struct-requires t c κs = let A = c .before .before .before .before .before .before .args in let S = A .s .now in let B = A .b .now in let P = c .before .before .before .before .before .before .pre .1 in let q = value-struct S (A .at) (A .depth) (A .k) B P (c .before .before .before .if1 .left) (c .before .before .if2 .left) (c .wide .result) (c .wide .ensures) in (omega (arith, value-deep S (A .at) (A .depth) (A .k) B P), record { typed = q .fields; high = q .high; small = P .small })
 
--- src/lib.rt:48:1
 check-value-returns-3 : (t : ℕ) → check-value-lts.Need-returns-3 (check-value-calls t) (check-value-at t) check-value.Post
 check-value-returns-3 t c = let A = c .before .before .before .before .before .before .before .args in let S = A .s .now in let B = A .b .now in let P = c .before .before .before .before .before .before .before .pre .1 in as-sound _ _ B _ (value-struct S (A .at) (A .depth) (A .k) B P (c .before .before .before .before .if1 .left) (c .before .before .before .if2 .left) (c .before .wide .result) (c .before .wide .ensures) .whole) (c .check-struct .ensures)
 
@@ -954,7 +788,7 @@ pub +check-items+check-list+check-map+check-struct+check-structs+check-value-spe
     (check-struct-add-i t)
     (check-struct-loop-less t)
     (check-struct-loop-again t)
-    (check-struct-next-field-requires t)
+    (check-struct-next-type-requires t)
     (check-struct-is-null-requires t)
     (check-struct-add-slot-2 t)
     (check-struct-add-i-2 t)

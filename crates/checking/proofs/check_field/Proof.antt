@@ -6,49 +6,34 @@ use Rattle.checking.proofs.Fields.{width-less, field-eight, field-doubl
 use borrow.Author.Needs.{needs}
 use Rattle.checking.proofs.check_field.Statement.{statement}
 use Rattle.checking.proofs.check_field.Tie as tie
-use Rattle.checking.proofs.check_field.Reads as reads
-use Rattle.checking.proofs.check_field.Lts as lts
-use Rattle.schema.proofs.width_of.Reads as width-of-reads
-use Rattle.words.proofs.nulls.is_null.Reads as is-null-reads
-use Rattle.words.proofs.nums.get8.Reads as get8-reads
 
--- src/lib.rt:24:9
 returns : tie.Need-returns
 returns c = let A = c .before .before .args in let B = A .b .now in let H = bytes-of B (λ i. c .before .shared-slice-known .given i .fits) in field-eight B (A .i) (A .slot) (A .k) (c .before .before .pre) H (c .if1 .taken)
 
--- src/lib.rt:27:9
 returns-2 : tie.Need-returns-2
 returns-2 c = let A = c .before .before .before .args in let B = A .b .now in let H = bytes-of B (λ i. c .before .before .shared-slice-known .given i .fits) in field-double B (A .i) (A .slot) (A .k) (c .before .before .before .pre) H (c .if2 .taken)
 
--- src/lib.rt:29:8
 is-null-requires : tie.Need-is-null-requires
 is-null-requires c κs = c .before .before .before .pre .bit-room
 
--- src/lib.rt:30:9
 returns-3 : tie.Need-returns-3
 returns-3 c = let A = c .before .before .before .before .before .args in let B = A .b .now in let H = bytes-of B (λ i. c .before .before .before .before .shared-slice-known .given i .fits) in field-null B (A .i) (A .slot) (A .k) (c .before .before .before .before .before .pre) H (sym (c .before .is-null .ensures) ∙ c .if3 .taken)
 
--- src/lib.rt:32:9
 get8-requires : tie.Need-get8-requires
 get8-requires c κs = c .before .before .before .before .before .pre .slot-room
 
--- src/lib.rt:34:9
 returns-4 : tie.Need-returns-4
 returns-4 c = let A = c .before .before .before .before .before .before .before .args in let B = A .b .now in let H = bytes-of B (λ i. c .before .before .before .before .before .before .shared-slice-known .given i .fits) in field-bool B (A .i) (A .slot) (A .k) (c .before .before .before .before .before .before .before .pre) H (sym (c .before .before .before .is-null .ensures) ∙ c .before .before .if3 .left) (c .before .get8 .result) (c .before .get8 .ensures) (c .if4 .taken)
 
--- src/lib.rt:36:15
 width-of-requires : tie.Need-width-of-requires
 width-of-requires c κs = omega (arith, c .before .before .before .before .before .before .before .pre .fixed)
 
--- src/lib.rt:36:11
 mul-result : tie.Need-mul-result
 mul-result c = omega (arith, c .width-of .ensures, width-less (c .before .before .before .before .before .before .before .before .args .k) (c .before .before .before .before .before .before .before .before .pre .fixed) (c .before .before .before .before .before .before .if1 .left) (c .before .before .before .before .before .if2 .left))
 
--- src/lib.rt:36:5
 shr-result : tie.Need-shr-result
 shr-result c = omega (arith, c .width-of .ensures, width-less (c .before .before .before .before .before .before .before .before .args .k) (c .before .before .before .before .before .before .before .before .pre .fixed) (c .before .before .before .before .before .before .if1 .left) (c .before .before .before .before .before .if2 .left))
 
--- src/lib.rt:19:1
 returns-5 : tie.Need-returns-5
 returns-5 c = let A = c .before .before .before .before .before .before .before .before .args in let B = A .b .now in let H = bytes-of B (λ i. c .before .before .before .before .before .before .before .shared-slice-known .given i .fits) in field-number B (A .i) (A .slot) (A .k) (c .before .before .before .before .before .before .before .before .pre) H (sym (c .before .before .before .before .is-null .ensures) ∙ c .before .before .before .if3 .left) (c .before .before .get8 .result) (c .before .before .get8 .ensures) (c .before .if4 .left) (c .width-of .result) (c .width-of .ensures)
 

@@ -4,20 +4,13 @@ use Rattle.desk.specs.Codes.{verdictCode}
 use borrow.Author.Needs.{needs}
 use Rattle.desk.proofs.loaf_check.Statement.{statement}
 use Rattle.desk.proofs.loaf_check.Tie as tie
-use Rattle.desk.proofs.loaf_check.Reads as reads
-use Rattle.desk.proofs.loaf_check.Lts as lts
-use Rattle.desk.proofs.outcome_code.Reads as outcome-code-reads
-use Rattle.row.proofs.check.Reads as check-reads
 
--- src/lib.rt:29:18
 check-requires : tie.Need-check-requires
 check-requires c κs = search needs
 
--- src/lib.rt:29:5
 outcome-code-requires : tie.Need-outcome-code-requires
 outcome-code-requires c κs = search needs
 
--- src/lib.rt:25:1
 returns : tie.Need-returns
 returns c = c .outcome-code .ensures ∙ ap verdictCode (c .before .check .ensures)
 

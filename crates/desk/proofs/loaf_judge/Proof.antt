@@ -4,20 +4,13 @@ use Rattle.desk.specs.Codes.{verdictCode}
 use borrow.Author.Needs.{needs}
 use Rattle.desk.proofs.loaf_judge.Statement.{statement}
 use Rattle.desk.proofs.loaf_judge.Tie as tie
-use Rattle.desk.proofs.loaf_judge.Reads as reads
-use Rattle.desk.proofs.loaf_judge.Lts as lts
-use Rattle.desk.proofs.outcome_code.Reads as outcome-code-reads
-use Rattle.row.proofs.judge.Reads as judge-reads
 
--- src/lib.rt:22:18
 judge-requires : tie.Need-judge-requires
 judge-requires c κs = search needs
 
--- src/lib.rt:22:5
 outcome-code-requires : tie.Need-outcome-code-requires
 outcome-code-requires c κs = search needs
 
--- src/lib.rt:18:1
 returns : tie.Need-returns
 returns c = c .outcome-code .ensures ∙ ap verdictCode (c .before .judge .ensures)
 

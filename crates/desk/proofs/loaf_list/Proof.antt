@@ -7,24 +7,16 @@ use Rattle.desk.proofs.Codes.{halved}
 use borrow.Author.Needs.{needs}
 use Rattle.desk.proofs.loaf_list.Statement.{statement}
 use Rattle.desk.proofs.loaf_list.Tie as tie
-use Rattle.desk.proofs.loaf_list.Reads as reads
-use Rattle.desk.proofs.loaf_list.Lts as lts
-use Rattle.desk.proofs.length_code.Reads as length-code-reads
-use Rattle.row.proofs.list.Reads as list-reads
 
--- src/lib.rt:52:17
 list-requires : tie.Need-list-requires
 list-requires c κs = search needs
 
--- src/lib.rt:52:5
 length-code-requires : tie.Need-length-code-requires
 length-code-requires c κs = halved _ _ (c .before .before .list .ensures .answers) (list-below _ _ _ (bytes-of _ (λ i. c .before .before .before .before .before .shared-slice-known2 .given i .fits)))
 
--- src/lib.rt:48:1
 same-length : tie.Need-same-length
 same-length c = search needs
 
--- src/lib.rt:48:1
 returns : tie.Need-returns
 returns c = record { answers = c .length-code .ensures ∙ ap sizedCode (c .before .before .before .list .ensures .answers); leaves = c .before .before .before .list .ensures .leaves }
 

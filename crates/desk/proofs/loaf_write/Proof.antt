@@ -6,24 +6,16 @@ use Rattle.desk.proofs.Codes.{halved}
 use borrow.Author.Needs.{needs}
 use Rattle.desk.proofs.loaf_write.Statement.{statement}
 use Rattle.desk.proofs.loaf_write.Tie as tie
-use Rattle.desk.proofs.loaf_write.Reads as reads
-use Rattle.desk.proofs.loaf_write.Lts as lts
-use Rattle.desk.proofs.length_code.Reads as length-code-reads
-use Rattle.row.proofs.write.Reads as write-reads
 
--- src/lib.rt:52:17
 write-requires : tie.Need-write-requires
 write-requires c κs = search needs
 
--- src/lib.rt:52:5
 length-code-requires : tie.Need-length-code-requires
 length-code-requires c κs = halved _ _ (c .before .before .write .ensures .answers) (write-below _ _ _)
 
--- src/lib.rt:48:1
 same-length : tie.Need-same-length
 same-length c = search needs
 
--- src/lib.rt:48:1
 returns : tie.Need-returns
 returns c = record { answers = c .length-code .ensures ∙ ap sizedCode (c .before .before .before .write .ensures .answers); leaves = c .before .before .before .write .ensures .leaves }
 

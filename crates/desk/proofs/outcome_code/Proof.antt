@@ -3,31 +3,22 @@ use Rattle.desk.proofs.Codes.{code-refused}
 use borrow.Author.Needs.{needs}
 use Rattle.desk.proofs.outcome_code.Statement.{statement}
 use Rattle.desk.proofs.outcome_code.Tie as tie
-use Rattle.desk.proofs.outcome_code.Reads as reads
-use Rattle.desk.proofs.outcome_code.Lts as lts
-use Rattle.answers.proofs.refusals.number.Reads as number-reads
 
--- src/lib.rt:13:26
 enum-told : tie.Need-enum-told
 enum-told c = search needs
 
--- src/lib.rt:14:26
 enum-known-o : tie.Need-enum-known-o
 enum-known-o c = search needs
 
--- src/lib.rt:14:33
 number-requires : tie.Need-number-requires
 number-requires c κs = search needs
 
--- src/lib.rt:14:33
 cast-result : tie.Need-cast-result
 cast-result c = search needs
 
--- src/lib.rt:9:1
 returns : tie.Need-returns
 returns c = search needs
 
--- src/lib.rt:9:1
 returns-2 : tie.Need-returns-2
 returns-2 c = code-refused (c .before .before .before .before .args .o) _ (c .number .result) (c .before .before .o .given .1) (c .number .ensures)
 

@@ -6,8 +6,6 @@ use lib.ListN.{length, getD}
 use Rattle.desk.proofs.Steps.{Held, held-none, held-more, held-all, held-full}
 use Rattle.desk.proofs.path_of.Statement.{statement}
 use Rattle.desk.proofs.path_of.Tie as tie
-use Rattle.desk.proofs.path_of.Reads as reads
-use Rattle.desk.proofs.path_of.Lts as lts
 
 abbrev Inv-loop : tie.InvT-loop
 Inv-loop steps held₀ n i₀ held i = (i ≤ n) × Held steps held i
@@ -15,47 +13,37 @@ Inv-loop steps held₀ n i₀ held i = (i ≤ n) × Held steps held i
 abbrev μ-loop : tie.MeasureT-loop
 μ-loop steps held₀ n i₀ held i = n - i
 
--- src/lib.rt:27:5
 loop-holds : tie.Need-loop-holds Inv-loop μ-loop
 loop-holds c = (omega arith, held-none (c .args .steps .now))
 
--- src/lib.rt:31:19
 mul-held : tie.Need-mul-held Inv-loop μ-loop
 mul-held c = omega arith
 
--- src/lib.rt:31:19
 shared-slice-read-held : tie.Need-shared-slice-read-held Inv-loop μ-loop
 shared-slice-read-held c = omega arith
 
--- src/lib.rt:31:9
 mul-held-2 : tie.Need-mul-held-2 Inv-loop μ-loop
 mul-held-2 c = omega arith
 
--- src/lib.rt:31:9
 array-write-held : tie.Need-array-write-held Inv-loop μ-loop
 array-write-held c = omega arith
 
--- src/lib.rt:32:9
 add-i : tie.Need-add-i Inv-loop μ-loop
 add-i c = omega arith
 
--- src/lib.rt:27:5
 loop-less : tie.Need-loop-less Inv-loop μ-loop
 loop-less c = omega arith
 
--- src/lib.rt:27:5
 loop-again : tie.Need-loop-again Inv-loop μ-loop
 loop-again c =
     let l = c .before .before .before .loop in
     (omega arith, held-more (c .before .before .before .before .args .steps .now) (l .held) (l .i) (l .inv .1) (omega arith))
 
--- src/lib.rt:21:1
 returns : tie.Need-returns Inv-loop μ-loop
 returns c =
     let l = c .before .loop in
     held-all (c .before .before .args .steps .now) (l .held) (l .i) (l .inv .1) (omega arith)
 
--- src/lib.rt:21:1
 returns-2 : tie.Need-returns-2 Inv-loop μ-loop
 returns-2 c =
     let l = c .before .before .loop in

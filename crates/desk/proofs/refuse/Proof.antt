@@ -1,3 +1,4 @@
+-- `desk::refuse` meets its contract. Assumes nothing.
 use borrow.Author.Needs.{needs}
 use mathlib.Core.Path.{ap, _∙_}
 use Rattle.row.proofs.Numbers.{read-gives}
@@ -6,42 +7,28 @@ use Rattle.desk.proofs.Words.{gives-as}
 use Rattle.desk.proofs.Asking.{refused-row, refused-place, refused-value}
 use Rattle.desk.proofs.refuse.Statement.{statement}
 use Rattle.desk.proofs.refuse.Tie as tie
-use Rattle.desk.proofs.refuse.Reads as reads
-use Rattle.desk.proofs.refuse.Lts as lts
-use Rattle.desk.proofs.outcome_code.Reads as outcome-code-reads
-use Rattle.desk.proofs.told.put_answer.Reads as put-answer-reads
-use Rattle.row.proofs.check.Reads as check-reads
-use Rattle.row.proofs.read.Reads as read-reads
 
--- src/lib.rt:109:31
 check-requires : tie.Need-check-requires
 check-requires c κs = search needs
 
--- src/lib.rt:109:9
 outcome-code-requires : tie.Need-outcome-code-requires
 outcome-code-requires c κs = search needs
 
--- src/lib.rt:111:9
 returns : tie.Need-returns
 returns c = refused-row _ _ _ _ (c .before .outcome-code .ensures ∙ ap verdictCode (c .before .before .check .ensures)) (c .if1 .taken)
 
--- src/lib.rt:114:34
 slice-aggregate-put-answer : tie.Need-slice-aggregate-put-answer
 slice-aggregate-put-answer c = search needs
 
--- src/lib.rt:114:47
 read-requires : tie.Need-read-requires
 read-requires c κs = search needs
 
--- src/lib.rt:114:9
 put-answer-requires : tie.Need-put-answer-requires
 put-answer-requires c κs = gives-as (c .read .result) _ (c .read .ensures) (read-gives _ _ _)
 
--- src/lib.rt:116:9
 returns-2 : tie.Need-returns-2
 returns-2 c = refused-place _ _ _ _ _ _ (c .before .before .before .before .before .before .outcome-code .ensures ∙ ap verdictCode (c .before .before .before .before .before .before .before .check .ensures)) (c .before .before .before .before .before .if1 .left) (c .before .before .before .read .ensures) (c .before .before .put-answer .ensures .answers) (c .if2 .taken)
 
--- src/lib.rt:106:1
 returns-3 : tie.Need-returns-3
 returns-3 c = refused-value _ _ _ _ _ _ (c .before .before .before .before .before .before .outcome-code .ensures ∙ ap verdictCode (c .before .before .before .before .before .before .before .check .ensures)) (c .before .before .before .before .before .if1 .left) (c .before .before .before .read .ensures) (c .before .before .put-answer .ensures .answers) (read-gives _ _ _) (c .if2 .left)
 

@@ -4,27 +4,19 @@ use Rattle.row.proofs.Orders.{judge-yes, judge-no}
 use borrow.Author.Needs.{needs}
 use Rattle.row.proofs.judge.Statement.{statement}
 use Rattle.row.proofs.judge.Tie as tie
-use Rattle.row.proofs.judge.Reads as reads
-use Rattle.row.proofs.judge.Lts as lts
-use Rattle.schema.proofs.judge.Reads as judge-reads
 
--- src/lib.rt:12:11
 judge-requires : tie.Need-judge-requires
 judge-requires c κs = search needs
 
--- src/lib.rt:13:37
 enum-told : tie.Need-enum-told
 enum-told c = search needs
 
--- src/lib.rt:14:53
 enum-told-2 : tie.Need-enum-told-2
 enum-told-2 c = search needs
 
--- src/lib.rt:9:1
 returns : tie.Need-returns
 returns c = judge-yes (c .before .before .before .before .args .schema .now) (sym (c .before .before .judge .ensures) ∙ c .enum-told .given .1)
 
--- src/lib.rt:9:1
 returns-2 : tie.Need-returns-2
 returns-2 c = judge-no (c .before .before .before .before .args .schema .now) (sym (c .before .before .judge .ensures) ∙ c .enum-told2 .given .1)
 

@@ -1,3 +1,4 @@
+-- `row::list` meets its contract. Assumes nothing.
 use mathlib.Core.Path.{sym, _∙_}
 use mathlib.Core.Bool.{true, false}
 use native.Mathlib.Omega.{arith}
@@ -6,56 +7,40 @@ use Rattle.row.proofs.Listings.{list-no, list-long, list-bad, list-room
 use borrow.Author.Needs.{needs}
 use Rattle.row.proofs.list.Statement.{statement}
 use Rattle.row.proofs.list.Tie as tie
-use Rattle.row.proofs.list.Reads as reads
-use Rattle.row.proofs.list.Lts as lts
-use Rattle.checking.proofs.check_row.Reads as check-row-reads
-use Rattle.listing.proofs.list_row.Reads as list-row-reads
-use Rattle.schema.proofs.judge.Reads as judge-reads
 
--- src/lib.rt:44:11
 judge-requires : tie.Need-judge-requires
 judge-requires c κs = search needs
 
 enum-told : tie.Need-enum-told
 enum-told c = search needs
 
--- src/lib.rt:47:36
 enum-told-2 : tie.Need-enum-told-2
 enum-told-2 c = search needs
 
--- src/lib.rt:47:13
 returns : tie.Need-returns
 returns c = list-no _ _ _ (sym (c .before .before .judge .ensures) ∙ c .enum-told2 .given .1)
 
--- src/lib.rt:51:9
 returns-2 : tie.Need-returns-2
 returns-2 c = list-long _ _ _ (sym (c .before .before .before .judge .ensures) ∙ c .before .enum-told .given .1) (c .if1 .taken)
 
--- src/lib.rt:53:8
 check-row-requires : tie.Need-check-row-requires
 check-row-requires c κs = (sym (c .before .before .before .judge .ensures) ∙ c .before .enum-told .given .1, omega (arith, c .if1 .left))
 
--- src/lib.rt:55:13
 list-row-requires : tie.Need-list-row-requires
 list-row-requires c κs = record { accepted = sym (c .before .before .before .before .before .before .judge .ensures) ∙ c .before .before .before .before .enum-told .given .1; short = omega (arith, c .before .before .before .if1 .left); sound = layout-is _ _ _ true (c .before .before .check-row .ensures) (c .before .if2 .taken) }
 
--- src/lib.rt:41:1
 same-length : tie.Need-same-length
 same-length c = search needs
 
--- src/lib.rt:41:1
 returns-3 : tie.Need-returns-3
 returns-3 c = list-roomless _ _ _ (sym (c .before .before .before .before .before .before .before .before .before .before .judge .ensures) ∙ c .before .before .before .before .before .before .before .before .enum-told .given .1) (omega (arith, c .before .before .before .before .before .before .before .if1 .left)) (layout-is _ _ _ true (c .before .before .before .before .before .before .check-row .ensures) (c .before .before .before .before .before .if2 .taken)) _ _ (c .before .before .before .list-row .ensures) (c .if3 .taken)
 
--- src/lib.rt:41:1
 same-length-2 : tie.Need-same-length-2
 same-length-2 c = search needs
 
--- src/lib.rt:41:1
 returns-4 : tie.Need-returns-4
 returns-4 c = list-done _ _ _ (sym (c .before .before .before .before .before .before .before .before .before .before .judge .ensures) ∙ c .before .before .before .before .before .before .before .before .enum-told .given .1) (omega (arith, c .before .before .before .before .before .before .before .if1 .left)) (layout-is _ _ _ true (c .before .before .before .before .before .before .check-row .ensures) (c .before .before .before .before .before .if2 .taken)) _ _ (c .before .before .before .list-row .ensures) (omega (arith, c .if3 .left))
 
--- src/lib.rt:41:1
 returns-5 : tie.Need-returns-5
 returns-5 c = list-bad _ _ _ (sym (c .before .before .before .before .before .judge .ensures) ∙ c .before .before .before .enum-told .given .1) (omega (arith, c .before .before .if1 .left)) (layout-is _ _ _ false (c .before .check-row .ensures) (c .if2 .left))
 

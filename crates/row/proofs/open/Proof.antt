@@ -1,6 +1,7 @@
 -- `row::open` meets its contract: a walk of its MIR, by hand. An `Opened` is made of the two slices passed, at one lifetime, in the result's local.
 -- A `&[u8]` is Copy, so what each owns is had twice: once for the parameter at exit, and once inside the result.
 -- Assumes nothing.
+use Rattle.row.proofs.open.Key.{name as #row·open}
 use mathlib.Core.Path.{refl}
 use Prim.Native.Nat.{ℕ}
 use mathlib.Core.List.{List, [], _∷_}
@@ -36,7 +37,6 @@ use denote.Exit.{yes}
 use Rattle.row.specs.declared.Opened.{Opened}
 use Rattle.row.proofs.Opened as T
 use Rattle.row.proofs.Opened.Laws as T′
-use Rattle.row.proofs.open.Key.{name as #row·open}
 use Rattle.row.proofs.open as open′
 use Rattle.row.proofs.open.Statement as stated
 use Rattle.row.proofs.open.Code as code

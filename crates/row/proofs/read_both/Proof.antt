@@ -2,9 +2,6 @@
 use borrow.Author.Needs.{needs}
 use Rattle.row.proofs.read_both.Statement.{statement}
 use Rattle.row.proofs.read_both.Tie as tie
-use Rattle.row.proofs.read_both.Reads as reads
-use Rattle.row.proofs.read_both.Lts as lts
-use Rattle.reading.proofs.read.Reads as read-reads
 
 read-requires : tie.Need-read-requires
 read-requires c κs = search needs

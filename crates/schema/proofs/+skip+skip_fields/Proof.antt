@@ -15,6 +15,7 @@ use Rattle.schema.proofs.skip_fields.Reads as skip-fields
 use Rattle.schema.proofs.skip_fields.Kinds as skip-fields-kinds
 use Rattle.schema.proofs.+skip+skip_fields.Lts-skip_fields as skip-fields-lts
 use Rattle.schema.proofs.byte_at.Reads as byte-at-reads
+use Rattle.schema.proofs.leaf_at.Reads as leaf-at-reads
 use Rattle.schema.proofs.marks.kind_at.Reads as kind-at-reads
 use Rattle.schema.proofs.wide.Reads as wide-reads
 use Rattle.schema.proofs.+skip+skip_fields.{statement}
@@ -44,7 +45,7 @@ abbrev skip-calls : ℕ → skip-lts.Claims
 skip-calls t = (kind-at-reads.Asked, kind-at-reads.Learnt, skip-below t, skip.Post, byte-at-reads.Asked, byte-at-reads.Learnt, wide-reads.Asked, wide-reads.Learnt, skip-fields-below t, skip-fields.Post)
 
 abbrev skip-fields-calls : ℕ → skip-fields-lts.Claims
-skip-fields-calls t = (skip-below t, skip.Post)
+skip-fields-calls t = (leaf-at-reads.Asked, leaf-at-reads.Learnt, skip-below t, skip.Post)
 
 skip-returns : (t : ℕ) → skip-lts.Need-returns (skip-calls t) (skip-at t) skip.Post
 skip-returns t c = sym (skip-deep _ _ _ (c .if1 .taken))
@@ -148,76 +149,46 @@ skip-fields-Inv-loop s at depth n cur₀ left₀ cur left = skipAll s cur depth 
 abbrev skip-fields-μ-loop : skip-fields-lts.MeasureT-loop
 skip-fields-μ-loop s at depth n cur₀ left₀ cur left = left
 
-skip-fields-loop-holds :
-    (t : ℕ) →
-    skip-fields-lts.Need-loop-holds (skip-fields-calls t) (skip-fields-at t)
-    skip-fields.Post
-    skip-fields-Inv-loop
-    skip-fields-μ-loop
+skip-fields-loop-holds : (t : ℕ) → skip-fields-lts.Need-loop-holds (skip-fields-calls t) (skip-fields-at t) skip-fields.Post skip-fields-Inv-loop skip-fields-μ-loop
 skip-fields-loop-holds t c = refl
 
-skip-fields-skip-requires :
-    (t : ℕ) →
-    skip-fields-lts.Need-skip-requires (skip-fields-calls t) (skip-fields-at t)
-    skip-fields.Post
-    skip-fields-Inv-loop
-    skip-fields-μ-loop
-skip-fields-skip-requires t c κs = search needs
+skip-fields-leaf-at-requires : (t : ℕ) → skip-fields-lts.Need-leaf-at-requires (skip-fields-calls t) (skip-fields-at t) skip-fields.Post skip-fields-Inv-loop skip-fields-μ-loop
+skip-fields-leaf-at-requires t c κs = search needs
 
-skip-fields-enum-known-e :
-    (t : ℕ) →
-    skip-fields-lts.Need-enum-known-e (skip-fields-calls t) (skip-fields-at t)
-    skip-fields.Post
-    skip-fields-Inv-loop
-    skip-fields-μ-loop
-skip-fields-enum-known-e t c = search needs
+skip-fields-add-cur : (t : ℕ) → skip-fields-lts.Need-add-cur (skip-fields-calls t) (skip-fields-at t) skip-fields.Post skip-fields-Inv-loop skip-fields-μ-loop
+skip-fields-add-cur t c = omega (arith, c .before .leaf-at .ensures (c .if1 .taken) .room)
 
-skip-fields-enum-told :
-    (t : ℕ) →
-    skip-fields-lts.Need-enum-told (skip-fields-calls t) (skip-fields-at t)
-    skip-fields.Post
-    skip-fields-Inv-loop
-    skip-fields-μ-loop
-skip-fields-enum-told t c = search needs
-
-skip-fields-returns :
-    (t : ℕ) →
-    skip-fields-lts.Need-returns (skip-fields-calls t) (skip-fields-at t)
-    skip-fields.Post
-    skip-fields-Inv-loop
-    skip-fields-μ-loop
-skip-fields-returns t c = sym (sym (c .before .before .before .before .loop .inv) ∙ skip-more-stop _ _ _ _ (omega arith) _ (c .before .before .skip .ensures) (c .enum-told .given .1))
-
-skip-fields-sub-left :
-    (t : ℕ) →
-    skip-fields-lts.Need-sub-left (skip-fields-calls t) (skip-fields-at t)
-    skip-fields.Post
-    skip-fields-Inv-loop
-    skip-fields-μ-loop
+skip-fields-sub-left : (t : ℕ) → skip-fields-lts.Need-sub-left (skip-fields-calls t) (skip-fields-at t) skip-fields.Post skip-fields-Inv-loop skip-fields-μ-loop
 skip-fields-sub-left t c = search needs
 
-skip-fields-loop-less :
-    (t : ℕ) →
-    skip-fields-lts.Need-loop-less (skip-fields-calls t) (skip-fields-at t)
-    skip-fields.Post
-    skip-fields-Inv-loop
-    skip-fields-μ-loop
+skip-fields-loop-less : (t : ℕ) → skip-fields-lts.Need-loop-less (skip-fields-calls t) (skip-fields-at t) skip-fields.Post skip-fields-Inv-loop skip-fields-μ-loop
 skip-fields-loop-less t c = search needs
 
-skip-fields-loop-again :
-    (t : ℕ) →
-    skip-fields-lts.Need-loop-again (skip-fields-calls t) (skip-fields-at t)
-    skip-fields.Post
-    skip-fields-Inv-loop
-    skip-fields-μ-loop
-skip-fields-loop-again t c = sym (skip-more-to _ _ _ _ (omega arith) _ (c .before .before .before .skip .ensures) _ (c .before .e .given .1)) ∙ c .before .before .before .before .before .loop .inv
+skip-fields-loop-again : (t : ℕ) → skip-fields-lts.Need-loop-again (skip-fields-calls t) (skip-fields-at t) skip-fields.Post skip-fields-Inv-loop skip-fields-μ-loop
+skip-fields-loop-again t c = sym (skip-more-to _ _ _ _ (omega arith) _ refl _ (c .before .leaf-at .ensures (c .if1 .taken) .skips)) ∙ c .before .before .before .loop .inv
 
-skip-fields-returns-2 :
-    (t : ℕ) →
-    skip-fields-lts.Need-returns-2 (skip-fields-calls t) (skip-fields-at t)
-    skip-fields.Post
-    skip-fields-Inv-loop
-    skip-fields-μ-loop
+skip-fields-skip-requires : (t : ℕ) → skip-fields-lts.Need-skip-requires (skip-fields-calls t) (skip-fields-at t) skip-fields.Post skip-fields-Inv-loop skip-fields-μ-loop
+skip-fields-skip-requires t c κs = search needs
+
+skip-fields-enum-known-e : (t : ℕ) → skip-fields-lts.Need-enum-known-e (skip-fields-calls t) (skip-fields-at t) skip-fields.Post skip-fields-Inv-loop skip-fields-μ-loop
+skip-fields-enum-known-e t c = search needs
+
+skip-fields-enum-told : (t : ℕ) → skip-fields-lts.Need-enum-told (skip-fields-calls t) (skip-fields-at t) skip-fields.Post skip-fields-Inv-loop skip-fields-μ-loop
+skip-fields-enum-told t c = search needs
+
+skip-fields-returns : (t : ℕ) → skip-fields-lts.Need-returns (skip-fields-calls t) (skip-fields-at t) skip-fields.Post skip-fields-Inv-loop skip-fields-μ-loop
+skip-fields-returns t c = sym (sym (c .before .before .before .before .before .before .loop .inv) ∙ skip-more-stop _ _ _ _ (omega arith) _ (c .before .before .skip .ensures) (c .enum-told .given .1))
+
+skip-fields-sub-left-2 : (t : ℕ) → skip-fields-lts.Need-sub-left-2 (skip-fields-calls t) (skip-fields-at t) skip-fields.Post skip-fields-Inv-loop skip-fields-μ-loop
+skip-fields-sub-left-2 t c = search needs
+
+skip-fields-loop-less-2 : (t : ℕ) → skip-fields-lts.Need-loop-less-2 (skip-fields-calls t) (skip-fields-at t) skip-fields.Post skip-fields-Inv-loop skip-fields-μ-loop
+skip-fields-loop-less-2 t c = search needs
+
+skip-fields-loop-again-2 : (t : ℕ) → skip-fields-lts.Need-loop-again-2 (skip-fields-calls t) (skip-fields-at t) skip-fields.Post skip-fields-Inv-loop skip-fields-μ-loop
+skip-fields-loop-again-2 t c = sym (skip-more-to _ _ _ _ (omega arith) _ (c .before .before .before .skip .ensures) _ (c .before .e .given .1)) ∙ c .before .before .before .before .before .before .before .loop .inv
+
+skip-fields-returns-2 : (t : ℕ) → skip-fields-lts.Need-returns-2 (skip-fields-calls t) (skip-fields-at t) skip-fields.Post skip-fields-Inv-loop skip-fields-μ-loop
 skip-fields-returns-2 t c = sym (sym (c .before .loop .inv) ∙ skip-done _ _ _ _ (omega arith))
 
 pub +skip+skip-fields-spec : {M : Type 1} → statement M
@@ -262,11 +233,16 @@ pub +skip+skip-fields-spec : {M : Type 1} → statement M
     skip-fields-Inv-loop
     skip-fields-μ-loop
     (skip-fields-loop-holds t)
+    (skip-fields-leaf-at-requires t)
+    (skip-fields-add-cur t)
+    (skip-fields-sub-left t)
+    (skip-fields-loop-less t)
+    (skip-fields-loop-again t)
     (skip-fields-skip-requires t)
     (skip-fields-enum-known-e t)
     (skip-fields-enum-told t)
     (skip-fields-returns t)
-    (skip-fields-sub-left t)
-    (skip-fields-loop-less t)
-    (skip-fields-loop-again t)
+    (skip-fields-sub-left-2 t)
+    (skip-fields-loop-less-2 t)
+    (skip-fields-loop-again-2 t)
     (skip-fields-returns-2 t)

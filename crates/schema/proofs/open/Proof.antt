@@ -1,9 +1,9 @@
 -- `schema::open` meets its contract. Assumes nothing.
+use Rattle.schema.specs.declared.Opened.the-variants.{Map as OMap}
 use mathlib.Core.Path.{sym, ap, _∙_}
 use Prim.Native.Nat.{_+_}
 use native.Mathlib.Omega.{arith}
 use Rattle.schema.specs.Walk.{openAt, openOf}
-use Rattle.schema.specs.declared.Opened.the-variants.{Map as OMap}
 use Rattle.schema.proofs.Laws.{mark-room}
 use Rattle.schema.proofs.Typing.{typed-deep, typed-ma}
 use borrow.Author.Needs.{needs}

@@ -7,12 +7,6 @@ use Rattle.setting.proofs.Settled.{set-schema, set-long, set-unsound, s
 use borrow.Author.Needs.{needs}
 use Rattle.setting.proofs.set.Statement.{statement}
 use Rattle.setting.proofs.set.Tie as tie
-use Rattle.setting.proofs.set.Reads as reads
-use Rattle.setting.proofs.set.Lts as lts
-use Rattle.answers.proofs.settings.given.Reads as given-reads
-use Rattle.checking.proofs.check_row.Reads as check-row-reads
-use Rattle.schema.proofs.judge.Reads as judge-reads
-use Rattle.setting.proofs.set_in.Reads as set-in-reads
 
 judge-requires : tie.Need-judge-requires
 judge-requires c κs = search needs

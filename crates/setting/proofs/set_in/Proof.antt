@@ -4,11 +4,6 @@ use Rattle.setting.proofs.Settled.{null-there, place-there, set-nowhere
 use borrow.Author.Needs.{needs}
 use Rattle.setting.proofs.set_in.Statement.{statement}
 use Rattle.setting.proofs.set_in.Tie as tie
-use Rattle.setting.proofs.set_in.Reads as reads
-use Rattle.setting.proofs.set_in.Lts as lts
-use Rattle.reading.proofs.find.Reads as find-reads
-use Rattle.setting.proofs.nulls.set_null.Reads as set-null-reads
-use Rattle.setting.proofs.present.set_place.Reads as set-place-reads
 
 find-requires : tie.Need-find-requires
 find-requires c κs = search needs

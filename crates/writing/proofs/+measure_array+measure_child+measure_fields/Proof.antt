@@ -33,9 +33,9 @@ use Rattle.words.proofs.sizes.pad_size.Reads as pad-size-reads
 use Rattle.writing.proofs.mark_number.Reads as mark-number-reads
 use Rattle.writing.proofs.measure_fixed.Reads as measure-fixed-reads
 use Rattle.writing.proofs.measure_text.Reads as measure-text-reads
-use Rattle.writing.proofs.next_type.Reads as next-type-reads
+use Rattle.schema.proofs.next_type.Reads as next-type-reads
 use Rattle.writing.proofs.padded.Reads as padded-reads
-use Rattle.writing.proofs.slot_width.Reads as slot-width-reads
+use Rattle.schema.proofs.element_width.Reads as element-width-reads
 use Rattle.writing.proofs.+measure_array+measure_child+measure_fields.{statement}
 use Rattle.writing.proofs.+measure_array+measure_child+measure_fields.Tie.{close}
 
@@ -95,7 +95,7 @@ abbrev measure-array-μ-loop : measure-array-lts.MeasureT-loop
 measure-array-μ-loop s at depth l from n k left₀ pos₀ sum₀ left pos sum = left
 
 abbrev measure-array-calls : ℕ → measure-array-lts.Claims
-measure-array-calls t = (place-at-reads.Asked, place-at-reads.Learnt, measure-child-below t, measure-child.Post, bitmap-size-reads.Asked, bitmap-size-reads.Learnt, slot-width-reads.Asked, slot-width-reads.Learnt, pad-size-reads.Asked, pad-size-reads.Learnt)
+measure-array-calls t = (place-at-reads.Asked, place-at-reads.Learnt, measure-child-below t, measure-child.Post, bitmap-size-reads.Asked, bitmap-size-reads.Learnt, element-width-reads.Asked, element-width-reads.Learnt, pad-size-reads.Asked, pad-size-reads.Learnt)
 
 abbrev measure-child-calls : ℕ → measure-child-lts.Claims
 measure-child-calls t = (get2-reads.Asked, get2-reads.Learnt, mark-number-reads.Asked, mark-number-reads.Learnt, measure-fixed-reads.Asked, measure-fixed-reads.Learnt, measure-text-reads.Asked, measure-text-reads.Learnt, wide-reads.Asked, wide-reads.Learnt, measure-fields-below t, measure-fields.Post, padded-reads.Asked, padded-reads.Learnt, get4-reads.Asked, get4-reads.Learnt, measure-array-below t, measure-array.Post, next-reads.Asked, next-reads.Learnt, pad-size-reads.Asked, pad-size-reads.Learnt)
@@ -136,26 +136,26 @@ measure-array-loop-again t c = array-next (typeAt (c .before .before .before .be
 measure-array-bitmap-size-requires : (t : ℕ) → measure-array-lts.Need-bitmap-size-requires (measure-array-calls t) (measure-array-at t) measure-array.Post measure-array-Inv-loop measure-array-μ-loop
 measure-array-bitmap-size-requires t c κs = omega (arith, c .before .before .before .before .before .pre .1 .few)
 
-measure-array-slot-width-requires : (t : ℕ) → measure-array-lts.Need-slot-width-requires (measure-array-calls t) (measure-array-at t) measure-array.Post measure-array-Inv-loop measure-array-μ-loop
-measure-array-slot-width-requires t c κs = omega (arith, c .before .before .before .place-at .ensures, typed-marked (c .before .before .before .before .before .before .args .s .now) (c .before .before .before .before .before .before .args .at) (c .before .before .before .before .before .before .args .depth) (c .before .before .before .before .before .before .pre .1 .typed) .known)
+measure-array-element-width-requires : (t : ℕ) → measure-array-lts.Need-element-width-requires (measure-array-calls t) (measure-array-at t) measure-array.Post measure-array-Inv-loop measure-array-μ-loop
+measure-array-element-width-requires t c κs = omega (arith, c .before .before .before .place-at .ensures, typed-marked (c .before .before .before .before .before .before .args .s .now) (c .before .before .before .before .before .before .args .at) (c .before .before .before .before .before .before .args .depth) (c .before .before .before .before .before .before .pre .1 .typed) .known)
 
 measure-array-mul-pad-size : (t : ℕ) → measure-array-lts.Need-mul-pad-size (measure-array-calls t) (measure-array-at t) measure-array.Post measure-array-Inv-loop measure-array-μ-loop
-measure-array-mul-pad-size t c = omega (arith, array-wide (c .before .before .before .before .before .before .before .args .s .now) (c .before .before .before .before .before .before .before .args .at) (c .before .before .before .before .before .before .before .args .depth) (c .before .before .before .before .place-at .result) (c .slot-width .result) (c .before .before .before .before .before .before .before .args .n) (c .before .before .before .before .before .before .before .pre .1 .typed) (c .before .before .before .before .place-at .ensures) (c .slot-width .ensures), c .before .before .before .before .before .before .before .pre .1 .few)
+measure-array-mul-pad-size t c = omega (arith, array-wide (c .before .before .before .before .before .before .before .args .s .now) (c .before .before .before .before .before .before .before .args .at) (c .before .before .before .before .before .before .before .args .depth) (c .before .before .before .before .place-at .result) (c .element-width .result) (c .before .before .before .before .before .before .before .args .n) (c .before .before .before .before .before .before .before .pre .1 .typed) (c .before .before .before .before .place-at .ensures) (c .element-width .ensures), c .before .before .before .before .before .before .before .pre .1 .few)
 
 measure-array-pad-size-requires : (t : ℕ) → measure-array-lts.Need-pad-size-requires (measure-array-calls t) (measure-array-at t) measure-array.Post measure-array-Inv-loop measure-array-μ-loop
-measure-array-pad-size-requires t c κs = omega (arith, array-wide (c .before .before .before .before .before .before .before .args .s .now) (c .before .before .before .before .before .before .before .args .at) (c .before .before .before .before .before .before .before .args .depth) (c .before .before .before .before .place-at .result) (c .slot-width .result) (c .before .before .before .before .before .before .before .args .n) (c .before .before .before .before .before .before .before .pre .1 .typed) (c .before .before .before .before .place-at .ensures) (c .slot-width .ensures), c .before .before .before .before .before .before .before .pre .1 .few)
+measure-array-pad-size-requires t c κs = omega (arith, array-wide (c .before .before .before .before .before .before .before .args .s .now) (c .before .before .before .before .before .before .before .args .at) (c .before .before .before .before .before .before .before .args .depth) (c .before .before .before .before .place-at .result) (c .element-width .result) (c .before .before .before .before .before .before .before .args .n) (c .before .before .before .before .before .before .before .pre .1 .typed) (c .before .before .before .before .place-at .ensures) (c .element-width .ensures), c .before .before .before .before .before .before .before .pre .1 .few)
 
 measure-array-add-t17 : (t : ℕ) → measure-array-lts.Need-add-t17 (measure-array-calls t) (measure-array-at t) measure-array.Post measure-array-Inv-loop measure-array-μ-loop
 measure-array-add-t17 t c = omega (arith, c .before .before .before .before .before .before .before .before .pre .1 .few)
 
 measure-array-add-t18 : (t : ℕ) → measure-array-lts.Need-add-t18 (measure-array-calls t) (measure-array-at t) measure-array.Post measure-array-Inv-loop measure-array-μ-loop
-measure-array-add-t18 t c = omega (arith, array-wide (c .before .before .before .before .before .before .before .before .args .s .now) (c .before .before .before .before .before .before .before .before .args .at) (c .before .before .before .before .before .before .before .before .args .depth) (c .before .before .before .before .before .place-at .result) (c .before .slot-width .result) (c .before .before .before .before .before .before .before .before .args .n) (c .before .before .before .before .before .before .before .before .pre .1 .typed) (c .before .before .before .before .before .place-at .ensures) (c .before .slot-width .ensures), c .before .before .before .before .before .before .before .before .pre .1 .few)
+measure-array-add-t18 t c = omega (arith, array-wide (c .before .before .before .before .before .before .before .before .args .s .now) (c .before .before .before .before .before .before .before .before .args .at) (c .before .before .before .before .before .before .before .before .args .depth) (c .before .before .before .before .before .place-at .result) (c .before .element-width .result) (c .before .before .before .before .before .before .before .before .args .n) (c .before .before .before .before .before .before .before .before .pre .1 .typed) (c .before .before .before .before .before .place-at .ensures) (c .before .element-width .ensures), c .before .before .before .before .before .before .before .before .pre .1 .few)
 
 measure-array-add-t19 : (t : ℕ) → measure-array-lts.Need-add-t19 (measure-array-calls t) (measure-array-at t) measure-array.Post measure-array-Inv-loop measure-array-μ-loop
-measure-array-add-t19 t c = omega (arith, array-wide (c .before .before .before .before .before .before .before .before .args .s .now) (c .before .before .before .before .before .before .before .before .args .at) (c .before .before .before .before .before .before .before .before .args .depth) (c .before .before .before .before .before .place-at .result) (c .before .slot-width .result) (c .before .before .before .before .before .before .before .before .args .n) (c .before .before .before .before .before .before .before .before .pre .1 .typed) (c .before .before .before .before .before .place-at .ensures) (c .before .slot-width .ensures), c .before .before .before .before .before .before .before .before .pre .1 .few, c .before .before .before .before .loop .inv .going .small, c .before .before .before .before .loop .inv .going .inside, c .before .before .before .before .before .before .before .before .pre .1 .short)
+measure-array-add-t19 t c = omega (arith, array-wide (c .before .before .before .before .before .before .before .before .args .s .now) (c .before .before .before .before .before .before .before .before .args .at) (c .before .before .before .before .before .before .before .before .args .depth) (c .before .before .before .before .before .place-at .result) (c .before .element-width .result) (c .before .before .before .before .before .before .before .before .args .n) (c .before .before .before .before .before .before .before .before .pre .1 .typed) (c .before .before .before .before .before .place-at .ensures) (c .before .element-width .ensures), c .before .before .before .before .before .before .before .before .pre .1 .few, c .before .before .before .before .loop .inv .going .small, c .before .before .before .before .loop .inv .going .inside, c .before .before .before .before .before .before .before .before .pre .1 .short)
 
 measure-array-returns-2 : (t : ℕ) → measure-array-lts.Need-returns-2 (measure-array-calls t) (measure-array-at t) measure-array.Post measure-array-Inv-loop measure-array-μ-loop
-measure-array-returns-2 t c = array-end (typeAt (c .before .before .before .before .before .before .before .before .args .s .now) (c .before .before .before .before .before .before .before .before .args .at) (c .before .before .before .before .before .before .before .before .args .depth)) (c .before .before .before .before .before .before .before .before .args .l .now) (c .before .before .before .before .before .before .before .before .args .n) (c .before .before .before .before .before .before .before .before .args .from) (c .before .before .before .before .loop .left) (c .before .before .before .before .loop .pos) (c .before .before .before .before .loop .sum) (c .before .before .before .before .loop .inv) (c .before .before .before .loop-test .left) (bytes-of (c .before .before .before .before .before .before .before .before .args .l .now) (λ i. c .before .before .before .before .before .before .shared-slice-known2 .given i .fits)) (omega (arith, c .before .before .before .before .before .before .before .before .pre .1 .few)) (c .before .before .before .before .before .place-at .result) (c .before .slot-width .result) (c .before .before .bitmap-size .result) (c .pad-size .result) (c .before .before .before .before .before .place-at .ensures ∙ typed-place (c .before .before .before .before .before .before .before .before .args .s .now) (c .before .before .before .before .before .before .before .before .args .at) (c .before .before .before .before .before .before .before .before .args .depth) (c .before .before .before .before .before .before .before .before .pre .1 .typed)) (c .before .slot-width .ensures) (c .before .before .bitmap-size .ensures) (c .pad-size .ensures)
+measure-array-returns-2 t c = array-end (typeAt (c .before .before .before .before .before .before .before .before .args .s .now) (c .before .before .before .before .before .before .before .before .args .at) (c .before .before .before .before .before .before .before .before .args .depth)) (c .before .before .before .before .before .before .before .before .args .l .now) (c .before .before .before .before .before .before .before .before .args .n) (c .before .before .before .before .before .before .before .before .args .from) (c .before .before .before .before .loop .left) (c .before .before .before .before .loop .pos) (c .before .before .before .before .loop .sum) (c .before .before .before .before .loop .inv) (c .before .before .before .loop-test .left) (bytes-of (c .before .before .before .before .before .before .before .before .args .l .now) (λ i. c .before .before .before .before .before .before .shared-slice-known2 .given i .fits)) (omega (arith, c .before .before .before .before .before .before .before .before .pre .1 .few)) (c .before .before .before .before .before .place-at .result) (c .before .element-width .result) (c .before .before .bitmap-size .result) (c .pad-size .result) (c .before .before .before .before .before .place-at .ensures ∙ typed-place (c .before .before .before .before .before .before .before .before .args .s .now) (c .before .before .before .before .before .before .before .before .args .at) (c .before .before .before .before .before .before .before .before .args .depth) (c .before .before .before .before .before .before .before .before .pre .1 .typed)) (c .before .element-width .ensures) (c .before .before .bitmap-size .ensures) (c .pad-size .ensures)
 
 measure-child-sub-if1 : (t : ℕ) → measure-child-lts.Need-sub-if1 (measure-child-calls t) (measure-child-at t) measure-child.Post
 measure-child-sub-if1 t c = omega (arith, c .before .before .pre .1 .inside)
@@ -361,7 +361,7 @@ pub +measure-array+measure-child+measure-fields-spec : {M : Type 1} → statemen
     (measure-array-loop-less t)
     (measure-array-loop-again t)
     (measure-array-bitmap-size-requires t)
-    (measure-array-slot-width-requires t)
+    (measure-array-element-width-requires t)
     (measure-array-mul-pad-size t)
     (measure-array-pad-size-requires t)
     (measure-array-add-t17 t)

@@ -41,9 +41,9 @@ use Rattle.words.proofs.nums.put8.Reads as put8-reads
 use Rattle.words.proofs.sizes.bitmap_size.Reads as bitmap-size-reads
 use Rattle.words.proofs.sizes.pad_size.Reads as pad-size-reads
 use Rattle.writing.proofs.close.Reads as close-reads
-use Rattle.writing.proofs.next_type.Reads as next-type-reads
+use Rattle.schema.proofs.next_type.Reads as next-type-reads
 use Rattle.writing.proofs.put_fixed.Reads as put-fixed-reads
-use Rattle.writing.proofs.slot_width.Reads as slot-width-reads
+use Rattle.schema.proofs.element_width.Reads as element-width-reads
 use Rattle.writing.proofs.+put_array+put_child+put_fields+put_value.{statement}
 use Rattle.writing.proofs.+put_array+put_child+put_fields+put_value.Tie.{close}
 
@@ -97,7 +97,7 @@ put-array-μ-loop s at depth l from n out₀ pos k w bm bits slots start i₀ fr
     n - i
 
 abbrev put-array-calls : ℕ → put-array-lts.Claims
-put-array-calls t = (place-at-reads.Asked, place-at-reads.Learnt, slot-width-reads.Asked, slot-width-reads.Learnt, bitmap-size-reads.Asked, bitmap-size-reads.Learnt, pad-size-reads.Asked, pad-size-reads.Learnt, put8-reads.Asked, put8-reads.Learnt, zero-reads.Asked, zero-reads.Learnt, put-child-below t, put-child.Post)
+put-array-calls t = (place-at-reads.Asked, place-at-reads.Learnt, element-width-reads.Asked, element-width-reads.Learnt, bitmap-size-reads.Asked, bitmap-size-reads.Learnt, pad-size-reads.Asked, pad-size-reads.Learnt, put8-reads.Asked, put8-reads.Learnt, zero-reads.Asked, zero-reads.Learnt, put-child-below t, put-child.Post)
 
 abbrev put-child-calls : ℕ → put-child-lts.Claims
 put-child-calls t = (get2-reads.Asked, get2-reads.Learnt, zero-reads.Asked, zero-reads.Learnt, set-null-reads.Asked, set-null-reads.Learnt, width-of-reads.Asked, width-of-reads.Learnt, put-fixed-reads.Asked, put-fixed-reads.Learnt, put-value-below t, put-value.Post, close-reads.Asked, close-reads.Learnt)
@@ -111,59 +111,59 @@ put-value-calls t = (wide-reads.Asked, wide-reads.Learnt, put-fields-below t, pu
 put-array-place-at-requires : (t : ℕ) → put-array-lts.Need-place-at-requires (put-array-calls t) (put-array-at t) put-array.Post put-array-Inv-loop put-array-μ-loop
 put-array-place-at-requires t c κs = typed-marked (c .before .before .before .args .s .now) (c .before .before .before .args .at) (c .before .before .before .args .depth) (c .before .before .before .pre .1 .typed)
 
-put-array-slot-width-requires : (t : ℕ) → put-array-lts.Need-slot-width-requires (put-array-calls t) (put-array-at t) put-array.Post put-array-Inv-loop put-array-μ-loop
-put-array-slot-width-requires t c κs = omega (arith, c .place-at .ensures, typed-marked (c .before .before .before .before .args .s .now) (c .before .before .before .before .args .at) (c .before .before .before .before .args .depth) (c .before .before .before .before .pre .1 .typed) .known)
+put-array-element-width-requires : (t : ℕ) → put-array-lts.Need-element-width-requires (put-array-calls t) (put-array-at t) put-array.Post put-array-Inv-loop put-array-μ-loop
+put-array-element-width-requires t c κs = omega (arith, c .place-at .ensures, typed-marked (c .before .before .before .before .args .s .now) (c .before .before .before .before .args .at) (c .before .before .before .before .args .depth) (c .before .before .before .before .pre .1 .typed) .known)
 
 put-array-add-bm : (t : ℕ) → put-array-lts.Need-add-bm (put-array-calls t) (put-array-at t) put-array.Post put-array-Inv-loop put-array-μ-loop
-put-array-add-bm t c = omega (arith, array-at (c .before .before .before .before .before .args .s .now) (c .before .before .before .before .before .args .at) (c .before .before .before .before .before .args .depth) (c .before .before .before .before .before .args .l .now) (c .before .before .before .before .before .args .from) (c .before .before .before .before .before .args .n) (c .before .before .before .before .before .args .pos) (length (c .before .before .before .before .before .args .out .now)) (c .before .before .before .before .before .pre .1) (bytes-of (c .before .before .before .before .before .args .l .now) (λ j. c .before .before .before .shared-slice-known2 .given j .fits)) (c .before .place-at .result) (c .slot-width .result) (c .before .place-at .ensures) (c .slot-width .ensures) .room, c .before .before .before .before .before .pre .1 .small, c .before .before .before .before .before .pre .1 .few)
+put-array-add-bm t c = omega (arith, array-at (c .before .before .before .before .before .args .s .now) (c .before .before .before .before .before .args .at) (c .before .before .before .before .before .args .depth) (c .before .before .before .before .before .args .l .now) (c .before .before .before .before .before .args .from) (c .before .before .before .before .before .args .n) (c .before .before .before .before .before .args .pos) (length (c .before .before .before .before .before .args .out .now)) (c .before .before .before .before .before .pre .1) (bytes-of (c .before .before .before .before .before .args .l .now) (λ j. c .before .before .before .shared-slice-known2 .given j .fits)) (c .before .place-at .result) (c .element-width .result) (c .before .place-at .ensures) (c .element-width .ensures) .room, c .before .before .before .before .before .pre .1 .small, c .before .before .before .before .before .pre .1 .few)
 
 put-array-bitmap-size-requires : (t : ℕ) → put-array-lts.Need-bitmap-size-requires (put-array-calls t) (put-array-at t) put-array.Post put-array-Inv-loop put-array-μ-loop
 put-array-bitmap-size-requires t c κs = omega (arith, c .before .before .before .before .before .pre .1 .few)
 
 put-array-add-slots : (t : ℕ) → put-array-lts.Need-add-slots (put-array-calls t) (put-array-at t) put-array.Post put-array-Inv-loop put-array-μ-loop
-put-array-add-slots t c = omega (arith, array-at (c .before .before .before .before .before .before .args .s .now) (c .before .before .before .before .before .before .args .at) (c .before .before .before .before .before .before .args .depth) (c .before .before .before .before .before .before .args .l .now) (c .before .before .before .before .before .before .args .from) (c .before .before .before .before .before .before .args .n) (c .before .before .before .before .before .before .args .pos) (length (c .before .before .before .before .before .before .args .out .now)) (c .before .before .before .before .before .before .pre .1) (bytes-of (c .before .before .before .before .before .before .args .l .now) (λ j. c .before .before .before .before .shared-slice-known2 .given j .fits)) (c .before .before .place-at .result) (c .before .slot-width .result) (c .before .before .place-at .ensures) (c .before .slot-width .ensures) .room, c .before .before .before .before .before .before .pre .1 .small, c .before .before .before .before .before .before .pre .1 .few)
+put-array-add-slots t c = omega (arith, array-at (c .before .before .before .before .before .before .args .s .now) (c .before .before .before .before .before .before .args .at) (c .before .before .before .before .before .before .args .depth) (c .before .before .before .before .before .before .args .l .now) (c .before .before .before .before .before .before .args .from) (c .before .before .before .before .before .before .args .n) (c .before .before .before .before .before .before .args .pos) (length (c .before .before .before .before .before .before .args .out .now)) (c .before .before .before .before .before .before .pre .1) (bytes-of (c .before .before .before .before .before .before .args .l .now) (λ j. c .before .before .before .before .shared-slice-known2 .given j .fits)) (c .before .before .place-at .result) (c .before .element-width .result) (c .before .before .place-at .ensures) (c .before .element-width .ensures) .room, c .before .before .before .before .before .before .pre .1 .small, c .before .before .before .before .before .before .pre .1 .few)
 
 put-array-mul-pad-size : (t : ℕ) → put-array-lts.Need-mul-pad-size (put-array-calls t) (put-array-at t) put-array.Post put-array-Inv-loop put-array-μ-loop
-put-array-mul-pad-size t c = omega (arith, array-at (c .before .before .before .before .before .before .args .s .now) (c .before .before .before .before .before .before .args .at) (c .before .before .before .before .before .before .args .depth) (c .before .before .before .before .before .before .args .l .now) (c .before .before .before .before .before .before .args .from) (c .before .before .before .before .before .before .args .n) (c .before .before .before .before .before .before .args .pos) (length (c .before .before .before .before .before .before .args .out .now)) (c .before .before .before .before .before .before .pre .1) (bytes-of (c .before .before .before .before .before .before .args .l .now) (λ j. c .before .before .before .before .shared-slice-known2 .given j .fits)) (c .before .before .place-at .result) (c .before .slot-width .result) (c .before .before .place-at .ensures) (c .before .slot-width .ensures) .room, c .before .before .before .before .before .before .pre .1 .small, c .before .before .before .before .before .before .pre .1 .few)
+put-array-mul-pad-size t c = omega (arith, array-at (c .before .before .before .before .before .before .args .s .now) (c .before .before .before .before .before .before .args .at) (c .before .before .before .before .before .before .args .depth) (c .before .before .before .before .before .before .args .l .now) (c .before .before .before .before .before .before .args .from) (c .before .before .before .before .before .before .args .n) (c .before .before .before .before .before .before .args .pos) (length (c .before .before .before .before .before .before .args .out .now)) (c .before .before .before .before .before .before .pre .1) (bytes-of (c .before .before .before .before .before .before .args .l .now) (λ j. c .before .before .before .before .shared-slice-known2 .given j .fits)) (c .before .before .place-at .result) (c .before .element-width .result) (c .before .before .place-at .ensures) (c .before .element-width .ensures) .room, c .before .before .before .before .before .before .pre .1 .small, c .before .before .before .before .before .before .pre .1 .few)
 
 put-array-pad-size-requires : (t : ℕ) → put-array-lts.Need-pad-size-requires (put-array-calls t) (put-array-at t) put-array.Post put-array-Inv-loop put-array-μ-loop
-put-array-pad-size-requires t c κs = omega (arith, array-at (c .before .before .before .before .before .before .args .s .now) (c .before .before .before .before .before .before .args .at) (c .before .before .before .before .before .before .args .depth) (c .before .before .before .before .before .before .args .l .now) (c .before .before .before .before .before .before .args .from) (c .before .before .before .before .before .before .args .n) (c .before .before .before .before .before .before .args .pos) (length (c .before .before .before .before .before .before .args .out .now)) (c .before .before .before .before .before .before .pre .1) (bytes-of (c .before .before .before .before .before .before .args .l .now) (λ j. c .before .before .before .before .shared-slice-known2 .given j .fits)) (c .before .before .place-at .result) (c .before .slot-width .result) (c .before .before .place-at .ensures) (c .before .slot-width .ensures) .room, c .before .before .before .before .before .before .pre .1 .small, c .before .before .before .before .before .before .pre .1 .few)
+put-array-pad-size-requires t c κs = omega (arith, array-at (c .before .before .before .before .before .before .args .s .now) (c .before .before .before .before .before .before .args .at) (c .before .before .before .before .before .before .args .depth) (c .before .before .before .before .before .before .args .l .now) (c .before .before .before .before .before .before .args .from) (c .before .before .before .before .before .before .args .n) (c .before .before .before .before .before .before .args .pos) (length (c .before .before .before .before .before .before .args .out .now)) (c .before .before .before .before .before .before .pre .1) (bytes-of (c .before .before .before .before .before .before .args .l .now) (λ j. c .before .before .before .before .shared-slice-known2 .given j .fits)) (c .before .before .place-at .result) (c .before .element-width .result) (c .before .before .place-at .ensures) (c .before .element-width .ensures) .room, c .before .before .before .before .before .before .pre .1 .small, c .before .before .before .before .before .before .pre .1 .few)
 
 put-array-add-start : (t : ℕ) → put-array-lts.Need-add-start (put-array-calls t) (put-array-at t) put-array.Post put-array-Inv-loop put-array-μ-loop
-put-array-add-start t c = omega (arith, array-at (c .before .before .before .before .before .before .before .args .s .now) (c .before .before .before .before .before .before .before .args .at) (c .before .before .before .before .before .before .before .args .depth) (c .before .before .before .before .before .before .before .args .l .now) (c .before .before .before .before .before .before .before .args .from) (c .before .before .before .before .before .before .before .args .n) (c .before .before .before .before .before .before .before .args .pos) (length (c .before .before .before .before .before .before .before .args .out .now)) (c .before .before .before .before .before .before .before .pre .1) (bytes-of (c .before .before .before .before .before .before .before .args .l .now) (λ j. c .before .before .before .before .before .shared-slice-known2 .given j .fits)) (c .before .before .before .place-at .result) (c .before .before .slot-width .result) (c .before .before .before .place-at .ensures) (c .before .before .slot-width .ensures) .room, c .before .before .before .before .before .before .before .pre .1 .small, c .before .before .before .before .before .before .before .pre .1 .few)
+put-array-add-start t c = omega (arith, array-at (c .before .before .before .before .before .before .before .args .s .now) (c .before .before .before .before .before .before .before .args .at) (c .before .before .before .before .before .before .before .args .depth) (c .before .before .before .before .before .before .before .args .l .now) (c .before .before .before .before .before .before .before .args .from) (c .before .before .before .before .before .before .before .args .n) (c .before .before .before .before .before .before .before .args .pos) (length (c .before .before .before .before .before .before .before .args .out .now)) (c .before .before .before .before .before .before .before .pre .1) (bytes-of (c .before .before .before .before .before .before .before .args .l .now) (λ j. c .before .before .before .before .before .shared-slice-known2 .given j .fits)) (c .before .before .before .place-at .result) (c .before .before .element-width .result) (c .before .before .before .place-at .ensures) (c .before .before .element-width .ensures) .room, c .before .before .before .before .before .before .before .pre .1 .small, c .before .before .before .before .before .before .before .pre .1 .few)
 
 put-array-put8-requires : (t : ℕ) → put-array-lts.Need-put8-requires (put-array-calls t) (put-array-at t) put-array.Post put-array-Inv-loop put-array-μ-loop
-put-array-put8-requires t c κs = omega (arith, array-at (c .before .before .before .before .before .before .before .before .args .s .now) (c .before .before .before .before .before .before .before .before .args .at) (c .before .before .before .before .before .before .before .before .args .depth) (c .before .before .before .before .before .before .before .before .args .l .now) (c .before .before .before .before .before .before .before .before .args .from) (c .before .before .before .before .before .before .before .before .args .n) (c .before .before .before .before .before .before .before .before .args .pos) (length (c .before .before .before .before .before .before .before .before .args .out .now)) (c .before .before .before .before .before .before .before .before .pre .1) (bytes-of (c .before .before .before .before .before .before .before .before .args .l .now) (λ j. c .before .before .before .before .before .before .shared-slice-known2 .given j .fits)) (c .before .before .before .before .place-at .result) (c .before .before .before .slot-width .result) (c .before .before .before .before .place-at .ensures) (c .before .before .before .slot-width .ensures) .room, c .before .before .before .before .before .before .before .before .pre .1 .small, c .before .before .before .before .before .before .before .before .pre .1 .few)
+put-array-put8-requires t c κs = omega (arith, array-at (c .before .before .before .before .before .before .before .before .args .s .now) (c .before .before .before .before .before .before .before .before .args .at) (c .before .before .before .before .before .before .before .before .args .depth) (c .before .before .before .before .before .before .before .before .args .l .now) (c .before .before .before .before .before .before .before .before .args .from) (c .before .before .before .before .before .before .before .before .args .n) (c .before .before .before .before .before .before .before .before .args .pos) (length (c .before .before .before .before .before .before .before .before .args .out .now)) (c .before .before .before .before .before .before .before .before .pre .1) (bytes-of (c .before .before .before .before .before .before .before .before .args .l .now) (λ j. c .before .before .before .before .before .before .shared-slice-known2 .given j .fits)) (c .before .before .before .before .place-at .result) (c .before .before .before .element-width .result) (c .before .before .before .before .place-at .ensures) (c .before .before .before .element-width .ensures) .room, c .before .before .before .before .before .before .before .before .pre .1 .small, c .before .before .before .before .before .before .before .before .pre .1 .few)
 
 put-array-zero-requires : (t : ℕ) → put-array-lts.Need-zero-requires (put-array-calls t) (put-array-at t) put-array.Post put-array-Inv-loop put-array-μ-loop
-put-array-zero-requires t c κs = omega (arith, array-at (c .before .before .before .before .before .before .before .before .before .before .before .before .args .s .now) (c .before .before .before .before .before .before .before .before .before .before .before .before .args .at) (c .before .before .before .before .before .before .before .before .before .before .before .before .args .depth) (c .before .before .before .before .before .before .before .before .before .before .before .before .args .l .now) (c .before .before .before .before .before .before .before .before .before .before .before .before .args .from) (c .before .before .before .before .before .before .before .before .before .before .before .before .args .n) (c .before .before .before .before .before .before .before .before .before .before .before .before .args .pos) (length (c .before .before .before .before .before .before .before .before .before .before .before .before .args .out .now)) (c .before .before .before .before .before .before .before .before .before .before .before .before .pre .1) (bytes-of (c .before .before .before .before .before .before .before .before .before .before .before .before .args .l .now) (λ j. c .before .before .before .before .before .before .before .before .before .before .shared-slice-known2 .given j .fits)) (c .before .before .before .before .before .before .before .before .place-at .result) (c .before .before .before .before .before .before .before .slot-width .result) (c .before .before .before .before .before .before .before .before .place-at .ensures) (c .before .before .before .before .before .before .before .slot-width .ensures) .room, c .before .before .before .before .before .before .before .before .before .before .before .before .pre .1 .small, c .before .before .before .before .before .before .before .before .before .before .before .before .pre .1 .few, c .before .before .before .put8 .kept .0)
+put-array-zero-requires t c κs = omega (arith, array-at (c .before .before .before .before .before .before .before .before .before .before .before .before .args .s .now) (c .before .before .before .before .before .before .before .before .before .before .before .before .args .at) (c .before .before .before .before .before .before .before .before .before .before .before .before .args .depth) (c .before .before .before .before .before .before .before .before .before .before .before .before .args .l .now) (c .before .before .before .before .before .before .before .before .before .before .before .before .args .from) (c .before .before .before .before .before .before .before .before .before .before .before .before .args .n) (c .before .before .before .before .before .before .before .before .before .before .before .before .args .pos) (length (c .before .before .before .before .before .before .before .before .before .before .before .before .args .out .now)) (c .before .before .before .before .before .before .before .before .before .before .before .before .pre .1) (bytes-of (c .before .before .before .before .before .before .before .before .before .before .before .before .args .l .now) (λ j. c .before .before .before .before .before .before .before .before .before .before .shared-slice-known2 .given j .fits)) (c .before .before .before .before .before .before .before .before .place-at .result) (c .before .before .before .before .before .before .before .element-width .result) (c .before .before .before .before .before .before .before .before .place-at .ensures) (c .before .before .before .before .before .before .before .element-width .ensures) .room, c .before .before .before .before .before .before .before .before .before .before .before .before .pre .1 .small, c .before .before .before .before .before .before .before .before .before .before .before .before .pre .1 .few, c .before .before .before .put8 .kept .0)
 
 put-array-mul-zero : (t : ℕ) → put-array-lts.Need-mul-zero (put-array-calls t) (put-array-at t) put-array.Post put-array-Inv-loop put-array-μ-loop
-put-array-mul-zero t c = omega (arith, array-at (c .before .before .before .before .before .before .before .before .before .before .before .before .before .before .before .before .args .s .now) (c .before .before .before .before .before .before .before .before .before .before .before .before .before .before .before .before .args .at) (c .before .before .before .before .before .before .before .before .before .before .before .before .before .before .before .before .args .depth) (c .before .before .before .before .before .before .before .before .before .before .before .before .before .before .before .before .args .l .now) (c .before .before .before .before .before .before .before .before .before .before .before .before .before .before .before .before .args .from) (c .before .before .before .before .before .before .before .before .before .before .before .before .before .before .before .before .args .n) (c .before .before .before .before .before .before .before .before .before .before .before .before .before .before .before .before .args .pos) (length (c .before .before .before .before .before .before .before .before .before .before .before .before .before .before .before .before .args .out .now)) (c .before .before .before .before .before .before .before .before .before .before .before .before .before .before .before .before .pre .1) (bytes-of (c .before .before .before .before .before .before .before .before .before .before .before .before .before .before .before .before .args .l .now) (λ j. c .before .before .before .before .before .before .before .before .before .before .before .before .before .before .shared-slice-known2 .given j .fits)) (c .before .before .before .before .before .before .before .before .before .before .before .before .place-at .result) (c .before .before .before .before .before .before .before .before .before .before .before .slot-width .result) (c .before .before .before .before .before .before .before .before .before .before .before .before .place-at .ensures) (c .before .before .before .before .before .before .before .before .before .before .before .slot-width .ensures) .room, c .before .before .before .before .before .before .before .before .before .before .before .before .before .before .before .before .pre .1 .small, c .before .before .before .before .before .before .before .before .before .before .before .before .before .before .before .before .pre .1 .few)
+put-array-mul-zero t c = omega (arith, array-at (c .before .before .before .before .before .before .before .before .before .before .before .before .before .before .before .before .args .s .now) (c .before .before .before .before .before .before .before .before .before .before .before .before .before .before .before .before .args .at) (c .before .before .before .before .before .before .before .before .before .before .before .before .before .before .before .before .args .depth) (c .before .before .before .before .before .before .before .before .before .before .before .before .before .before .before .before .args .l .now) (c .before .before .before .before .before .before .before .before .before .before .before .before .before .before .before .before .args .from) (c .before .before .before .before .before .before .before .before .before .before .before .before .before .before .before .before .args .n) (c .before .before .before .before .before .before .before .before .before .before .before .before .before .before .before .before .args .pos) (length (c .before .before .before .before .before .before .before .before .before .before .before .before .before .before .before .before .args .out .now)) (c .before .before .before .before .before .before .before .before .before .before .before .before .before .before .before .before .pre .1) (bytes-of (c .before .before .before .before .before .before .before .before .before .before .before .before .before .before .before .before .args .l .now) (λ j. c .before .before .before .before .before .before .before .before .before .before .before .before .before .before .shared-slice-known2 .given j .fits)) (c .before .before .before .before .before .before .before .before .before .before .before .before .place-at .result) (c .before .before .before .before .before .before .before .before .before .before .before .element-width .result) (c .before .before .before .before .before .before .before .before .before .before .before .before .place-at .ensures) (c .before .before .before .before .before .before .before .before .before .before .before .element-width .ensures) .room, c .before .before .before .before .before .before .before .before .before .before .before .before .before .before .before .before .pre .1 .small, c .before .before .before .before .before .before .before .before .before .before .before .before .before .before .before .before .pre .1 .few)
 
 put-array-add-zero : (t : ℕ) → put-array-lts.Need-add-zero (put-array-calls t) (put-array-at t) put-array.Post put-array-Inv-loop put-array-μ-loop
-put-array-add-zero t c = omega (arith, array-at (c .before .before .before .before .before .before .before .before .before .before .before .before .before .before .before .before .args .s .now) (c .before .before .before .before .before .before .before .before .before .before .before .before .before .before .before .before .args .at) (c .before .before .before .before .before .before .before .before .before .before .before .before .before .before .before .before .args .depth) (c .before .before .before .before .before .before .before .before .before .before .before .before .before .before .before .before .args .l .now) (c .before .before .before .before .before .before .before .before .before .before .before .before .before .before .before .before .args .from) (c .before .before .before .before .before .before .before .before .before .before .before .before .before .before .before .before .args .n) (c .before .before .before .before .before .before .before .before .before .before .before .before .before .before .before .before .args .pos) (length (c .before .before .before .before .before .before .before .before .before .before .before .before .before .before .before .before .args .out .now)) (c .before .before .before .before .before .before .before .before .before .before .before .before .before .before .before .before .pre .1) (bytes-of (c .before .before .before .before .before .before .before .before .before .before .before .before .before .before .before .before .args .l .now) (λ j. c .before .before .before .before .before .before .before .before .before .before .before .before .before .before .shared-slice-known2 .given j .fits)) (c .before .before .before .before .before .before .before .before .before .before .before .before .place-at .result) (c .before .before .before .before .before .before .before .before .before .before .before .slot-width .result) (c .before .before .before .before .before .before .before .before .before .before .before .before .place-at .ensures) (c .before .before .before .before .before .before .before .before .before .before .before .slot-width .ensures) .room, c .before .before .before .before .before .before .before .before .before .before .before .before .before .before .before .before .pre .1 .small, c .before .before .before .before .before .before .before .before .before .before .before .before .before .before .before .before .pre .1 .few)
+put-array-add-zero t c = omega (arith, array-at (c .before .before .before .before .before .before .before .before .before .before .before .before .before .before .before .before .args .s .now) (c .before .before .before .before .before .before .before .before .before .before .before .before .before .before .before .before .args .at) (c .before .before .before .before .before .before .before .before .before .before .before .before .before .before .before .before .args .depth) (c .before .before .before .before .before .before .before .before .before .before .before .before .before .before .before .before .args .l .now) (c .before .before .before .before .before .before .before .before .before .before .before .before .before .before .before .before .args .from) (c .before .before .before .before .before .before .before .before .before .before .before .before .before .before .before .before .args .n) (c .before .before .before .before .before .before .before .before .before .before .before .before .before .before .before .before .args .pos) (length (c .before .before .before .before .before .before .before .before .before .before .before .before .before .before .before .before .args .out .now)) (c .before .before .before .before .before .before .before .before .before .before .before .before .before .before .before .before .pre .1) (bytes-of (c .before .before .before .before .before .before .before .before .before .before .before .before .before .before .before .before .args .l .now) (λ j. c .before .before .before .before .before .before .before .before .before .before .before .before .before .before .shared-slice-known2 .given j .fits)) (c .before .before .before .before .before .before .before .before .before .before .before .before .place-at .result) (c .before .before .before .before .before .before .before .before .before .before .before .element-width .result) (c .before .before .before .before .before .before .before .before .before .before .before .before .place-at .ensures) (c .before .before .before .before .before .before .before .before .before .before .before .element-width .ensures) .room, c .before .before .before .before .before .before .before .before .before .before .before .before .before .before .before .before .pre .1 .small, c .before .before .before .before .before .before .before .before .before .before .before .before .before .before .before .before .pre .1 .few)
 
 put-array-mul-zero-2 : (t : ℕ) → put-array-lts.Need-mul-zero-2 (put-array-calls t) (put-array-at t) put-array.Post put-array-Inv-loop put-array-μ-loop
-put-array-mul-zero-2 t c = omega (arith, array-at (c .before .before .before .before .before .before .before .before .before .before .before .before .before .before .before .before .args .s .now) (c .before .before .before .before .before .before .before .before .before .before .before .before .before .before .before .before .args .at) (c .before .before .before .before .before .before .before .before .before .before .before .before .before .before .before .before .args .depth) (c .before .before .before .before .before .before .before .before .before .before .before .before .before .before .before .before .args .l .now) (c .before .before .before .before .before .before .before .before .before .before .before .before .before .before .before .before .args .from) (c .before .before .before .before .before .before .before .before .before .before .before .before .before .before .before .before .args .n) (c .before .before .before .before .before .before .before .before .before .before .before .before .before .before .before .before .args .pos) (length (c .before .before .before .before .before .before .before .before .before .before .before .before .before .before .before .before .args .out .now)) (c .before .before .before .before .before .before .before .before .before .before .before .before .before .before .before .before .pre .1) (bytes-of (c .before .before .before .before .before .before .before .before .before .before .before .before .before .before .before .before .args .l .now) (λ j. c .before .before .before .before .before .before .before .before .before .before .before .before .before .before .shared-slice-known2 .given j .fits)) (c .before .before .before .before .before .before .before .before .before .before .before .before .place-at .result) (c .before .before .before .before .before .before .before .before .before .before .before .slot-width .result) (c .before .before .before .before .before .before .before .before .before .before .before .before .place-at .ensures) (c .before .before .before .before .before .before .before .before .before .before .before .slot-width .ensures) .room, c .before .before .before .before .before .before .before .before .before .before .before .before .before .before .before .before .pre .1 .small, c .before .before .before .before .before .before .before .before .before .before .before .before .before .before .before .before .pre .1 .few)
+put-array-mul-zero-2 t c = omega (arith, array-at (c .before .before .before .before .before .before .before .before .before .before .before .before .before .before .before .before .args .s .now) (c .before .before .before .before .before .before .before .before .before .before .before .before .before .before .before .before .args .at) (c .before .before .before .before .before .before .before .before .before .before .before .before .before .before .before .before .args .depth) (c .before .before .before .before .before .before .before .before .before .before .before .before .before .before .before .before .args .l .now) (c .before .before .before .before .before .before .before .before .before .before .before .before .before .before .before .before .args .from) (c .before .before .before .before .before .before .before .before .before .before .before .before .before .before .before .before .args .n) (c .before .before .before .before .before .before .before .before .before .before .before .before .before .before .before .before .args .pos) (length (c .before .before .before .before .before .before .before .before .before .before .before .before .before .before .before .before .args .out .now)) (c .before .before .before .before .before .before .before .before .before .before .before .before .before .before .before .before .pre .1) (bytes-of (c .before .before .before .before .before .before .before .before .before .before .before .before .before .before .before .before .args .l .now) (λ j. c .before .before .before .before .before .before .before .before .before .before .before .before .before .before .shared-slice-known2 .given j .fits)) (c .before .before .before .before .before .before .before .before .before .before .before .before .place-at .result) (c .before .before .before .before .before .before .before .before .before .before .before .element-width .result) (c .before .before .before .before .before .before .before .before .before .before .before .before .place-at .ensures) (c .before .before .before .before .before .before .before .before .before .before .before .element-width .ensures) .room, c .before .before .before .before .before .before .before .before .before .before .before .before .before .before .before .before .pre .1 .small, c .before .before .before .before .before .before .before .before .before .before .before .before .before .before .before .before .pre .1 .few)
 
 put-array-add-zero-2 : (t : ℕ) → put-array-lts.Need-add-zero-2 (put-array-calls t) (put-array-at t) put-array.Post put-array-Inv-loop put-array-μ-loop
-put-array-add-zero-2 t c = omega (arith, array-at (c .before .before .before .before .before .before .before .before .before .before .before .before .before .before .before .before .args .s .now) (c .before .before .before .before .before .before .before .before .before .before .before .before .before .before .before .before .args .at) (c .before .before .before .before .before .before .before .before .before .before .before .before .before .before .before .before .args .depth) (c .before .before .before .before .before .before .before .before .before .before .before .before .before .before .before .before .args .l .now) (c .before .before .before .before .before .before .before .before .before .before .before .before .before .before .before .before .args .from) (c .before .before .before .before .before .before .before .before .before .before .before .before .before .before .before .before .args .n) (c .before .before .before .before .before .before .before .before .before .before .before .before .before .before .before .before .args .pos) (length (c .before .before .before .before .before .before .before .before .before .before .before .before .before .before .before .before .args .out .now)) (c .before .before .before .before .before .before .before .before .before .before .before .before .before .before .before .before .pre .1) (bytes-of (c .before .before .before .before .before .before .before .before .before .before .before .before .before .before .before .before .args .l .now) (λ j. c .before .before .before .before .before .before .before .before .before .before .before .before .before .before .shared-slice-known2 .given j .fits)) (c .before .before .before .before .before .before .before .before .before .before .before .before .place-at .result) (c .before .before .before .before .before .before .before .before .before .before .before .slot-width .result) (c .before .before .before .before .before .before .before .before .before .before .before .before .place-at .ensures) (c .before .before .before .before .before .before .before .before .before .before .before .slot-width .ensures) .room, c .before .before .before .before .before .before .before .before .before .before .before .before .before .before .before .before .pre .1 .small, c .before .before .before .before .before .before .before .before .before .before .before .before .before .before .before .before .pre .1 .few)
+put-array-add-zero-2 t c = omega (arith, array-at (c .before .before .before .before .before .before .before .before .before .before .before .before .before .before .before .before .args .s .now) (c .before .before .before .before .before .before .before .before .before .before .before .before .before .before .before .before .args .at) (c .before .before .before .before .before .before .before .before .before .before .before .before .before .before .before .before .args .depth) (c .before .before .before .before .before .before .before .before .before .before .before .before .before .before .before .before .args .l .now) (c .before .before .before .before .before .before .before .before .before .before .before .before .before .before .before .before .args .from) (c .before .before .before .before .before .before .before .before .before .before .before .before .before .before .before .before .args .n) (c .before .before .before .before .before .before .before .before .before .before .before .before .before .before .before .before .args .pos) (length (c .before .before .before .before .before .before .before .before .before .before .before .before .before .before .before .before .args .out .now)) (c .before .before .before .before .before .before .before .before .before .before .before .before .before .before .before .before .pre .1) (bytes-of (c .before .before .before .before .before .before .before .before .before .before .before .before .before .before .before .before .args .l .now) (λ j. c .before .before .before .before .before .before .before .before .before .before .before .before .before .before .shared-slice-known2 .given j .fits)) (c .before .before .before .before .before .before .before .before .before .before .before .before .place-at .result) (c .before .before .before .before .before .before .before .before .before .before .before .element-width .result) (c .before .before .before .before .before .before .before .before .before .before .before .before .place-at .ensures) (c .before .before .before .before .before .before .before .before .before .before .before .element-width .ensures) .room, c .before .before .before .before .before .before .before .before .before .before .before .before .before .before .before .before .pre .1 .small, c .before .before .before .before .before .before .before .before .before .before .before .before .before .before .before .before .pre .1 .few)
 
 put-array-sub-zero : (t : ℕ) → put-array-lts.Need-sub-zero (put-array-calls t) (put-array-at t) put-array.Post put-array-Inv-loop put-array-μ-loop
 put-array-sub-zero t c = omega (arith, c .before .before .before .before .before .before .before .before .before .pad-size .ensures)
 
 put-array-zero-requires-2 : (t : ℕ) → put-array-lts.Need-zero-requires-2 (put-array-calls t) (put-array-at t) put-array.Post put-array-Inv-loop put-array-μ-loop
-put-array-zero-requires-2 t c κs = omega (arith, array-at (c .before .before .before .before .before .before .before .before .before .before .before .before .before .before .before .before .args .s .now) (c .before .before .before .before .before .before .before .before .before .before .before .before .before .before .before .before .args .at) (c .before .before .before .before .before .before .before .before .before .before .before .before .before .before .before .before .args .depth) (c .before .before .before .before .before .before .before .before .before .before .before .before .before .before .before .before .args .l .now) (c .before .before .before .before .before .before .before .before .before .before .before .before .before .before .before .before .args .from) (c .before .before .before .before .before .before .before .before .before .before .before .before .before .before .before .before .args .n) (c .before .before .before .before .before .before .before .before .before .before .before .before .before .before .before .before .args .pos) (length (c .before .before .before .before .before .before .before .before .before .before .before .before .before .before .before .before .args .out .now)) (c .before .before .before .before .before .before .before .before .before .before .before .before .before .before .before .before .pre .1) (bytes-of (c .before .before .before .before .before .before .before .before .before .before .before .before .before .before .before .before .args .l .now) (λ j. c .before .before .before .before .before .before .before .before .before .before .before .before .before .before .shared-slice-known2 .given j .fits)) (c .before .before .before .before .before .before .before .before .before .before .before .before .place-at .result) (c .before .before .before .before .before .before .before .before .before .before .before .slot-width .result) (c .before .before .before .before .before .before .before .before .before .before .before .before .place-at .ensures) (c .before .before .before .before .before .before .before .before .before .before .before .slot-width .ensures) .room, c .before .before .before .before .before .before .before .before .before .before .before .before .before .before .before .before .pre .1 .small, c .before .before .before .before .before .before .before .before .before .before .before .before .before .before .before .before .pre .1 .few, c .before .before .before .before .before .before .before .put8 .kept .0, c .before .before .before .zero .kept .0)
+put-array-zero-requires-2 t c κs = omega (arith, array-at (c .before .before .before .before .before .before .before .before .before .before .before .before .before .before .before .before .args .s .now) (c .before .before .before .before .before .before .before .before .before .before .before .before .before .before .before .before .args .at) (c .before .before .before .before .before .before .before .before .before .before .before .before .before .before .before .before .args .depth) (c .before .before .before .before .before .before .before .before .before .before .before .before .before .before .before .before .args .l .now) (c .before .before .before .before .before .before .before .before .before .before .before .before .before .before .before .before .args .from) (c .before .before .before .before .before .before .before .before .before .before .before .before .before .before .before .before .args .n) (c .before .before .before .before .before .before .before .before .before .before .before .before .before .before .before .before .args .pos) (length (c .before .before .before .before .before .before .before .before .before .before .before .before .before .before .before .before .args .out .now)) (c .before .before .before .before .before .before .before .before .before .before .before .before .before .before .before .before .pre .1) (bytes-of (c .before .before .before .before .before .before .before .before .before .before .before .before .before .before .before .before .args .l .now) (λ j. c .before .before .before .before .before .before .before .before .before .before .before .before .before .before .shared-slice-known2 .given j .fits)) (c .before .before .before .before .before .before .before .before .before .before .before .before .place-at .result) (c .before .before .before .before .before .before .before .before .before .before .before .element-width .result) (c .before .before .before .before .before .before .before .before .before .before .before .before .place-at .ensures) (c .before .before .before .before .before .before .before .before .before .before .before .element-width .ensures) .room, c .before .before .before .before .before .before .before .before .before .before .before .before .before .before .before .before .pre .1 .small, c .before .before .before .before .before .before .before .before .before .before .before .before .before .before .before .before .pre .1 .few, c .before .before .before .before .before .before .before .put8 .kept .0, c .before .before .before .zero .kept .0)
 
 put-array-loop-holds : (t : ℕ) → put-array-lts.Need-loop-holds (put-array-calls t) (put-array-at t) put-array.Post put-array-Inv-loop put-array-μ-loop
-put-array-loop-holds t c = array-begins (typeAt (c .before .before .before .before .before .before .before .before .before .before .before .before .before .before .before .before .before .before .before .args .s .now) (c .before .before .before .before .before .before .before .before .before .before .before .before .before .before .before .before .before .before .before .args .at) (c .before .before .before .before .before .before .before .before .before .before .before .before .before .before .before .before .before .before .before .args .depth)) (c .before .before .before .before .before .before .before .before .before .before .before .before .before .before .slot-width .result) (c .before .before .before .before .before .before .before .before .before .before .before .before .before .before .before .before .before .before .before .args .n) (c .before .before .before .before .before .before .before .before .before .before .before .before .before .before .before .before .before .before .before .args .l .now) (c .before .before .before .before .before .before .before .before .before .before .before .before .before .before .before .before .before .before .before .args .from) (c .before .before .before .before .before .before .before .before .before .before .before .before .before .before .before .before .before .before .before .args .pos) (length (c .before .before .before .before .before .before .before .before .before .before .before .before .before .before .before .before .before .before .before .args .out .now)) (array-at (c .before .before .before .before .before .before .before .before .before .before .before .before .before .before .before .before .before .before .before .args .s .now) (c .before .before .before .before .before .before .before .before .before .before .before .before .before .before .before .before .before .before .before .args .at) (c .before .before .before .before .before .before .before .before .before .before .before .before .before .before .before .before .before .before .before .args .depth) (c .before .before .before .before .before .before .before .before .before .before .before .before .before .before .before .before .before .before .before .args .l .now) (c .before .before .before .before .before .before .before .before .before .before .before .before .before .before .before .before .before .before .before .args .from) (c .before .before .before .before .before .before .before .before .before .before .before .before .before .before .before .before .before .before .before .args .n) (c .before .before .before .before .before .before .before .before .before .before .before .before .before .before .before .before .before .before .before .args .pos) (length (c .before .before .before .before .before .before .before .before .before .before .before .before .before .before .before .before .before .before .before .args .out .now)) (c .before .before .before .before .before .before .before .before .before .before .before .before .before .before .before .before .before .before .before .pre .1) (bytes-of (c .before .before .before .before .before .before .before .before .before .before .before .before .before .before .before .before .before .before .before .args .l .now) (λ j. c .before .before .before .before .before .before .before .before .before .before .before .before .before .before .before .before .before .shared-slice-known2 .given j .fits)) (c .before .before .before .before .before .before .before .before .before .before .before .before .before .before .before .place-at .result) (c .before .before .before .before .before .before .before .before .before .before .before .before .before .before .slot-width .result) (c .before .before .before .before .before .before .before .before .before .before .before .before .before .before .before .place-at .ensures) (c .before .before .before .before .before .before .before .before .before .before .before .before .before .before .slot-width .ensures)) (c .before .before .before .before .before .before .before .before .before .before .before .before .before .before .before .before .before .before .before .args .pos + 8) (c .before .before .before .before .before .before .before .before .before .before .before .before .before .bitmap-size .result) (c .before .before .before .before .before .before .before .before .before .before .before .before .before .before .before .before .before .before .before .args .pos + 8 + c .before .before .before .before .before .before .before .before .before .before .before .before .before .bitmap-size .result) (c .before .before .before .before .before .before .before .before .before .before .before .before .before .before .before .before .before .before .before .args .pos + 8 + c .before .before .before .before .before .before .before .before .before .before .before .before .before .bitmap-size .result + c .before .before .before .before .before .before .before .before .before .before .before .before .pad-size .result) refl (c .before .before .before .before .before .before .before .before .before .before .before .before .before .bitmap-size .ensures) refl (ap (λ (j : ℕ). c .before .before .before .before .before .before .before .before .before .before .before .before .before .before .before .before .before .before .before .args .pos + 8 + c .before .before .before .before .before .before .before .before .before .before .before .before .before .bitmap-size .result + j) (c .before .before .before .before .before .before .before .before .before .before .before .before .pad-size .ensures)) (c .before .before .zero2 .last .0) (c .before .before .zero2 .kept .0 ∙ c .before .before .before .before .before .before .zero .kept .0 ∙ c .before .before .before .before .before .before .before .before .before .before .put8 .kept .0)
+put-array-loop-holds t c = array-begins (typeAt (c .before .before .before .before .before .before .before .before .before .before .before .before .before .before .before .before .before .before .before .args .s .now) (c .before .before .before .before .before .before .before .before .before .before .before .before .before .before .before .before .before .before .before .args .at) (c .before .before .before .before .before .before .before .before .before .before .before .before .before .before .before .before .before .before .before .args .depth)) (c .before .before .before .before .before .before .before .before .before .before .before .before .before .before .element-width .result) (c .before .before .before .before .before .before .before .before .before .before .before .before .before .before .before .before .before .before .before .args .n) (c .before .before .before .before .before .before .before .before .before .before .before .before .before .before .before .before .before .before .before .args .l .now) (c .before .before .before .before .before .before .before .before .before .before .before .before .before .before .before .before .before .before .before .args .from) (c .before .before .before .before .before .before .before .before .before .before .before .before .before .before .before .before .before .before .before .args .pos) (length (c .before .before .before .before .before .before .before .before .before .before .before .before .before .before .before .before .before .before .before .args .out .now)) (array-at (c .before .before .before .before .before .before .before .before .before .before .before .before .before .before .before .before .before .before .before .args .s .now) (c .before .before .before .before .before .before .before .before .before .before .before .before .before .before .before .before .before .before .before .args .at) (c .before .before .before .before .before .before .before .before .before .before .before .before .before .before .before .before .before .before .before .args .depth) (c .before .before .before .before .before .before .before .before .before .before .before .before .before .before .before .before .before .before .before .args .l .now) (c .before .before .before .before .before .before .before .before .before .before .before .before .before .before .before .before .before .before .before .args .from) (c .before .before .before .before .before .before .before .before .before .before .before .before .before .before .before .before .before .before .before .args .n) (c .before .before .before .before .before .before .before .before .before .before .before .before .before .before .before .before .before .before .before .args .pos) (length (c .before .before .before .before .before .before .before .before .before .before .before .before .before .before .before .before .before .before .before .args .out .now)) (c .before .before .before .before .before .before .before .before .before .before .before .before .before .before .before .before .before .before .before .pre .1) (bytes-of (c .before .before .before .before .before .before .before .before .before .before .before .before .before .before .before .before .before .before .before .args .l .now) (λ j. c .before .before .before .before .before .before .before .before .before .before .before .before .before .before .before .before .before .shared-slice-known2 .given j .fits)) (c .before .before .before .before .before .before .before .before .before .before .before .before .before .before .before .place-at .result) (c .before .before .before .before .before .before .before .before .before .before .before .before .before .before .element-width .result) (c .before .before .before .before .before .before .before .before .before .before .before .before .before .before .before .place-at .ensures) (c .before .before .before .before .before .before .before .before .before .before .before .before .before .before .element-width .ensures)) (c .before .before .before .before .before .before .before .before .before .before .before .before .before .before .before .before .before .before .before .args .pos + 8) (c .before .before .before .before .before .before .before .before .before .before .before .before .before .bitmap-size .result) (c .before .before .before .before .before .before .before .before .before .before .before .before .before .before .before .before .before .before .before .args .pos + 8 + c .before .before .before .before .before .before .before .before .before .before .before .before .before .bitmap-size .result) (c .before .before .before .before .before .before .before .before .before .before .before .before .before .before .before .before .before .before .before .args .pos + 8 + c .before .before .before .before .before .before .before .before .before .before .before .before .before .bitmap-size .result + c .before .before .before .before .before .before .before .before .before .before .before .before .pad-size .result) refl (c .before .before .before .before .before .before .before .before .before .before .before .before .before .bitmap-size .ensures) refl (ap (λ (j : ℕ). c .before .before .before .before .before .before .before .before .before .before .before .before .before .before .before .before .before .before .before .args .pos + 8 + c .before .before .before .before .before .before .before .before .before .before .before .before .before .bitmap-size .result + j) (c .before .before .before .before .before .before .before .before .before .before .before .before .pad-size .ensures)) (c .before .before .zero2 .last .0) (c .before .before .zero2 .kept .0 ∙ c .before .before .before .before .before .before .zero .kept .0 ∙ c .before .before .before .before .before .before .before .before .before .before .put8 .kept .0)
 
 put-array-put-child-requires : (t : ℕ) → put-array-lts.Need-put-child-requires (put-array-calls t) (put-array-at t) put-array.Post put-array-Inv-loop put-array-μ-loop
-put-array-put-child-requires t c κs = (omega arith, array-child (c .before .before .before .before .before .before .before .before .before .before .before .before .before .before .before .before .before .before .before .before .before .before .args .s .now) (c .before .before .before .before .before .before .before .before .before .before .before .before .before .before .before .before .before .before .before .before .before .before .args .at) (c .before .before .before .before .before .before .before .before .before .before .before .before .before .before .before .before .before .before .before .before .before .before .args .depth) (c .before .before .before .before .before .before .before .before .before .before .before .before .before .before .before .before .before .before .place-at .result) (c .before .before .before .before .before .before .before .before .before .before .before .before .before .before .before .before .before .slot-width .result) (c .before .before .before .before .before .before .before .before .before .before .before .before .before .before .before .before .before .before .before .before .before .before .args .n) (c .before .before .before .before .before .before .before .before .before .before .before .before .before .before .before .before .before .before .before .before .before .before .args .l .now) (c .before .before .before .before .before .before .before .before .before .before .before .before .before .before .before .before .before .before .before .before .before .before .args .from) (c .before .before .before .before .before .before .before .before .before .before .before .before .before .before .before .before .before .before .before .before .before .before .args .pos) (c .before .before .before .before .before .before .before .before .before .before .before .before .before .before .before .before .before .before .before .before .before .before .args .pos + 8) (c .before .before .before .before .before .before .before .before .before .before .before .before .before .before .before .before .before .before .before .before .before .before .args .pos + 8 + c .before .before .before .before .before .before .before .before .before .before .before .before .before .before .before .before .bitmap-size .result) (c .before .before .before .before .before .before .before .before .before .before .before .before .before .before .before .before .before .before .before .before .before .before .args .pos + 8 + c .before .before .before .before .before .before .before .before .before .before .before .before .before .before .before .before .bitmap-size .result + c .before .before .before .before .before .before .before .before .before .before .before .before .before .before .before .pad-size .result) (c .before .before .before .before .before .zero2 .last .0) (c .before .before .loop .out) (c .before .before .loop .i) (c .before .before .loop .from1) (c .before .before .loop .slot) (c .before .before .loop .cur) (c .before .before .loop .inv) (c .before .loop-test .taken) (c .before .before .before .before .before .before .before .before .before .before .before .before .before .before .before .before .before .before .before .before .before .before .pre .1 .typed) (c .before .before .before .before .before .before .before .before .before .before .before .before .before .before .before .before .before .before .place-at .ensures) (c .before .before .before .before .before .before .before .before .before .before .before .before .before .before .before .before .before .slot-width .ensures) (omega (arith, (c .before .before .before .before .before .zero2 .kept .0 ∙ c .before .before .before .before .before .before .before .before .before .zero .kept .0 ∙ c .before .before .before .before .before .before .before .before .before .before .before .before .before .put8 .kept .0), c .before .before .before .before .before .before .before .before .before .before .before .before .before .before .before .before .before .before .before .before .before .before .pre .1 .small)) (c .before .before .before .before .before .before .before .before .before .before .before .before .before .before .before .before .before .before .before .before .before .before .pre .1 .short))
+put-array-put-child-requires t c κs = (omega arith, array-child (c .before .before .before .before .before .before .before .before .before .before .before .before .before .before .before .before .before .before .before .before .before .before .args .s .now) (c .before .before .before .before .before .before .before .before .before .before .before .before .before .before .before .before .before .before .before .before .before .before .args .at) (c .before .before .before .before .before .before .before .before .before .before .before .before .before .before .before .before .before .before .before .before .before .before .args .depth) (c .before .before .before .before .before .before .before .before .before .before .before .before .before .before .before .before .before .before .place-at .result) (c .before .before .before .before .before .before .before .before .before .before .before .before .before .before .before .before .before .element-width .result) (c .before .before .before .before .before .before .before .before .before .before .before .before .before .before .before .before .before .before .before .before .before .before .args .n) (c .before .before .before .before .before .before .before .before .before .before .before .before .before .before .before .before .before .before .before .before .before .before .args .l .now) (c .before .before .before .before .before .before .before .before .before .before .before .before .before .before .before .before .before .before .before .before .before .before .args .from) (c .before .before .before .before .before .before .before .before .before .before .before .before .before .before .before .before .before .before .before .before .before .before .args .pos) (c .before .before .before .before .before .before .before .before .before .before .before .before .before .before .before .before .before .before .before .before .before .before .args .pos + 8) (c .before .before .before .before .before .before .before .before .before .before .before .before .before .before .before .before .before .before .before .before .before .before .args .pos + 8 + c .before .before .before .before .before .before .before .before .before .before .before .before .before .before .before .before .bitmap-size .result) (c .before .before .before .before .before .before .before .before .before .before .before .before .before .before .before .before .before .before .before .before .before .before .args .pos + 8 + c .before .before .before .before .before .before .before .before .before .before .before .before .before .before .before .before .bitmap-size .result + c .before .before .before .before .before .before .before .before .before .before .before .before .before .before .before .pad-size .result) (c .before .before .before .before .before .zero2 .last .0) (c .before .before .loop .out) (c .before .before .loop .i) (c .before .before .loop .from1) (c .before .before .loop .slot) (c .before .before .loop .cur) (c .before .before .loop .inv) (c .before .loop-test .taken) (c .before .before .before .before .before .before .before .before .before .before .before .before .before .before .before .before .before .before .before .before .before .before .pre .1 .typed) (c .before .before .before .before .before .before .before .before .before .before .before .before .before .before .before .before .before .before .place-at .ensures) (c .before .before .before .before .before .before .before .before .before .before .before .before .before .before .before .before .before .element-width .ensures) (omega (arith, (c .before .before .before .before .before .zero2 .kept .0 ∙ c .before .before .before .before .before .before .before .before .before .zero .kept .0 ∙ c .before .before .before .before .before .before .before .before .before .before .before .before .before .put8 .kept .0), c .before .before .before .before .before .before .before .before .before .before .before .before .before .before .before .before .before .before .before .before .before .before .pre .1 .small)) (c .before .before .before .before .before .before .before .before .before .before .before .before .before .before .before .before .before .before .before .before .before .before .pre .1 .short))
 
 put-array-add-slot : (t : ℕ) → put-array-lts.Need-add-slot (put-array-calls t) (put-array-at t) put-array.Post put-array-Inv-loop put-array-μ-loop
-put-array-add-slot t c = let q = array-slot-room (typeAt (c .before .before .before .before .before .before .before .before .before .before .before .before .before .before .before .before .before .before .before .before .before .before .before .before .before .args .s .now) (c .before .before .before .before .before .before .before .before .before .before .before .before .before .before .before .before .before .before .before .before .before .before .before .before .before .args .at) (c .before .before .before .before .before .before .before .before .before .before .before .before .before .before .before .before .before .before .before .before .before .before .before .before .before .args .depth)) (c .before .before .before .before .before .before .before .before .before .before .before .before .before .before .before .before .before .before .before .before .slot-width .result) (c .before .before .before .before .before .before .before .before .before .before .before .before .before .before .before .before .before .before .before .before .before .before .before .before .before .args .n) (c .before .before .before .before .before .before .before .before .before .before .before .before .before .before .before .before .before .before .before .before .before .before .before .before .before .args .l .now) (c .before .before .before .before .before .before .before .before .before .before .before .before .before .before .before .before .before .before .before .before .before .before .before .before .before .args .from) (c .before .before .before .before .before .before .before .before .before .before .before .before .before .before .before .before .before .before .before .before .before .before .before .before .before .args .pos) (c .before .before .before .before .before .before .before .before .before .before .before .before .before .before .before .before .before .before .before .before .before .before .before .before .before .args .pos + 8) (c .before .before .before .before .before .before .before .before .before .before .before .before .before .before .before .before .before .before .before .before .before .before .before .before .before .args .pos + 8 + c .before .before .before .before .before .before .before .before .before .before .before .before .before .before .before .before .before .before .before .bitmap-size .result) (c .before .before .before .before .before .before .before .before .before .before .before .before .before .before .before .before .before .before .before .before .before .before .before .before .before .args .pos + 8 + c .before .before .before .before .before .before .before .before .before .before .before .before .before .before .before .before .before .before .before .bitmap-size .result + c .before .before .before .before .before .before .before .before .before .before .before .before .before .before .before .before .before .before .pad-size .result) (c .before .before .before .before .before .before .before .before .zero2 .last .0) (c .before .before .before .before .before .loop .out) (c .before .before .before .before .before .loop .i) (c .before .before .before .before .before .loop .from1) (c .before .before .before .before .before .loop .slot) (c .before .before .before .before .before .loop .cur) (c .before .before .before .before .before .loop .inv) (c .before .before .before .before .loop-test .taken) in omega (arith, q .0, q .1, (c .before .before .before .before .before .before .before .before .zero2 .kept .0 ∙ c .before .before .before .before .before .before .before .before .before .before .before .before .zero .kept .0 ∙ c .before .before .before .before .before .before .before .before .before .before .before .before .before .before .before .before .put8 .kept .0), c .before .before .before .before .before .before .before .before .before .before .before .before .before .before .before .before .before .before .before .before .before .before .before .before .before .pre .1 .small)
+put-array-add-slot t c = let q = array-slot-room (typeAt (c .before .before .before .before .before .before .before .before .before .before .before .before .before .before .before .before .before .before .before .before .before .before .before .before .before .args .s .now) (c .before .before .before .before .before .before .before .before .before .before .before .before .before .before .before .before .before .before .before .before .before .before .before .before .before .args .at) (c .before .before .before .before .before .before .before .before .before .before .before .before .before .before .before .before .before .before .before .before .before .before .before .before .before .args .depth)) (c .before .before .before .before .before .before .before .before .before .before .before .before .before .before .before .before .before .before .before .before .element-width .result) (c .before .before .before .before .before .before .before .before .before .before .before .before .before .before .before .before .before .before .before .before .before .before .before .before .before .args .n) (c .before .before .before .before .before .before .before .before .before .before .before .before .before .before .before .before .before .before .before .before .before .before .before .before .before .args .l .now) (c .before .before .before .before .before .before .before .before .before .before .before .before .before .before .before .before .before .before .before .before .before .before .before .before .before .args .from) (c .before .before .before .before .before .before .before .before .before .before .before .before .before .before .before .before .before .before .before .before .before .before .before .before .before .args .pos) (c .before .before .before .before .before .before .before .before .before .before .before .before .before .before .before .before .before .before .before .before .before .before .before .before .before .args .pos + 8) (c .before .before .before .before .before .before .before .before .before .before .before .before .before .before .before .before .before .before .before .before .before .before .before .before .before .args .pos + 8 + c .before .before .before .before .before .before .before .before .before .before .before .before .before .before .before .before .before .before .before .bitmap-size .result) (c .before .before .before .before .before .before .before .before .before .before .before .before .before .before .before .before .before .before .before .before .before .before .before .before .before .args .pos + 8 + c .before .before .before .before .before .before .before .before .before .before .before .before .before .before .before .before .before .before .before .bitmap-size .result + c .before .before .before .before .before .before .before .before .before .before .before .before .before .before .before .before .before .before .pad-size .result) (c .before .before .before .before .before .before .before .before .zero2 .last .0) (c .before .before .before .before .before .loop .out) (c .before .before .before .before .before .loop .i) (c .before .before .before .before .before .loop .from1) (c .before .before .before .before .before .loop .slot) (c .before .before .before .before .before .loop .cur) (c .before .before .before .before .before .loop .inv) (c .before .before .before .before .loop-test .taken) in omega (arith, q .0, q .1, (c .before .before .before .before .before .before .before .before .zero2 .kept .0 ∙ c .before .before .before .before .before .before .before .before .before .before .before .before .zero .kept .0 ∙ c .before .before .before .before .before .before .before .before .before .before .before .before .before .before .before .before .put8 .kept .0), c .before .before .before .before .before .before .before .before .before .before .before .before .before .before .before .before .before .before .before .before .before .before .before .before .before .pre .1 .small)
 
 put-array-add-i : (t : ℕ) → put-array-lts.Need-add-i (put-array-calls t) (put-array-at t) put-array.Post put-array-Inv-loop put-array-μ-loop
 put-array-add-i t c = omega (arith, c .before .before .before .before .loop-test .taken, c .before .before .before .before .before .before .before .before .before .before .before .before .before .before .before .before .before .before .before .before .before .before .before .before .before .pre .1 .few)
@@ -172,13 +172,13 @@ put-array-loop-less : (t : ℕ) → put-array-lts.Need-loop-less (put-array-call
 put-array-loop-less t c = omega (arith, c .before .before .before .before .loop-test .taken)
 
 put-array-loop-again : (t : ℕ) → put-array-lts.Need-loop-again (put-array-calls t) (put-array-at t) put-array.Post put-array-Inv-loop put-array-μ-loop
-put-array-loop-again t c = array-goes (c .before .before .before .before .before .before .before .before .before .before .before .before .before .before .before .before .before .before .before .before .before .before .before .before .before .args .s .now) (c .before .before .before .before .before .before .before .before .before .before .before .before .before .before .before .before .before .before .before .before .before .before .before .before .before .args .at) (c .before .before .before .before .before .before .before .before .before .before .before .before .before .before .before .before .before .before .before .before .before .before .before .before .before .args .depth) (c .before .before .before .before .before .before .before .before .before .before .before .before .before .before .before .before .before .before .before .before .before .place-at .result) (c .before .before .before .before .before .before .before .before .before .before .before .before .before .before .before .before .before .before .before .before .slot-width .result) (c .before .before .before .before .before .before .before .before .before .before .before .before .before .before .before .before .before .before .before .before .before .before .before .before .before .args .n) (c .before .before .before .before .before .before .before .before .before .before .before .before .before .before .before .before .before .before .before .before .before .before .before .before .before .args .l .now) (c .before .before .before .before .before .before .before .before .before .before .before .before .before .before .before .before .before .before .before .before .before .before .before .before .before .args .from) (c .before .before .before .before .before .before .before .before .before .before .before .before .before .before .before .before .before .before .before .before .before .before .before .before .before .args .pos) (c .before .before .before .before .before .before .before .before .before .before .before .before .before .before .before .before .before .before .before .before .before .before .before .before .before .args .pos + 8) (c .before .before .before .before .before .before .before .before .before .before .before .before .before .before .before .before .before .before .before .before .before .before .before .before .before .args .pos + 8 + c .before .before .before .before .before .before .before .before .before .before .before .before .before .before .before .before .before .before .before .bitmap-size .result) (c .before .before .before .before .before .before .before .before .before .before .before .before .before .before .before .before .before .before .before .before .before .before .before .before .before .args .pos + 8 + c .before .before .before .before .before .before .before .before .before .before .before .before .before .before .before .before .before .before .before .bitmap-size .result + c .before .before .before .before .before .before .before .before .before .before .before .before .before .before .before .before .before .before .pad-size .result) (c .before .before .before .before .before .before .before .before .zero2 .last .0) (c .before .before .before .before .before .loop .out) (c .before .before .before .before .before .loop .i) (c .before .before .before .before .before .loop .from1) (c .before .before .before .before .before .loop .slot) (c .before .before .before .before .before .loop .cur) (c .before .before .before .before .before .loop .inv) (c .before .before .before .before .loop-test .taken) (c .before .before .put-child .last .1 .1 .1 .1 .1 .1 .1 .0) (c .before .before .put-child .result .next) (c .before .before .put-child .result .stop) (c .before .before .put-child .ensures) (c .before .before .put-child .kept .1 .1 .1 .1 .1 .1 .1 .0)
+put-array-loop-again t c = array-goes (c .before .before .before .before .before .before .before .before .before .before .before .before .before .before .before .before .before .before .before .before .before .before .before .before .before .args .s .now) (c .before .before .before .before .before .before .before .before .before .before .before .before .before .before .before .before .before .before .before .before .before .before .before .before .before .args .at) (c .before .before .before .before .before .before .before .before .before .before .before .before .before .before .before .before .before .before .before .before .before .before .before .before .before .args .depth) (c .before .before .before .before .before .before .before .before .before .before .before .before .before .before .before .before .before .before .before .before .before .place-at .result) (c .before .before .before .before .before .before .before .before .before .before .before .before .before .before .before .before .before .before .before .before .element-width .result) (c .before .before .before .before .before .before .before .before .before .before .before .before .before .before .before .before .before .before .before .before .before .before .before .before .before .args .n) (c .before .before .before .before .before .before .before .before .before .before .before .before .before .before .before .before .before .before .before .before .before .before .before .before .before .args .l .now) (c .before .before .before .before .before .before .before .before .before .before .before .before .before .before .before .before .before .before .before .before .before .before .before .before .before .args .from) (c .before .before .before .before .before .before .before .before .before .before .before .before .before .before .before .before .before .before .before .before .before .before .before .before .before .args .pos) (c .before .before .before .before .before .before .before .before .before .before .before .before .before .before .before .before .before .before .before .before .before .before .before .before .before .args .pos + 8) (c .before .before .before .before .before .before .before .before .before .before .before .before .before .before .before .before .before .before .before .before .before .before .before .before .before .args .pos + 8 + c .before .before .before .before .before .before .before .before .before .before .before .before .before .before .before .before .before .before .before .bitmap-size .result) (c .before .before .before .before .before .before .before .before .before .before .before .before .before .before .before .before .before .before .before .before .before .before .before .before .before .args .pos + 8 + c .before .before .before .before .before .before .before .before .before .before .before .before .before .before .before .before .before .before .before .bitmap-size .result + c .before .before .before .before .before .before .before .before .before .before .before .before .before .before .before .before .before .before .pad-size .result) (c .before .before .before .before .before .before .before .before .zero2 .last .0) (c .before .before .before .before .before .loop .out) (c .before .before .before .before .before .loop .i) (c .before .before .before .before .before .loop .from1) (c .before .before .before .before .before .loop .slot) (c .before .before .before .before .before .loop .cur) (c .before .before .before .before .before .loop .inv) (c .before .before .before .before .loop-test .taken) (c .before .before .put-child .last .1 .1 .1 .1 .1 .1 .1 .0) (c .before .before .put-child .result .next) (c .before .before .put-child .result .stop) (c .before .before .put-child .ensures) (c .before .before .put-child .kept .1 .1 .1 .1 .1 .1 .1 .0)
 
 put-array-same-length : (t : ℕ) → put-array-lts.Need-same-length (put-array-calls t) (put-array-at t) put-array.Post put-array-Inv-loop put-array-μ-loop
 put-array-same-length t c = c .before .loop .inv .long ∙ (c .before .before .before .before .zero2 .kept .0 ∙ c .before .before .before .before .before .before .before .before .zero .kept .0 ∙ c .before .before .before .before .before .before .before .before .before .before .before .before .put8 .kept .0)
 
 put-array-returns : (t : ℕ) → put-array-lts.Need-returns (put-array-calls t) (put-array-at t) put-array.Post put-array-Inv-loop put-array-μ-loop
-put-array-returns t c = array-done (c .before .before .before .before .before .before .before .before .before .before .before .before .before .before .before .before .before .before .before .before .before .args .s .now) (c .before .before .before .before .before .before .before .before .before .before .before .before .before .before .before .before .before .before .before .before .before .args .at) (c .before .before .before .before .before .before .before .before .before .before .before .before .before .before .before .before .before .before .before .before .before .args .depth) (c .before .before .before .before .before .before .before .before .before .before .before .before .before .before .before .before .before .before .before .before .before .args .l .now) (c .before .before .before .before .before .before .before .before .before .before .before .before .before .before .before .before .before .before .before .before .before .args .from) (c .before .before .before .before .before .before .before .before .before .before .before .before .before .before .before .before .before .before .before .before .before .args .n) (c .before .before .before .before .before .before .before .before .before .before .before .before .before .before .before .before .before .before .before .before .before .args .pos) (length (c .before .before .before .before .before .before .before .before .before .before .before .before .before .before .before .before .before .before .before .before .before .args .out .now)) (c .before .before .before .before .before .before .before .before .before .before .before .before .before .before .before .before .before .before .before .before .before .pre .1 .typed) (c .before .before .before .before .before .before .before .before .before .before .before .before .before .before .before .before .before .place-at .result) (c .before .before .before .before .before .before .before .before .before .before .before .before .before .before .before .before .slot-width .result) (c .before .before .before .before .before .before .before .before .before .before .before .before .before .before .before .before .before .place-at .ensures) (c .before .before .before .before .before .before .before .before .before .before .before .before .before .before .before .before .slot-width .ensures) (array-at (c .before .before .before .before .before .before .before .before .before .before .before .before .before .before .before .before .before .before .before .before .before .args .s .now) (c .before .before .before .before .before .before .before .before .before .before .before .before .before .before .before .before .before .before .before .before .before .args .at) (c .before .before .before .before .before .before .before .before .before .before .before .before .before .before .before .before .before .before .before .before .before .args .depth) (c .before .before .before .before .before .before .before .before .before .before .before .before .before .before .before .before .before .before .before .before .before .args .l .now) (c .before .before .before .before .before .before .before .before .before .before .before .before .before .before .before .before .before .before .before .before .before .args .from) (c .before .before .before .before .before .before .before .before .before .before .before .before .before .before .before .before .before .before .before .before .before .args .n) (c .before .before .before .before .before .before .before .before .before .before .before .before .before .before .before .before .before .before .before .before .before .args .pos) (length (c .before .before .before .before .before .before .before .before .before .before .before .before .before .before .before .before .before .before .before .before .before .args .out .now)) (c .before .before .before .before .before .before .before .before .before .before .before .before .before .before .before .before .before .before .before .before .before .pre .1) (bytes-of (c .before .before .before .before .before .before .before .before .before .before .before .before .before .before .before .before .before .before .before .before .before .args .l .now) (λ j. c .before .before .before .before .before .before .before .before .before .before .before .before .before .before .before .before .before .before .before .shared-slice-known2 .given j .fits)) (c .before .before .before .before .before .before .before .before .before .before .before .before .before .before .before .before .before .place-at .result) (c .before .before .before .before .before .before .before .before .before .before .before .before .before .before .before .before .slot-width .result) (c .before .before .before .before .before .before .before .before .before .before .before .before .before .before .before .before .before .place-at .ensures) (c .before .before .before .before .before .before .before .before .before .before .before .before .before .before .before .before .slot-width .ensures)) (c .before .before .before .before .before .before .before .before .before .before .before .before .before .before .before .before .before .before .before .before .before .args .pos + 8) (c .before .before .before .before .before .before .before .before .before .before .before .before .before .before .before .bitmap-size .result) (c .before .before .before .before .before .before .before .before .before .before .before .before .before .before .before .before .before .before .before .before .before .args .pos + 8 + c .before .before .before .before .before .before .before .before .before .before .before .before .before .before .before .bitmap-size .result) (c .before .before .before .before .before .before .before .before .before .before .before .before .before .before .before .before .before .before .before .before .before .args .pos + 8 + c .before .before .before .before .before .before .before .before .before .before .before .before .before .before .before .bitmap-size .result + c .before .before .before .before .before .before .before .before .before .before .before .before .before .before .pad-size .result) refl (c .before .before .before .before .before .before .before .before .before .before .before .before .before .before .before .bitmap-size .ensures) refl (ap (λ (j : ℕ). c .before .before .before .before .before .before .before .before .before .before .before .before .before .before .before .before .before .before .before .before .before .args .pos + 8 + c .before .before .before .before .before .before .before .before .before .before .before .before .before .before .before .bitmap-size .result + j) (c .before .before .before .before .before .before .before .before .before .before .before .before .before .before .pad-size .ensures)) (c .before .before .before .before .before .before .before .before .before .before .before .before .before .before .before .before .before .before .before .before .before .args .out .now) (c .before .before .before .before .before .before .before .before .before .before .before .before .put8 .last .0) (c .before .before .before .before .before .before .before .before .zero .last .0) (c .before .before .before .before .zero2 .last .0) (c .before .loop .out) (c .before .loop .i) (c .before .loop .from1) (c .before .loop .slot) (c .before .loop .cur) refl (c .before .before .before .before .before .before .before .before .before .before .before .before .put8 .ensures) (c .before .before .before .before .before .before .before .before .zero .ensures) (c .before .before .before .before .zero2 .ensures) (c .before .loop .inv) (c .loop-test .left)
+put-array-returns t c = array-done (c .before .before .before .before .before .before .before .before .before .before .before .before .before .before .before .before .before .before .before .before .before .args .s .now) (c .before .before .before .before .before .before .before .before .before .before .before .before .before .before .before .before .before .before .before .before .before .args .at) (c .before .before .before .before .before .before .before .before .before .before .before .before .before .before .before .before .before .before .before .before .before .args .depth) (c .before .before .before .before .before .before .before .before .before .before .before .before .before .before .before .before .before .before .before .before .before .args .l .now) (c .before .before .before .before .before .before .before .before .before .before .before .before .before .before .before .before .before .before .before .before .before .args .from) (c .before .before .before .before .before .before .before .before .before .before .before .before .before .before .before .before .before .before .before .before .before .args .n) (c .before .before .before .before .before .before .before .before .before .before .before .before .before .before .before .before .before .before .before .before .before .args .pos) (length (c .before .before .before .before .before .before .before .before .before .before .before .before .before .before .before .before .before .before .before .before .before .args .out .now)) (c .before .before .before .before .before .before .before .before .before .before .before .before .before .before .before .before .before .before .before .before .before .pre .1 .typed) (c .before .before .before .before .before .before .before .before .before .before .before .before .before .before .before .before .before .place-at .result) (c .before .before .before .before .before .before .before .before .before .before .before .before .before .before .before .before .element-width .result) (c .before .before .before .before .before .before .before .before .before .before .before .before .before .before .before .before .before .place-at .ensures) (c .before .before .before .before .before .before .before .before .before .before .before .before .before .before .before .before .element-width .ensures) (array-at (c .before .before .before .before .before .before .before .before .before .before .before .before .before .before .before .before .before .before .before .before .before .args .s .now) (c .before .before .before .before .before .before .before .before .before .before .before .before .before .before .before .before .before .before .before .before .before .args .at) (c .before .before .before .before .before .before .before .before .before .before .before .before .before .before .before .before .before .before .before .before .before .args .depth) (c .before .before .before .before .before .before .before .before .before .before .before .before .before .before .before .before .before .before .before .before .before .args .l .now) (c .before .before .before .before .before .before .before .before .before .before .before .before .before .before .before .before .before .before .before .before .before .args .from) (c .before .before .before .before .before .before .before .before .before .before .before .before .before .before .before .before .before .before .before .before .before .args .n) (c .before .before .before .before .before .before .before .before .before .before .before .before .before .before .before .before .before .before .before .before .before .args .pos) (length (c .before .before .before .before .before .before .before .before .before .before .before .before .before .before .before .before .before .before .before .before .before .args .out .now)) (c .before .before .before .before .before .before .before .before .before .before .before .before .before .before .before .before .before .before .before .before .before .pre .1) (bytes-of (c .before .before .before .before .before .before .before .before .before .before .before .before .before .before .before .before .before .before .before .before .before .args .l .now) (λ j. c .before .before .before .before .before .before .before .before .before .before .before .before .before .before .before .before .before .before .before .shared-slice-known2 .given j .fits)) (c .before .before .before .before .before .before .before .before .before .before .before .before .before .before .before .before .before .place-at .result) (c .before .before .before .before .before .before .before .before .before .before .before .before .before .before .before .before .element-width .result) (c .before .before .before .before .before .before .before .before .before .before .before .before .before .before .before .before .before .place-at .ensures) (c .before .before .before .before .before .before .before .before .before .before .before .before .before .before .before .before .element-width .ensures)) (c .before .before .before .before .before .before .before .before .before .before .before .before .before .before .before .before .before .before .before .before .before .args .pos + 8) (c .before .before .before .before .before .before .before .before .before .before .before .before .before .before .before .bitmap-size .result) (c .before .before .before .before .before .before .before .before .before .before .before .before .before .before .before .before .before .before .before .before .before .args .pos + 8 + c .before .before .before .before .before .before .before .before .before .before .before .before .before .before .before .bitmap-size .result) (c .before .before .before .before .before .before .before .before .before .before .before .before .before .before .before .before .before .before .before .before .before .args .pos + 8 + c .before .before .before .before .before .before .before .before .before .before .before .before .before .before .before .bitmap-size .result + c .before .before .before .before .before .before .before .before .before .before .before .before .before .before .pad-size .result) refl (c .before .before .before .before .before .before .before .before .before .before .before .before .before .before .before .bitmap-size .ensures) refl (ap (λ (j : ℕ). c .before .before .before .before .before .before .before .before .before .before .before .before .before .before .before .before .before .before .before .before .before .args .pos + 8 + c .before .before .before .before .before .before .before .before .before .before .before .before .before .before .before .bitmap-size .result + j) (c .before .before .before .before .before .before .before .before .before .before .before .before .before .before .pad-size .ensures)) (c .before .before .before .before .before .before .before .before .before .before .before .before .before .before .before .before .before .before .before .before .before .args .out .now) (c .before .before .before .before .before .before .before .before .before .before .before .before .put8 .last .0) (c .before .before .before .before .before .before .before .before .zero .last .0) (c .before .before .before .before .zero2 .last .0) (c .before .loop .out) (c .before .loop .i) (c .before .loop .from1) (c .before .loop .slot) (c .before .loop .cur) refl (c .before .before .before .before .before .before .before .before .before .before .before .before .put8 .ensures) (c .before .before .before .before .before .before .before .before .zero .ensures) (c .before .before .before .before .zero2 .ensures) (c .before .loop .inv) (c .loop-test .left)
 
 put-child-get2-requires : (t : ℕ) → put-child-lts.Need-get2-requires (put-child-calls t) (put-child-at t) put-child.Post
 put-child-get2-requires t c κs = child-two (c .before .before .before .args .s .now) (c .before .before .before .args .at) (c .before .before .before .args .depth) (c .before .before .before .args .k) (c .before .before .before .args .w) (c .before .before .before .args .l .now) (c .before .before .before .args .from) (c .before .before .before .args .base) (c .before .before .before .args .bm) (c .before .before .before .args .i) (c .before .before .before .args .slot) (c .before .before .before .args .cur) (length (c .before .before .before .args .out .now)) (c .before .before .before .pre .1)
@@ -394,7 +394,7 @@ pub +put-array+put-child+put-fields+put-value-spec : {M : Type 1} → statement 
     put-array-Inv-loop
     put-array-μ-loop
     (put-array-place-at-requires t)
-    (put-array-slot-width-requires t)
+    (put-array-element-width-requires t)
     (put-array-add-bm t)
     (put-array-bitmap-size-requires t)
     (put-array-add-slots t)

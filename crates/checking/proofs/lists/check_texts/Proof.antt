@@ -4,29 +4,19 @@ use Rattle.checking.specs.Room.{NoNullsIf}
 use borrow.Author.Needs.{needs}
 use Rattle.checking.proofs.lists.check_texts.Statement.{statement}
 use Rattle.checking.proofs.lists.check_texts.Tie as tie
-use Rattle.checking.proofs.lists.check_texts.Reads as reads
-use Rattle.checking.proofs.lists.check_texts.Lts as lts
-use Rattle.checking.proofs.lists.full_texts.Reads as full-texts-reads
-use Rattle.checking.proofs.lists.no_nulls.Reads as no-nulls-reads
-use Rattle.checking.proofs.lists.some_texts.Reads as some-texts-reads
 
--- src/lists.rt:91:8
 no-nulls-requires : tie.Need-no-nulls-requires
 no-nulls-requires c κs = search needs
 
--- src/lists.rt:92:9
 full-texts-requires : tie.Need-full-texts-requires
 full-texts-requires c κs = (c .before .before .before .pre, subst (NoNullsIf (c .before .before .before .args .b .now) (c .before .before .before .args .n)) (c .if1 .taken) (c .before .no-nulls .ensures))
 
--- src/lists.rt:92:9
 returns : tie.Need-returns
 returns c = search needs
 
--- src/lists.rt:94:5
 some-texts-requires : tie.Need-some-texts-requires
 some-texts-requires c κs = search needs
 
--- src/lists.rt:87:1
 returns-2 : tie.Need-returns-2
 returns-2 c = search needs
 

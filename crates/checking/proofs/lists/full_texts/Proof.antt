@@ -10,13 +10,6 @@ use Rattle.checking.proofs.Loops.{At, at-start, at-end, slot-room, bit-
 use Rattle.checking.proofs.Leaves.{texts-slots, text-kid, text-fine}
 use Rattle.checking.proofs.lists.full_texts.Statement.{statement}
 use Rattle.checking.proofs.lists.full_texts.Tie as tie
-use Rattle.checking.proofs.lists.full_texts.Reads as reads
-use Rattle.checking.proofs.lists.full_texts.Lts as lts
-use Rattle.words.proofs.nums.get8.Reads as get8-reads
-use Rattle.words.proofs.sizes.pad_clear.Reads as pad-clear-reads
-use Rattle.words.proofs.sizes.pad_size.Reads as pad-size-reads
-use Rattle.words.proofs.slots.slot_offset.Reads as slot-offset-reads
-use Rattle.words.proofs.slots.slot_size.Reads as slot-size-reads
 
 abbrev Inv-loop : tie.InvT-loop
 Inv-loop b n slots start i₀ slot₀ cur₀ i slot cur = At 8 (texts n) b n slots start i slot cur
@@ -24,63 +17,48 @@ Inv-loop b n slots start i₀ slot₀ cur₀ i slot cur = At 8 (texts n) b n slo
 abbrev μ-loop : tie.MeasureT-loop
 μ-loop b n slots start i₀ slot₀ cur₀ i slot cur = n - i
 
--- src/lists.rt:33:5
 loop-holds : tie.Need-loop-holds Inv-loop μ-loop
 loop-holds c = let A = c .before .args in let B = c .before .args .b .now in let D = texts-slots B (A .n) (A .slots) (A .start) (c .before .pre .0) (bytes-of B (λ i. c .shared-slice-known .given i .fits)) in at-start 8 (texts (A .n)) B (A .n) (A .slots) (A .start) D
 
--- src/lists.rt:34:13
 get8-requires : tie.Need-get8-requires Inv-loop μ-loop
 get8-requires c κs = let A = c .before .before .before .args in let B = c .before .before .before .args .b .now in let D = texts-slots B (A .n) (A .slots) (A .start) (c .before .before .before .pre .0) (bytes-of B (λ i. c .before .before .shared-slice-known .given i .fits)) in omega (arith, slot-room 8 (texts (A .n)) B (A .n) (A .slots) (A .start) D (c .before .loop .i) (c .before .loop .slot) (c .before .loop .cur) (c .before .loop .inv) (c .loop-test .taken), D .room)
 
--- src/lists.rt:35:12
 slot-offset-requires : tie.Need-slot-offset-requires Inv-loop μ-loop
 slot-offset-requires c κs = tt
 
--- src/lists.rt:36:13
 returns : tie.Need-returns Inv-loop μ-loop
 returns c = let A = c .before .before .before .before .before .before .args in let B = c .before .before .before .before .before .before .args .b .now in let D = texts-slots B (A .n) (A .slots) (A .start) (c .before .before .before .before .before .before .pre .0) (bytes-of B (λ i. c .before .before .before .before .before .shared-slice-known .given i .fits)) in at-off 8 (texts (A .n)) B (A .n) (A .slots) (A .start) D (c .before .before .before .before .loop .i) (c .before .before .before .before .loop .slot) (c .before .before .before .before .loop .cur) (c .before .before .before .before .loop .inv) (c .before .before .before .loop-test .taken) string (text-kid (A .n) (c .before .before .before .before .loop .i) (c .before .before .before .loop-test .taken)) (c .before .before .before .before .before .before .pre .1 .none (c .before .before .before .before .loop .i) (c .before .before .before .loop-test .taken)) (c .before .before .get8 .result) (c .before .before .get8 .ensures) (c .before .slot-offset .result) (c .before .slot-offset .ensures) (c .if1 .taken)
 
--- src/lists.rt:38:25
 slot-size-requires : tie.Need-slot-size-requires Inv-loop μ-loop
 slot-size-requires c κs = tt
 
--- src/lists.rt:38:19
 add-end : tie.Need-add-end Inv-loop μ-loop
 add-end c = let p = c .before .before .before .before .before .loop .inv in omega (arith, p .high, c .slot-size .ensures, (c .before .before .before .before .before .before .before .pre .0) .small)
 
--- src/lists.rt:39:13
 pad-size-requires : tie.Need-pad-size-requires Inv-loop μ-loop
 pad-size-requires c κs = let p = c .before .before .before .before .before .loop .inv in omega (arith, p .high, c .slot-size .ensures, (c .before .before .before .before .before .before .before .pre .0) .small)
 
--- src/lists.rt:41:13
 returns-2 : tie.Need-returns-2 Inv-loop μ-loop
 returns-2 c = let A = c .before .before .before .before .before .before .before .before .before .args in let B = c .before .before .before .before .before .before .before .before .before .args .b .now in let D = texts-slots B (A .n) (A .slots) (A .start) (c .before .before .before .before .before .before .before .before .before .pre .0) (bytes-of B (λ i. c .before .before .before .before .before .before .before .before .shared-slice-known .given i .fits)) in at-long 8 (texts (A .n)) B (A .n) (A .slots) (A .start) D (c .before .before .before .before .before .before .before .loop .i) (c .before .before .before .before .before .before .before .loop .slot) (c .before .before .before .before .before .before .before .loop .cur) (c .before .before .before .before .before .before .before .loop .inv) (c .before .before .before .before .before .before .loop-test .taken) string (text-kid (A .n) (c .before .before .before .before .before .before .before .loop .i) (c .before .before .before .before .before .before .loop-test .taken)) (c .before .before .before .before .before .before .before .before .before .pre .1 .none (c .before .before .before .before .before .before .before .loop .i) (c .before .before .before .before .before .before .loop-test .taken)) (c .before .before .before .before .before .get8 .result) (c .before .before .before .before .before .get8 .ensures) (c .before .before .before .before .slot-offset .result) (c .before .before .before .before .slot-offset .ensures) (c .before .before .before .if1 .left) (c .before .before .slot-size .result) (c .before .before .slot-size .ensures) (c .before .before .before .before .before .before .before .loop .cur + c .before .before .slot-size .result) (c .before .pad-size .result) refl (c .before .pad-size .ensures) (c .if2 .taken)
 
--- src/lists.rt:43:13
 pad-clear-requires : tie.Need-pad-clear-requires Inv-loop μ-loop
 pad-clear-requires c κs = let A = c .before .before .before .before .before .before .before .before .before .args in let B = c .before .before .before .before .before .before .before .before .before .args .b .now in let D = texts-slots B (A .n) (A .slots) (A .start) (c .before .before .before .before .before .before .before .before .before .pre .0) (bytes-of B (λ i. c .before .before .before .before .before .before .before .before .shared-slice-known .given i .fits)) in let p = c .before .before .before .before .before .before .before .loop .inv in (omega (arith, p .low, D .data₀, D .map, c .before .pad-size .ensures), omega arith, omega (arith, p .high, c .before .before .slot-size .ensures, D .small), c .before .pad-size .ensures)
 
--- src/lists.rt:44:13
 returns-3 : tie.Need-returns-3 Inv-loop μ-loop
 returns-3 c = let A = c .before .before .before .before .before .before .before .before .before .before .before .args in let B = c .before .before .before .before .before .before .before .before .before .before .before .args .b .now in let D = texts-slots B (A .n) (A .slots) (A .start) (c .before .before .before .before .before .before .before .before .before .before .before .pre .0) (bytes-of B (λ i. c .before .before .before .before .before .before .before .before .before .before .shared-slice-known .given i .fits)) in at-unpadded 8 (texts (A .n)) B (A .n) (A .slots) (A .start) D (c .before .before .before .before .before .before .before .before .before .loop .i) (c .before .before .before .before .before .before .before .before .before .loop .slot) (c .before .before .before .before .before .before .before .before .before .loop .cur) (c .before .before .before .before .before .before .before .before .before .loop .inv) (c .before .before .before .before .before .before .before .before .loop-test .taken) string (text-kid (A .n) (c .before .before .before .before .before .before .before .before .before .loop .i) (c .before .before .before .before .before .before .before .before .loop-test .taken)) (c .before .before .before .before .before .before .before .before .before .before .before .pre .1 .none (c .before .before .before .before .before .before .before .before .before .loop .i) (c .before .before .before .before .before .before .before .before .loop-test .taken)) (c .before .before .before .before .before .before .before .get8 .result) (c .before .before .before .before .before .before .before .get8 .ensures) (c .before .before .before .before .before .before .slot-offset .result) (c .before .before .before .before .before .before .slot-offset .ensures) (c .before .before .before .before .before .if1 .left) (c .before .before .before .before .slot-size .result) (c .before .before .before .before .slot-size .ensures) (c .before .before .before .before .before .before .before .before .before .loop .cur + c .before .before .before .before .slot-size .result) (c .before .before .before .pad-size .result) refl (c .before .before .before .pad-size .ensures) (omega arith) (c .before .pad-clear .result) (c .before .pad-clear .ensures) (not-true _ (c .if3 .taken))
 
--- src/lists.rt:47:9
 add-slot : tie.Need-add-slot Inv-loop μ-loop
 add-slot c = let r = c .before .before .before .before .before .before .before .before .before .loop .inv in let A = c .before .before .before .before .before .before .before .before .before .before .before .args in let p = c .before .before .before .before .before .before .before .before .before .before .before .pre .0 in omega (arith, r .slot-is, p .elements, p .room, p .small)
 
--- src/lists.rt:48:9
 add-i : tie.Need-add-i Inv-loop μ-loop
 add-i c = omega arith
 
--- src/lists.rt:33:5
 loop-less : tie.Need-loop-less Inv-loop μ-loop
 loop-less c = omega arith
 
--- src/lists.rt:33:5
 loop-again : tie.Need-loop-again Inv-loop μ-loop
 loop-again c = let A = c .before .before .before .before .before .before .before .before .before .before .before .args in let B = c .before .before .before .before .before .before .before .before .before .before .before .args .b .now in let D = texts-slots B (A .n) (A .slots) (A .start) (c .before .before .before .before .before .before .before .before .before .before .before .pre .0) (bytes-of B (λ i. c .before .before .before .before .before .before .before .before .before .before .shared-slice-known .given i .fits)) in at-next 8 (texts (A .n)) B (A .n) (A .slots) (A .start) D (c .before .before .before .before .before .before .before .before .before .loop .i) (c .before .before .before .before .before .before .before .before .before .loop .slot) (c .before .before .before .before .before .before .before .before .before .loop .cur) (c .before .before .before .before .before .before .before .before .before .loop .inv) (c .before .before .before .before .before .before .before .before .loop-test .taken) string (text-kid (A .n) (c .before .before .before .before .before .before .before .before .before .loop .i) (c .before .before .before .before .before .before .before .before .loop-test .taken)) (c .before .before .before .before .before .before .before .before .before .before .before .pre .1 .none (c .before .before .before .before .before .before .before .before .before .loop .i) (c .before .before .before .before .before .before .before .before .loop-test .taken)) (c .before .before .before .before .before .before .before .get8 .result) (c .before .before .before .before .before .before .before .get8 .ensures) (c .before .before .before .before .before .before .slot-offset .result) (c .before .before .before .before .before .before .slot-offset .ensures) (c .before .before .before .before .before .if1 .left) (c .before .before .before .before .slot-size .result) (c .before .before .before .before .slot-size .ensures) (c .before .before .before .before .before .before .before .before .before .loop .cur + c .before .before .before .before .slot-size .result) (c .before .before .before .pad-size .result) refl (c .before .before .before .pad-size .ensures) (omega arith) (text-fine _) (c .before .pad-clear .result) (c .before .pad-clear .ensures) (not-false _ (c .if3 .left))
 
--- src/lists.rt:25:1
 returns-4 : tie.Need-returns-4 Inv-loop μ-loop
 returns-4 c = let A = c .before .before .before .args in let B = c .before .before .before .args .b .now in let D = texts-slots B (A .n) (A .slots) (A .start) (c .before .before .before .pre .0) (bytes-of B (λ i. c .before .before .shared-slice-known .given i .fits)) in at-end 8 (texts (A .n)) B (A .n) (A .slots) (A .start) D (c .before .loop .i) (c .before .loop .slot) (c .before .loop .cur) (c .before .loop .inv) (omega arith)
 

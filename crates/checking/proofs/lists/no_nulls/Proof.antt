@@ -6,9 +6,6 @@ use Rattle.words.proofs.Numbers.{bytes-of}
 use Rattle.checking.proofs.Leaves.{Clear, clear-start, clear-word, clear-end}
 use Rattle.checking.proofs.lists.no_nulls.Statement.{statement}
 use Rattle.checking.proofs.lists.no_nulls.Tie as tie
-use Rattle.checking.proofs.lists.no_nulls.Reads as reads
-use Rattle.checking.proofs.lists.no_nulls.Lts as lts
-use Rattle.words.proofs.nums.get8.Reads as get8-reads
 
 abbrev Inv-loop : tie.InvT-loop
 Inv-loop b n i₀ i = (i % 64 ≡ 0) × Clear b i
@@ -16,35 +13,27 @@ Inv-loop b n i₀ i = (i % 64 ≡ 0) × Clear b i
 abbrev μ-loop : tie.MeasureT-loop
 μ-loop b n i₀ i = n + 64 - i
 
--- src/lists.rt:15:5
 loop-holds : tie.Need-loop-holds Inv-loop μ-loop
 loop-holds c = (refl, clear-start (c .before .args .b .now))
 
--- src/lists.rt:16:33
 add-get8 : tie.Need-add-get8 Inv-loop μ-loop
 add-get8 c = omega (arith, c .before .before .before .pre .0, c .before .before .before .pre .1)
 
--- src/lists.rt:16:12
 get8-requires : tie.Need-get8-requires Inv-loop μ-loop
 get8-requires c κs = omega (arith, c .before .loop .inv .0, c .before .before .before .pre .1)
 
--- src/lists.rt:17:13
 returns : tie.Need-returns Inv-loop μ-loop
 returns c = tt
 
--- src/lists.rt:19:9
 add-i : tie.Need-add-i Inv-loop μ-loop
 add-i c = omega (arith, c .before .before .before .before .before .pre .0, c .before .before .before .before .before .pre .1)
 
--- src/lists.rt:15:5
 loop-less : tie.Need-loop-less Inv-loop μ-loop
 loop-less c = omega arith
 
--- src/lists.rt:15:5
 loop-again : tie.Need-loop-again Inv-loop μ-loop
 loop-again c = let B = c .before .before .before .before .before .args .b .now in (omega (arith, c .before .before .before .loop .inv .0), clear-word B (c .before .before .before .loop .i) _ (c .before .get8 .result) (bytes-of B (λ i. c .before .before .before .before .shared-slice-known .given i .fits)) (c .before .before .before .loop .inv .0) refl (c .before .get8 .ensures) (c .if1 .left) (c .before .before .before .loop .inv .1))
 
--- src/lists.rt:10:1
 returns-2 : tie.Need-returns-2 Inv-loop μ-loop
 returns-2 c = clear-end (c .before .before .before .args .b .now) (c .before .before .before .args .n) (c .before .loop .i) (omega arith) (c .before .loop .inv .1)
 

@@ -1,18 +1,14 @@
+-- `desk::kinds::of_bool` meets its contract. Assumes nothing.
 use Rattle.desk.proofs.kinds.of_bool.Statement.{statement}
 use Rattle.desk.proofs.Asking.{bool-false, bool-true, bool-none}
 use Rattle.desk.proofs.kinds.of_bool.Tie as tie
-use Rattle.desk.proofs.kinds.of_bool.Reads as reads
-use Rattle.desk.proofs.kinds.of_bool.Lts as lts
 
--- src/kinds.rt:13:9
 returns : tie.Need-returns
 returns c = λ u. bool-false _ (c .if1 .taken)
 
--- src/kinds.rt:16:9
 returns-2 : tie.Need-returns-2
 returns-2 c = λ u. bool-true _ (c .before .if1 .left) (c .if2 .taken)
 
--- src/kinds.rt:9:1
 returns-3 : tie.Need-returns-3
 returns-3 c = λ u. bool-none _ (c .before .if1 .left) (c .if2 .left)
 

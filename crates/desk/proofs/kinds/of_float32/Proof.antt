@@ -1,19 +1,15 @@
+-- `desk::kinds::of_float32` meets its contract. Assumes nothing.
 use borrow.Author.Needs.{needs}
 use Rattle.desk.proofs.Asking.{float-held, float-none}
 use Rattle.desk.proofs.kinds.of_float32.Statement.{statement}
 use Rattle.desk.proofs.kinds.of_float32.Tie as tie
-use Rattle.desk.proofs.kinds.of_float32.Reads as reads
-use Rattle.desk.proofs.kinds.of_float32.Lts as lts
 
--- src/kinds.rt:26:46
 cast-t3 : tie.Need-cast-t3
 cast-t3 c = search needs
 
--- src/kinds.rt:26:9
 returns : tie.Need-returns
 returns c = λ u. float-held _ (c .if1 .taken)
 
--- src/kinds.rt:22:1
 returns-2 : tie.Need-returns-2
 returns-2 c = λ u. float-none _ (c .if1 .left)
 

@@ -5,34 +5,25 @@ use Rattle.desk.proofs.Words.{put-short, put-done}
 use borrow.Author.Needs.{needs}
 use Rattle.desk.proofs.told.put.Statement.{statement}
 use Rattle.desk.proofs.told.put.Tie as tie
-use Rattle.desk.proofs.told.put.Reads as reads
-use Rattle.desk.proofs.told.put.Lts as lts
 
--- src/told.rt:15:9
 returns : tie.Need-returns
 returns c = put-short _ _ (c .if1 .taken)
 
--- src/told.rt:17:5
 slice-write-answer : tie.Need-slice-write-answer
 slice-write-answer c = search needs
 
--- src/told.rt:18:5
 slice-write-answer-2 : tie.Need-slice-write-answer-2
 slice-write-answer-2 c = simp length-set (omega (arith, c .if1 .left))
 
--- src/told.rt:19:5
 slice-write-answer-3 : tie.Need-slice-write-answer-3
 slice-write-answer-3 c = simp length-set (omega (arith, c .if1 .left))
 
--- src/told.rt:20:5
 slice-write-answer-4 : tie.Need-slice-write-answer-4
 slice-write-answer-4 c = search needs
 
--- src/told.rt:11:1
 same-length : tie.Need-same-length
 same-length c = search needs
 
--- src/told.rt:11:1
 returns-2 : tie.Need-returns-2
 returns-2 c = put-done _ _ _ _ _ (omega (arith, c .if1 .left))
 

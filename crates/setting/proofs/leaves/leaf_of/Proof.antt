@@ -6,12 +6,6 @@ use Rattle.setting.proofs.Fits.{leaf-null, leaf-as, leaf-number, bytes-
 use borrow.Author.Needs.{needs}
 use Rattle.setting.proofs.leaves.leaf_of.Statement.{statement}
 use Rattle.setting.proofs.leaves.leaf_of.Tie as tie
-use Rattle.setting.proofs.leaves.leaf_of.Reads as reads
-use Rattle.setting.proofs.leaves.leaf_of.Lts as lts
-use Rattle.setting.proofs.leaves.of_bool.Reads as of-bool-reads
-use Rattle.setting.proofs.leaves.of_float32.Reads as of-float32-reads
-use Rattle.setting.proofs.leaves.of_float64.Reads as of-float64-reads
-use Rattle.setting.proofs.leaves.of_number.Reads as of-number-reads
 
 enum-told : tie.Need-enum-told
 enum-told c = search needs

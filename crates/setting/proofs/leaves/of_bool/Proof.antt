@@ -3,9 +3,6 @@ use Rattle.setting.proofs.Fits.{bool-fits, bool-unfit}
 use borrow.Author.Needs.{needs}
 use Rattle.setting.proofs.leaves.of_bool.Statement.{statement}
 use Rattle.setting.proofs.leaves.of_bool.Tie as tie
-use Rattle.setting.proofs.leaves.of_bool.Reads as reads
-use Rattle.setting.proofs.leaves.of_bool.Lts as lts
-use Rattle.setting.proofs.leaves.digit_of.Reads as digit-of-reads
 
 digit-of-requires : tie.Need-digit-of-requires
 digit-of-requires c κs = search needs

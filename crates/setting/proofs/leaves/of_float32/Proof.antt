@@ -3,8 +3,6 @@ use Rattle.setting.proofs.Fits.{float32-fits, float32-unfit}
 use borrow.Author.Needs.{needs}
 use Rattle.setting.proofs.leaves.of_float32.Statement.{statement}
 use Rattle.setting.proofs.leaves.of_float32.Tie as tie
-use Rattle.setting.proofs.leaves.of_float32.Reads as reads
-use Rattle.setting.proofs.leaves.of_float32.Lts as lts
 
 returns : tie.Need-returns
 returns c = float32-fits (c .before .args .k) (search needs) (c .before .args .b) (c .before .fits .b .fits)

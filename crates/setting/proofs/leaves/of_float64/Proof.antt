@@ -3,8 +3,6 @@ use Rattle.setting.proofs.Fits.{float64-fits, float64-unfit}
 use borrow.Author.Needs.{needs}
 use Rattle.setting.proofs.leaves.of_float64.Statement.{statement}
 use Rattle.setting.proofs.leaves.of_float64.Tie as tie
-use Rattle.setting.proofs.leaves.of_float64.Reads as reads
-use Rattle.setting.proofs.leaves.of_float64.Lts as lts
 
 returns : tie.Need-returns
 returns c = float64-fits (c .before .args .k) (search needs) (c .before .args .b) (c .before .fits .b .fits)

@@ -5,11 +5,6 @@ use Rattle.setting.proofs.Fits.{number-bool, number-float, integer-is, 
 use borrow.Author.Needs.{needs}
 use Rattle.setting.proofs.leaves.of_number.Statement.{statement}
 use Rattle.setting.proofs.leaves.of_number.Tie as tie
-use Rattle.setting.proofs.leaves.of_number.Reads as reads
-use Rattle.setting.proofs.leaves.of_number.Lts as lts
-use Rattle.schema.proofs.width_of.Reads as width-of-reads
-use Rattle.words.proofs.signed.in_range.Reads as in-range-reads
-use Rattle.words.proofs.signed.of_signed.Reads as of-signed-reads
 
 returns : tie.Need-returns
 returns c = number-bool (c .before .args .k) (search needs) (c .before .args .z)

@@ -3,11 +3,6 @@ use Rattle.setting.proofs.Written.{seat-one, leaf-unfit, leaf-nulls, le
 use borrow.Author.Needs.{needs}
 use Rattle.setting.proofs.leaves.set_fixed.Statement.{statement}
 use Rattle.setting.proofs.leaves.set_fixed.Tie as tie
-use Rattle.setting.proofs.leaves.set_fixed.Reads as reads
-use Rattle.setting.proofs.leaves.set_fixed.Lts as lts
-use Rattle.setting.proofs.leaves.leaf_of.Reads as leaf-of-reads
-use Rattle.setting.proofs.puts.put_bits.Reads as put-bits-reads
-use Rattle.setting.proofs.puts.put_null.Reads as put-null-reads
 
 leaf-of-requires : tie.Need-leaf-of-requires
 leaf-of-requires c κs = search needs

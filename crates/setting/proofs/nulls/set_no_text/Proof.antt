@@ -3,9 +3,6 @@ use Rattle.setting.proofs.Written.{no-text-null, no-text-bool, no-text-
 use borrow.Author.Needs.{needs}
 use Rattle.setting.proofs.nulls.set_no_text.Statement.{statement}
 use Rattle.setting.proofs.nulls.set_no_text.Tie as tie
-use Rattle.setting.proofs.nulls.set_no_text.Reads as reads
-use Rattle.setting.proofs.nulls.set_no_text.Lts as lts
-use Rattle.words.proofs.copies.zero.Reads as zero-reads
 
 enum-told : tie.Need-enum-told
 enum-told c = search needs

@@ -6,10 +6,6 @@ use Rattle.setting.proofs.Settled.{container-refused, not-nothing, null
 use borrow.Author.Needs.{needs}
 use Rattle.setting.proofs.nulls.set_null.Statement.{statement}
 use Rattle.setting.proofs.nulls.set_null.Tie as tie
-use Rattle.setting.proofs.nulls.set_null.Reads as reads
-use Rattle.setting.proofs.nulls.set_null.Lts as lts
-use Rattle.setting.proofs.leaves.set_fixed.Reads as set-fixed-reads
-use Rattle.setting.proofs.nulls.set_no_text.Reads as set-no-text-reads
 
 enum-known-x : tie.Need-enum-known-x
 enum-known-x c = search needs

@@ -7,10 +7,6 @@ use Rattle.setting.proofs.Settled.{container-refused, not-nothing, plac
 use borrow.Author.Needs.{needs}
 use Rattle.setting.proofs.present.set_place.Statement.{statement}
 use Rattle.setting.proofs.present.set_place.Tie as tie
-use Rattle.setting.proofs.present.set_place.Reads as reads
-use Rattle.setting.proofs.present.set_place.Lts as lts
-use Rattle.setting.proofs.leaves.set_fixed.Reads as set-fixed-reads
-use Rattle.setting.proofs.present.set_text.Reads as set-text-reads
 
 enum-known-x : tie.Need-enum-known-x
 enum-known-x c = search needs

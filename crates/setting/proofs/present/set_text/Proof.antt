@@ -3,9 +3,6 @@ use Rattle.setting.proofs.Written.{text-null, text-bool, text-number, t
 use borrow.Author.Needs.{needs}
 use Rattle.setting.proofs.present.set_text.Statement.{statement}
 use Rattle.setting.proofs.present.set_text.Tie as tie
-use Rattle.setting.proofs.present.set_text.Reads as reads
-use Rattle.setting.proofs.present.set_text.Lts as lts
-use Rattle.words.proofs.copies.copy.Reads as copy-reads
 
 enum-told : tie.Need-enum-told
 enum-told c = search needs

@@ -7,10 +7,6 @@ use Rattle.words.specs.Bytes.{le}
 use borrow.Author.Needs.{needs}
 use Rattle.setting.proofs.puts.put_bits.Statement.{statement}
 use Rattle.setting.proofs.puts.put_bits.Tie as tie
-use Rattle.setting.proofs.puts.put_bits.Reads as reads
-use Rattle.setting.proofs.puts.put_bits.Lts as lts
-use Rattle.words.proofs.nulls.clear_null.Reads as clear-null-reads
-use Rattle.words.proofs.nums.put_num.Reads as put-num-reads
 
 clear-null-requires : tie.Need-clear-null-requires
 clear-null-requires c κs = search needs

@@ -7,10 +7,6 @@ use Rattle.words.specs.Bytes.{zeros}
 use borrow.Author.Needs.{needs}
 use Rattle.setting.proofs.puts.put_null.Statement.{statement}
 use Rattle.setting.proofs.puts.put_null.Tie as tie
-use Rattle.setting.proofs.puts.put_null.Reads as reads
-use Rattle.setting.proofs.puts.put_null.Lts as lts
-use Rattle.words.proofs.copies.zero.Reads as zero-reads
-use Rattle.words.proofs.nulls.set_null.Reads as set-null-reads
 
 set-null-requires : tie.Need-set-null-requires
 set-null-requires c κs = search needs

@@ -1,9 +1,9 @@
--- `writing::next_type` meets its contract. Assumes nothing.
+-- `schema::next_type` meets its contract. Assumes nothing.
 use native.Mathlib.Omega.{arith}
 use Rattle.schema.proofs.Places.{typed-marked, leaf-next}
 use borrow.Author.Needs.{needs}
-use Rattle.writing.proofs.next_type.Statement.{statement}
-use Rattle.writing.proofs.next_type.Tie as tie
+use Rattle.schema.proofs.next_type.Statement.{statement}
+use Rattle.schema.proofs.next_type.Tie as tie
 
 add-result : tie.Need-add-result
 add-result c = omega (arith, typed-marked (c .before .before .args .s .now) (c .before .before .args .at) (c .before .before .args .depth) (c .before .before .pre .0) .room)
