@@ -1,4 +1,4 @@
-// One call of the library for each op, and the line that it answers: where the line ends, 0 where there is no call.
+// One call of the library for each op, and its line. Each answers where the line ends: 0 where there is none.
 use crate::lines;
 use crate::requests::Head;
 use crate::tells;
@@ -48,7 +48,7 @@ fn list(line: &mut [u8], schema: &[u8], row: &[u8], out: &mut [u8]) -> usize {
     tells::tell_output(line, code, out)
 }
 
-// The row is set in a copy, since the schema lies beside it in what was read.
+// The row is set in a copy: its request lies in one piece, which the schema and the third are lent from too.
 fn set(
     h: Head,
     schema: &[u8],
@@ -76,7 +76,7 @@ fn set(
     tells::tell_bytes(line, code, &out[0..n])
 }
 
-// The text of a request; 0 where its op is none, or where its room is more than there is to lend.
+// 0 also where the room is more than there is to lend.
 pub fn answer<'a>(
     h: Head,
     schema: &'a [u8],

@@ -50,6 +50,7 @@ pub fn put_bits(line: &mut [u8], at: usize, n: u64, width: usize) -> usize {
     put_text(line, start, &digits[0..k])
 }
 
+// The digit of the lower half.
 fn hex_digit(n: u8) -> u8 {
     let d = n % 16;
     if d < 10 { 48 + d } else { 87 + d }

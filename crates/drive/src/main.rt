@@ -23,6 +23,7 @@ fn run(body: &mut [u8], out: &mut [u8], line: &mut [u8])
 }
 
 fn main() {
+    // The parts of the longest request, the longest output, and a line with that in hex.
     let mut body = [0u8; 92304];
     let mut out = [0u8; 70000];
     let mut line = [0u8; 140100];

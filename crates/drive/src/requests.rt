@@ -2,8 +2,18 @@
 ghost use Prim.Native.Nat.{_≤_};
 ghost use lib.ListN.{length};
 use crate::calls;
+use crate::lines;
 use libc::STDIN_FILENO;
 use libc::STDOUT_FILENO;
+
+// The longest parts that a request may have; what it may ask to be lent, `calls` says.
+const SCHEMA: usize = 2048;
+
+const SECOND: usize = 70000;
+
+const STEPS: usize = 64;
+
+const THIRD: usize = 20000;
 
 // The lengths count bytes, `steps` the steps of 4 bytes each, and `room` the bytes lent for an output.
 pub struct Head {
@@ -49,7 +59,7 @@ fn write_line(line: &mut [u8], end: usize) -> bool {
     if end == 0 {
         return false;
     }
-    let n = crate::lines::put_byte(line, end, b'\n');
+    let n = lines::put_byte(line, end, b'\n');
     if n <= line.len() {
         io::write_all(STDOUT_FILENO, &line[0..n]);
     }
@@ -61,19 +71,19 @@ fn serve(h: Head, body: &mut [u8], out: &mut [u8], line: &mut [u8]) -> bool
     requires { ⌜ 92304 ≤ length (now body) ⌝ }
 {
     let schema = h.schema;
-    if 2048 < schema {
+    if SCHEMA < schema {
         return false;
     }
     let second = h.second;
-    if 70000 < second {
+    if SECOND < second {
         return false;
     }
     let steps = h.steps;
-    if 64 < steps {
+    if STEPS < steps {
         return false;
     }
     let third = h.third;
-    if 20000 < third {
+    if THIRD < third {
         return false;
     }
     let second_end = schema + second;

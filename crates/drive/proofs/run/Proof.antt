@@ -5,9 +5,6 @@ use lib.ListN.{length}
 use native.Mathlib.Omega.{arith}
 use Rattle.drive.proofs.run.Statement.{statement}
 use Rattle.drive.proofs.run.Tie as tie
-use Rattle.drive.proofs.run.Reads as reads
-use Rattle.drive.proofs.run.Lts as lts
-use Rattle.drive.proofs.requests.next.Reads as next-reads
 
 abbrev Inv-loop : tie.InvT-loop
 Inv-loop body₀ out₀ line₀ left₀ body out line left = (92304 ≤ length body) × (length body ≡ length body₀) × (length out ≡ length out₀) × (length line ≡ length line₀)

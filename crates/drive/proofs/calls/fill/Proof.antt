@@ -2,12 +2,9 @@
 use mathlib.Core.Path.{_≡_}
 use Prim.Native.Nat.{_≤_, _-_}
 use lib.ListN.{length, length-set}
-use borrow.Author.Needs.{needs}
 use native.Mathlib.Omega.{arith}
 use Rattle.drive.proofs.calls.fill.Statement.{statement}
 use Rattle.drive.proofs.calls.fill.Tie as tie
-use Rattle.drive.proofs.calls.fill.Reads as reads
-use Rattle.drive.proofs.calls.fill.Lts as lts
 
 abbrev Inv-loop : tie.InvT-loop
 Inv-loop out₀ i₀ out i = (i ≤ length out) × (length out ≡ length out₀)

@@ -6,9 +6,6 @@ use borrow.Author.Needs.{needs}
 use native.Mathlib.Omega.{arith}
 use Rattle.drive.proofs.calls.take_steps.Statement.{statement}
 use Rattle.drive.proofs.calls.take_steps.Tie as tie
-use Rattle.drive.proofs.calls.take_steps.Reads as reads
-use Rattle.drive.proofs.calls.take_steps.Lts as lts
-use Rattle.words.proofs.nums.get4.Reads as get4-reads
 
 abbrev Inv-loop : tie.InvT-loop
 Inv-loop bytes steps₀ n i₀ steps i = (i ≤ n) × ((i ≤ length steps) × (length steps ≡ length steps₀))

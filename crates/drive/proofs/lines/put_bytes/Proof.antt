@@ -6,10 +6,6 @@ use borrow.Author.Needs.{needs}
 use native.Mathlib.Omega.{arith}
 use Rattle.drive.proofs.lines.put_bytes.Statement.{statement}
 use Rattle.drive.proofs.lines.put_bytes.Tie as tie
-use Rattle.drive.proofs.lines.put_bytes.Reads as reads
-use Rattle.drive.proofs.lines.put_bytes.Lts as lts
-use Rattle.drive.proofs.lines.hex_digit.Reads as hex-digit-reads
-use Rattle.drive.proofs.lines.put_byte.Reads as put-byte-reads
 
 abbrev Inv-loop : tie.InvT-loop
 Inv-loop line₀ at bytes end₀ i₀ line end i = (i ≤ length bytes) × (length line ≡ length line₀)

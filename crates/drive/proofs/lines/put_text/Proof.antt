@@ -6,9 +6,6 @@ use borrow.Author.Needs.{needs}
 use native.Mathlib.Omega.{arith}
 use Rattle.drive.proofs.lines.put_text.Statement.{statement}
 use Rattle.drive.proofs.lines.put_text.Tie as tie
-use Rattle.drive.proofs.lines.put_text.Reads as reads
-use Rattle.drive.proofs.lines.put_text.Lts as lts
-use Rattle.drive.proofs.lines.put_byte.Reads as put-byte-reads
 
 abbrev Inv-loop : tie.InvT-loop
 Inv-loop line₀ at text end₀ i₀ line end i = (i ≤ length text) × (length line ≡ length line₀)
