@@ -14,6 +14,7 @@ import answers
 import cases
 import requests
 import rows
+import sequences
 from rows import BYTES, LIST, MAP, Null
 from trees import plain, replaced, tree_values
 
@@ -223,6 +224,11 @@ def main():
     for number in range(3):
         for req in requests.batch(args.seed, number):
             assert answers.within_rooms(req)
+            assert answers.decode(answers.encode(req)) == req
+    # Settings of the tree and of the bytes, and readings of both, many in a row.
+    for number in range(30):
+        for req, line in sequences.sequence(args.seed, number):
+            assert answers.answer(req) == line
             assert answers.decode(answers.encode(req)) == req
     print(', '.join('%s %d' % item for item in tally.items()))
     print('%d scenes hold' % args.scenes)
