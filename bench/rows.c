@@ -51,5 +51,9 @@ int make_sample(struct sample *s, const char *kind, unsigned n) {
         s->row_len = 8 + 16 + 48; s->children = 2;
         for (unsigned i = 0; i < 2; i++) { slot(s->row + 8 + 8 * i, 24 + 24 * i, 24); put(s->row + 24 + 24 * i + 8, 1000 + i, 4); put(s->row + 24 + 24 * i + 16, 5, 4); }
     } else return 0;
+    const uint32_t middle[] = {0, n / 2, 1}, field[] = {n / 2}, chord[] = {1, 1};
+    int top = !strcmp(kind, "fields"), two = !strcmp(kind, "strokes");
+    s->steps = top ? 1 : two || strcmp(kind, "structs") ? 2 : 3;
+    memcpy(s->path, top ? field : two ? chord : middle, s->steps * sizeof *s->path);
     return 1;
 }

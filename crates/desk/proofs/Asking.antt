@@ -27,8 +27,9 @@ use Rattle.answers.specs.declared.Outcome.{Outcome as Done}
 use Rattle.answers.specs.Meaning.{outcomeMeans}
 use Rattle.answers.specs.Paths.{pathOf}
 use Rattle.answers.proofs.PathLaws.{length-path}
-use Rattle.row.specs.Demand1.{ReadNumber, ReadGives}
+use Rattle.row.specs.Demand1.{ReadGives}
 use Rattle.row.specs.Demand1 as D
+use Rattle.row.proofs.Among.{not-among}
 use Rattle.desk.specs.Asked.{boolOf, float32Of, askedOf, orEight, unfitOf, setAsked, Leaves}
 use Rattle.desk.specs.Codes.{verdictCode}
 use Rattle.desk.specs.Steps.{Taken}
@@ -84,24 +85,20 @@ module _ (kind v : ℕ) (u : List ℕ) where
 
 -- ---- a setting that is none
 
--- no refusal of reading has the number 0
-nonzero : {n : ℕ} → ReadNumber n → n ≡ 0 → ⊥
-nonzero D.one e = omega arith
-nonzero D.three e = omega arith
-nonzero D.five e = omega arith
-nonzero D.six e = omega arith
-nonzero D.seven e = omega arith
+no-number : (n : ℕ) → none ≡ some n → ⊥
+no-number n e = let z : _≡_ {A = ℕ} 0 1 = cc in omega arith
 
+-- no refusal of reading has the number 0
 gives-nonzero : (a : Answer) (n : ℕ) → ReadGives a → refusalIn a ≡ some n → n ≡ 0 → ⊥
 unfolding refusalIn
-gives-nonzero R.null n D.null e q = let z : _≡_ {A = ℕ} 0 1 = cc in omega arith
-gives-nonzero (R.bool v) n D.bool e q = let z : _≡_ {A = ℕ} 0 1 = cc in omega arith
-gives-nonzero (R.signed z) n D.signed e q = let z : _≡_ {A = ℕ} 0 1 = cc in omega arith
-gives-nonzero (R.float32 m) n D.float32 e q = let z : _≡_ {A = ℕ} 0 1 = cc in omega arith
-gives-nonzero (R.float64 m) n D.float64 e q = let z : _≡_ {A = ℕ} 0 1 = cc in omega arith
-gives-nonzero (R.bytes o m) n D.bytes e q = let z : _≡_ {A = ℕ} 0 1 = cc in omega arith
-gives-nonzero (R.container o m k) n D.container e q = let z : _≡_ {A = ℕ} 0 1 = cc in omega arith
-gives-nonzero (R.refused m) n (D.refused g) e q = let z : m ≡ n = cc in nonzero g (z ∙ q)
+gives-nonzero a n D.null e q = no-number n e
+gives-nonzero a n D.bool e q = no-number n e
+gives-nonzero a n D.signed e q = no-number n e
+gives-nonzero a n D.float32 e q = no-number n e
+gives-nonzero a n D.float64 e q = no-number n e
+gives-nonzero a n D.bytes e q = no-number n e
+gives-nonzero a n D.container e q = no-number n e
+gives-nonzero a n (D.refused {n = m} o) e q = let z : m ≡ n = cc in not-among 0 o refl (z ∙ q)
 
 -- the refusals of the row by their tests, and then d
 first : Bool → Bool → Bool → Option ℕ → Option ℕ

@@ -2,3 +2,4 @@ pub mod Codes
 pub mod Words
 pub mod Steps
 pub mod Asking
+pub mod Unique

@@ -19,8 +19,9 @@ use Rattle.answers.specs.declared.Refusal.{Refusal}
 use Rattle.answers.specs.declared.Answer.{Answer as Case}
 use Rattle.answers.specs.declared.Answer.the-variants as A
 use Rattle.answers.specs.Meaning.{numberOf, plain, float, floatMeans, nanMeans, meaning}
-use Rattle.row.specs.Demand1.{ReadNumber, ReadGives}
+use Rattle.row.specs.Demand1.{ReadGives}
 use Rattle.row.specs.Demand1 as D
+use Rattle.row.proofs.Among.{not-among}
 use Rattle.desk.specs.Words.{wordsOf, Tells, Puts}
 use Rattle.desk.proofs.Codes.{number-small}
 
@@ -31,15 +32,8 @@ pub put-done : (k a b c : ℕ) (out : List ℕ) → 4 ≤ length out → Puts (k
 put-done k a b c out h = record { answers = rw (le-leb 4 (length out) h); leaves = rw (le-leb 4 (length out) h) refl }
 
 -- no answer of reading is a float case without its float
-nonzero : {n : ℕ} → ReadNumber n → n ≡ 0 → ⊥
-nonzero D.one e = omega arith
-nonzero D.three e = omega arith
-nonzero D.five e = omega arith
-nonzero D.six e = omega arith
-nonzero D.seven e = omega arith
-
 no-zero : ReadGives (R.refused 0) → ⊥
-no-zero (D.refused q) = nonzero q refl
+no-zero (D.refused o) = not-among 0 o refl refl
 
 module _ (out out′ : List ℕ) (r : ℕ) where
   told : (a : Answer) → refusalIn a ≡ none → Puts (wordsOf a) out r out′ → Tells a out r out′

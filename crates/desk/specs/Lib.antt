@@ -3,3 +3,4 @@ pub mod Codes
 pub mod Words
 pub mod Steps
 pub mod Asked
+pub mod Unique

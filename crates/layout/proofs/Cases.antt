@@ -1,4 +1,4 @@
--- The cases of document 01 that the layout's definitions decide, computed: one statement. Assumes nothing.
+-- The definitions of the layout at the cases of document 01, and at more, computed: one statement. Assumes nothing.
 use mathlib.Core.Path.{_≡_, refl}
 use mathlib.Core.Bool.{true, false}
 use mathlib.Core.Option.{Option, none, some}

@@ -1,12 +1,11 @@
--- The numbers that reading refuses with are 1, 3, 5, 6 and 7. Assumes nothing.
-use mathlib.Core.Path.{_≡_, refl, sym, ap, _∙_}
+-- The numbers that reading refuses with: 1, 3, and at the walk 5, 6 and 7. Assumes nothing.
+use mathlib.Core.Path.{_≡_, refl}
 use mathlib.Core.Bool.{Bool, true, false}
 use mathlib.Core.Option.{Option, none, some}
 use mathlib.Core.List.{List, [], _∷_}
 use Prim.Native.Nat.{ℕ, zero, suc, _+_, _*_, _/_, _%_, _^_}
 use native.Mathlib.Decide.{decLe, decLt, ℕ-discrete}
-use native.Mathlib.Omega.{arith}
-use lib.ListN.{length, take, drop}
+use lib.ListN.{length, take}
 use lib.Dec.{leb}
 use Rattle.words.specs.Bytes.{num, part, bitmap}
 use Rattle.schema.specs.Types.{Fixed, bo, i1, i2, i4, i8, f4, f8, Ty, fix, text, li, ma, ro, Tys, count, field}
@@ -16,30 +15,41 @@ use Rattle.schema.specs.declared.Judged.{Judged}
 use Rattle.schema.specs.declared.Judged.the-variants.{Accepted, Refused}
 use Rattle.layout.specs.Layout.{slotOf, front, limit, codec}
 use Rattle.layout.specs.Walk.{Seat, Seen, bad, nullAt, seen, Step, stop, toNull, into, must, mustStep, own, bySlot, byFlag, seatOf, child, stepIn, goOn, rootSeat, walk}
-use Rattle.layout.specs.Reading as R
 use Rattle.layout.specs.Reading.{Answer, valueOf, placed, answerOf, found, readIn}
 use Rattle.layout.specs.Entries.{readOf}
-use Rattle.answers.specs.Meaning.{Numbered}
-use Rattle.row.specs.Demand1.{ReadNumber, one, three, five, six, seven, ReadGives}
+use Rattle.row.specs.Demand1.{OneOf, here, there, Gives, ReadGives}
 use Rattle.row.specs.Demand1 as D
+
+-- the numbers of the walk
+abbrev walks : List ℕ
+walks = 5 ∷ 6 ∷ 7 ∷ []
+
+five : OneOf walks 5
+five = here
+
+six : OneOf walks 6
+six = there here
+
+seven : OneOf walks 7
+seven = there (there here)
 
 -- what a walk may find
 data Fair : Seen → Type 0 where
-  refuses : {n : ℕ} → ReadNumber n → Fair (bad n)
+  refuses : {n : ℕ} → OneOf walks n → Fair (bad n)
   absent : {z : Seat} → Fair (nullAt z)
   present : {z : Seat} {o : ℕ} {b : List ℕ} → Fair (seen z o b)
 
 data FairStep : Step → Type 0 where
-  refuses : {n : ℕ} → ReadNumber n → FairStep (stop n)
+  refuses : {n : ℕ} → OneOf walks n → FairStep (stop n)
   absent : {z : Seat} → FairStep (toNull z)
   present : {t : Ty} {z : Seat} {o : ℕ} {b : List ℕ} → FairStep (into t z o b)
 
-fair-must : {P : Type 0} (d : Dec P) (n : ℕ) (v : Seen) → ReadNumber n → Fair v → Fair (must d n v)
+fair-must : {P : Type 0} (d : Dec P) (n : ℕ) (v : Seen) → OneOf walks n → Fair v → Fair (must d n v)
 unfolding must
 fair-must (yes _) n v q f = f
 fair-must (no _) n v q f = Fair.refuses q
 
-fair-step : {P : Type 0} (d : Dec P) (n : ℕ) (v : Step) → ReadNumber n → FairStep v → FairStep (mustStep d n v)
+fair-step : {P : Type 0} (d : Dec P) (n : ℕ) (v : Step) → OneOf walks n → FairStep v → FairStep (mustStep d n v)
 unfolding mustStep
 fair-step (yes _) n v q f = f
 fair-step (no _) n v q f = FairStep.refuses q
@@ -95,7 +105,7 @@ walk-fair (i ∷ p) t z o b = own-fair t b _ (on-fair p (λ t s o b. walk p t s 
 
 -- ---- answers
 
-value-gives : (f : Fixed) (b : List ℕ) → ReadGives (valueOf f b)
+value-gives : (f : Fixed) (b : List ℕ) → Gives walks (valueOf f b)
 unfolding valueOf
 value-gives bo b = D.bool
 value-gives i1 b = D.signed
@@ -105,7 +115,7 @@ value-gives i8 b = D.signed
 value-gives f4 b = D.float32
 value-gives f8 b = D.float64
 
-answer-gives : (t : Ty) (v : Seen) → Fair v → ReadGives (answerOf t v)
+answer-gives : (t : Ty) (v : Seen) → Fair v → Gives walks (answerOf t v)
 unfolding answerOf
 answer-gives t v (Fair.refuses q) = D.refused q
 answer-gives t v Fair.absent = D.null
@@ -115,24 +125,31 @@ answer-gives (li t) v Fair.present = D.container
 answer-gives (ma k w) v Fair.present = D.container
 answer-gives (ro ts) v Fair.present = D.container
 
-found-gives : (o : Option Ty) (v : Seen) → Fair v → ReadGives (found o v)
+found-gives : (o : Option Ty) (v : Seen) → Fair v → Gives walks (found o v)
 unfolding found
 found-gives none v f = D.refused five
 found-gives (some t) v f = answer-gives t v f
 
+-- what a place reads as in a row that is not too long
+pub place-gives : (ts : Tys) (row p : List ℕ) → Gives walks (readIn ts row p)
+unfolding readIn
+place-gives ts row p = found-gives (placed p (ro ts)) _ (walk-fair p (ro ts) rootSeat 0 row)
+
+after-two : (a : Answer) → Gives walks a → ReadGives a
+after-two a D.null = D.null
+after-two a D.bool = D.bool
+after-two a D.signed = D.signed
+after-two a D.float32 = D.float32
+after-two a D.float64 = D.float64
+after-two a D.bytes = D.bytes
+after-two a D.container = D.container
+after-two a (D.refused o) = D.refused (there (there o))
+
 pub read-gives : (s row p : List ℕ) → ReadGives (readOf s row p)
-unfolding readOf readIn
+unfolding readOf
 read-gives s row p = by-schema (judged s) refl (leb (length row) 16384) refl
   where
     by-schema : (j : Judged) → judged s ≡ j → (v : Bool) → leb (length row) 16384 ≡ v → ReadGives (readOf s row p)
-    by-schema Refused a v h = rw a (D.refused one)
-    by-schema Accepted a false h = rw (a, h) (D.refused three)
-    by-schema Accepted a true h = rw (a, h) (found-gives (placed p (ro (fieldsOf s))) _ (walk-fair p (ro (fieldsOf s)) rootSeat 0 row))
-
--- so none has the number 0, which is no refusal, nor 4, which has a length
-number-not : {n : ℕ} → ReadNumber n → (n ≡ 0 → ⊥) × (n ≡ 4 → ⊥)
-number-not one = (λ e. omega arith, λ e. omega arith)
-number-not three = (λ e. omega arith, λ e. omega arith)
-number-not five = (λ e. omega arith, λ e. omega arith)
-number-not six = (λ e. omega arith, λ e. omega arith)
-number-not seven = (λ e. omega arith, λ e. omega arith)
+    by-schema Refused a v h = rw a (D.refused here)
+    by-schema Accepted a false h = rw (a, h) (D.refused (there here))
+    by-schema Accepted a true h = rw (a, h) (after-two (readIn (fieldsOf s) row p) (place-gives (fieldsOf s) row p))

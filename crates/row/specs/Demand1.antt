@@ -1,25 +1,61 @@
--- Demand 1, as it is read: every answer is a result or one of the numbers that the document gives its entry. Assumes nothing: these
--- are definitions.
+-- Demand 1, as it is read: every answer is a result or one of the numbers that the document gives its entry, and a refusal leaves every
+-- lent byte. Assumes nothing: these are definitions.
+use mathlib.Core.Path.{_≡_}
 use mathlib.Core.Bool.{Bool}
-use Prim.Native.Nat.{ℕ}
+use mathlib.Core.List.{List, [], _∷_}
+use Prim.Native.Nat.{ℕ, _≤_, _<_}
 use lib.IntN.{ℤ}
+use lib.ListN.{length}
 use Rattle.layout.specs.Reading as R
 use Rattle.layout.specs.Reading.{Answer}
+use Rattle.layout.specs.Setting as S
+use Rattle.layout.specs.Setting.{Setting, Outcome}
+use Rattle.layout.specs.Entries as E
+use Rattle.layout.specs.Entries.{Verdict, Sized, judgeOf, checkOf, writeOf, writtenOf, listOf, listedOf, readOf, setOf, rowAfter}
 
--- the numbers that reading refuses with
-pub data ReadNumber : ℕ → Type 0 where
-  one : ReadNumber 1
-  three : ReadNumber 3
-  five : ReadNumber 5
-  six : ReadNumber 6
-  seven : ReadNumber 7
+pub data OneOf : List ℕ → ℕ → Type 0 where
+  here : {n : ℕ} {ns : List ℕ} → OneOf (n ∷ ns) n
+  there : {m n : ℕ} {ns : List ℕ} → OneOf ns n → OneOf (m ∷ ns) n
 
-pub data ReadGives : Answer → Type 0 where
-  null : ReadGives R.null
-  bool : {v : Bool} → ReadGives (R.bool v)
-  signed : {z : ℤ} → ReadGives (R.signed z)
-  float32 : {n : ℕ} → ReadGives (R.float32 n)
-  float64 : {n : ℕ} → ReadGives (R.float64 n)
-  bytes : {o n : ℕ} → ReadGives (R.bytes o n)
-  container : {o n k : ℕ} → ReadGives (R.container o n k)
-  refused : {n : ℕ} → ReadNumber n → ReadGives (R.refused n)
+-- done, or one of the numbers
+pub data Ends (ns : List ℕ) : Verdict → Type 0 where
+  done : Ends ns E.done
+  refused : {n : ℕ} → OneOf ns n → Ends ns (E.refused n)
+
+-- a length within the room; or one of the numbers, with the length 0; or 4, with the length needed, which is over the room
+pub data Fills (ns : List ℕ) (room : ℕ) : Sized → Type 0 where
+  takes : {n : ℕ} → n ≤ room → Fills ns room (E.takes n)
+  refused : {n : ℕ} → OneOf ns n → Fills ns room (E.refusedWith n 0)
+  short : {n : ℕ} → room < n → Fills ns room (E.refusedWith 4 n)
+
+-- a value, or one of the numbers
+pub data Gives (ns : List ℕ) : Answer → Type 0 where
+  null : Gives ns R.null
+  bool : {v : Bool} → Gives ns (R.bool v)
+  signed : {z : ℤ} → Gives ns (R.signed z)
+  float32 : {n : ℕ} → Gives ns (R.float32 n)
+  float64 : {n : ℕ} → Gives ns (R.float64 n)
+  bytes : {o n : ℕ} → Gives ns (R.bytes o n)
+  container : {o n k : ℕ} → Gives ns (R.container o n k)
+  refused : {n : ℕ} → OneOf ns n → Gives ns (R.refused n)
+
+-- a row, or one of the numbers
+pub data Sets (ns : List ℕ) : Outcome → Type 0 where
+  becomes : {row′ : List ℕ} → Sets ns (S.becomes row′)
+  refused : {n : ℕ} → OneOf ns n → Sets ns (S.refuses n)
+
+-- what reading gives
+abbrev pub ReadGives : Answer → Type 0
+ReadGives = Gives (1 ∷ 3 ∷ 5 ∷ 6 ∷ 7 ∷ [])
+
+pub record Demand1 : Type 0 where
+  pub judge : (s : List ℕ) → Ends (1 ∷ []) (judgeOf s)
+  pub check : (s row : List ℕ) → Ends (1 ∷ 3 ∷ 7 ∷ []) (checkOf s row)
+  pub write : (s l : List ℕ) (room : ℕ) → Fills (1 ∷ 2 ∷ 3 ∷ []) room (writeOf s l room)
+  pub list : (s row : List ℕ) (room : ℕ) → Fills (1 ∷ 3 ∷ 7 ∷ []) room (listOf s row room)
+  pub read : (s row p : List ℕ) → ReadGives (readOf s row p)
+  pub set : (s row p : List ℕ) (x : Setting) → Sets (1 ∷ 3 ∷ 7 ∷ 5 ∷ 6 ∷ 8 ∷ 9 ∷ []) (setOf s row p x)
+  -- a refusal leaves every lent byte
+  pub write-leaves : (s l out : List ℕ) (n k : ℕ) → writeOf s l (length out) ≡ E.refusedWith n k → writtenOf s l out ≡ out
+  pub list-leaves : (s row out : List ℕ) (n k : ℕ) → listOf s row (length out) ≡ E.refusedWith n k → listedOf s row out ≡ out
+  pub set-leaves : (s row p : List ℕ) (x : Setting) (n : ℕ) → setOf s row p x ≡ S.refuses n → rowAfter (setOf s row p x) row ≡ row
