@@ -10,7 +10,7 @@ import random
 
 import answers
 import rows
-from rows import BOOL, BYTES, INT, LIST, MAP, STRUCT, Null
+from rows import BOOL, BYTES, FLOAT, INT, LIST, MAP, STRUCT, Null
 
 BATCH = 1000
 
@@ -261,6 +261,8 @@ class Maker:
         kind = t.kind
         if kind == BOOL:
             return bytes([self.below(2)])
+        if kind == FLOAT and self.chance(0.3):
+            return self.one(FLOATS32 if t.width == 4 else FLOATS64).to_bytes(t.width, 'little')
         if not t.varying:
             return self.number_bytes(t.width)
         if kind == BYTES:
@@ -592,7 +594,7 @@ class Maker:
                 value = self.one((0, 1, -1, half - 1, -half, half, -half - 1, 2 * half - 1, 2 * half,
                                   1 << 32, -(1 << 63), (1 << 63) - 1))
             return 2, value % (1 << 64), b'' if self.chance(0.9) else self.junk(3)
-        if t.kind == rows.FLOAT:
+        if t.kind == FLOAT:
             if t.width == 4:
                 if self.chance(0.1):
                     return 3, self.one((1 << 32, (1 << 32) + 1, (1 << 64) - 1, 1 << 63)), b''

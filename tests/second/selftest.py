@@ -14,7 +14,9 @@ import answers
 import cases
 import requests
 import rows
-from rows import BOOL, BYTES, FLOAT, INT, LIST, MAP, STRUCT, Null
+import sequences
+from rows import BYTES, LIST, MAP, Null
+from trees import plain, replaced, tree_values
 
 
 def refusal(call, *args):
@@ -25,33 +27,6 @@ def refusal(call, *args):
         assert r.length == 0 or r.number == 4
         return r.number
     return None
-
-
-def tree_values(t, cell, path, found):
-    """What each path of the contents must read as, without ranges."""
-    if isinstance(cell, Null):
-        found[path] = ('null',)
-    elif t.kind == BOOL:
-        found[path] = ('bool', cell[0])
-    elif t.kind == INT:
-        found[path] = ('number', int.from_bytes(cell, 'little', signed=True))
-    elif t.kind == FLOAT:
-        found[path] = ('float%d' % (8 * t.width), int.from_bytes(cell, 'little'))
-    elif t.kind == BYTES:
-        found[path] = ('bytes', cell)
-    else:
-        found[path] = ('container', len(cell))
-        for i, part in enumerate(cell):
-            tree_values(t.parts[0] if t.kind == LIST else t.parts[i], part, path + (i,), found)
-
-
-def plain(row, value):
-    """An answer without its ranges: a string's bytes, a container's count."""
-    if value[0] == 'bytes':
-        return ('bytes', row[value[1]:value[1] + value[2]])
-    if value[0] == 'container':
-        return ('container', value[3])
-    return value
 
 
 def all_values(schema, row, paths):
@@ -101,37 +76,6 @@ def rebuilt(root, row):
     except (rows.Refused, TooMany):
         return None
     return rows.content(root, tree) if equal_counts(root, tree) else None
-
-
-def replaced(root, cell, path, setting):
-    """The contents with one leaf set, or a refusal; by the tree, not by the bytes."""
-    if not path:
-        raise rows.Refused(8)
-    cell = list(cell)
-    step = path[0]
-    t = root.parts[0] if root.kind == LIST else root.parts[step]
-    if step >= len(cell):
-        raise rows.Refused(5)
-    part = cell[step]
-    if len(path) > 1:
-        if isinstance(part, Null):
-            raise rows.Refused(6)
-        cell[step] = replaced(t, part, path[1:], setting)
-        return cell
-    if root.kind == MAP or not rows.fits(t, setting):
-        raise rows.Refused(8)
-    room = 8 if root.kind == STRUCT else t.room
-    if setting[0] == 'null':
-        if t.kind == BYTES and not isinstance(part, Null):
-            raise rows.Refused(9)
-        cell[step] = Null(bytes(room))
-    elif t.kind == BYTES:
-        if isinstance(part, Null) or len(part) != len(setting[1]):
-            raise rows.Refused(9)
-        cell[step] = setting[1]
-    else:
-        cell[step] = (setting[1] % (1 << 8 * t.width)).to_bytes(t.width, 'little')
-    return cell
 
 
 def check_contents(root, schema, cells, row, listing):
@@ -280,6 +224,11 @@ def main():
     for number in range(3):
         for req in requests.batch(args.seed, number):
             assert answers.within_rooms(req)
+            assert answers.decode(answers.encode(req)) == req
+    # Settings of the tree and of the bytes, and readings of both, many in a row.
+    for number in range(30):
+        for req, line in sequences.sequence(args.seed, number):
+            assert answers.answer(req) == line
             assert answers.decode(answers.encode(req)) == req
     print(', '.join('%s %d' % item for item in tally.items()))
     print('%d scenes hold' % args.scenes)

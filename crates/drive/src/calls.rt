@@ -1,0 +1,105 @@
+// One call of the library for each op, and its line. Each answers where the line ends: 0 where there is none.
+use crate::lines;
+use crate::requests::Head;
+use crate::tells;
+ghost use Prim.Native.Nat.{_≤_};
+ghost use lib.ListN.{length};
+
+// The steps from their bytes, and how many there are.
+fn take_steps(bytes: &[u8], steps: &mut [u32]) -> usize
+    ensures { λ r. ⌜ r ≤ length (now (steps .exit)) ⌝ }
+{
+    let n = bytes.len() / 4;
+    let mut i = 0;
+    while i < n {
+        if steps.len() <= i {
+            break;
+        }
+        steps[i] = words::nums::get4(bytes, 4 * i) as u32;
+        i += 1;
+    }
+    i
+}
+
+fn path_of(bytes: &[u8]) -> answers::Path {
+    let mut steps = [0u32; 64];
+    let n = take_steps(bytes, &mut steps);
+    desk::path_of(&steps[0..n])
+}
+
+// What the lent bytes hold before a call.
+fn fill(out: &mut [u8]) {
+    let mut i = 0;
+    while i < out.len() {
+        out[i] = 0xAA;
+        i += 1;
+    }
+}
+
+fn write(line: &mut [u8], schema: &[u8], listing: &[u8], out: &mut [u8]) -> usize {
+    fill(out);
+    let code = desk::loaf_write(schema, listing, out);
+    tells::tell_output(line, code, out)
+}
+
+fn list(line: &mut [u8], schema: &[u8], row: &[u8], out: &mut [u8]) -> usize {
+    fill(out);
+    let code = desk::loaf_list(schema, row, out);
+    tells::tell_output(line, code, out)
+}
+
+// The row is set in a copy: its request lies in one piece, which the schema and the third are lent from too.
+fn set(
+    h: Head,
+    schema: &[u8],
+    row: &[u8],
+    steps: &[u8],
+    third: &[u8],
+    out: &mut [u8],
+    line: &mut [u8],
+) -> usize {
+    let n = row.len();
+    if out.len() < n {
+        return 0;
+    }
+    words::copies::copy(out, 0, row, 0, n);
+    let mut path = [0u32; 64];
+    let k = take_steps(steps, &mut path);
+    let code = desk::loaf_set(
+        schema,
+        &mut out[0..n],
+        &path[0..k],
+        h.kind as u32,
+        h.value,
+        third,
+    );
+    tells::tell_bytes(line, code, &out[0..n])
+}
+
+// 0 also where the room is more than there is to lend.
+pub fn answer<'a>(
+    h: Head,
+    schema: &'a [u8],
+    second: &'a [u8],
+    steps: &'a [u8],
+    third: &'a [u8],
+    out: &mut [u8],
+    line: &mut [u8],
+) -> usize {
+    let room = h.room;
+    if out.len() < room {
+        return 0;
+    }
+    let op = h.op;
+    match op {
+        b'j' => tells::tell_verdict(line, desk::loaf_judge(schema)),
+        b'c' => tells::tell_verdict(line, desk::loaf_check(schema, second)),
+        b'w' => write(line, schema, second, &mut out[0..room]),
+        b'l' => list(line, schema, second, &mut out[0..room]),
+        b's' => set(h, schema, second, steps, third, out, line),
+        b'r' => tells::tell_answer(line, row::read(schema, second, path_of(steps))),
+        b'o' => tells::tell_answer(line, row::ask_once(schema, second, path_of(steps))),
+        b't' => lines::put_bytes(line, 0, row::text_or(schema, second, path_of(steps), third)),
+        _ => 0,
+    }
+}

@@ -1,0 +1,122 @@
+// A request: its head, and the parts that it announces.
+ghost use Prim.Native.Nat.{_≤_};
+ghost use lib.ListN.{length};
+use crate::calls;
+use crate::lines;
+use libc::STDIN_FILENO;
+use libc::STDOUT_FILENO;
+
+// The longest parts that a request may have; what it may ask to be lent, `calls` says.
+const SCHEMA: usize = 2048;
+
+const SECOND: usize = 70000;
+
+const STEPS: usize = 64;
+
+const THIRD: usize = 20000;
+
+// The lengths count bytes, `steps` the steps of 4 bytes each, and `room` the bytes lent for an output.
+pub struct Head {
+    pub op: u8,
+    pub schema: usize,
+    pub second: usize,
+    pub steps: usize,
+    pub room: usize,
+    pub third: usize,
+    pub kind: u8,
+    pub value: u64,
+}
+
+pub enum Start {
+    Nothing,
+    Cut,
+    Request(Head),
+}
+
+fn read_head() -> Start {
+    let mut bytes = [0u8; 30];
+    let n = io::read_full(STDIN_FILENO, &mut bytes);
+    if n == 0 {
+        return Start::Nothing;
+    }
+    if n < 30 {
+        return Start::Cut;
+    }
+    Start::Request(Head {
+        op: bytes[0],
+        schema: words::nums::get4(&bytes, 1),
+        second: words::nums::get4(&bytes, 5),
+        steps: words::nums::get4(&bytes, 9),
+        room: words::nums::get4(&bytes, 13),
+        third: words::nums::get4(&bytes, 17),
+        kind: bytes[21],
+        value: words::nums::get8(&bytes, 22),
+    })
+}
+
+// The line of a request, written; false where it has none.
+fn write_line(line: &mut [u8], end: usize) -> bool {
+    if end == 0 {
+        return false;
+    }
+    let n = lines::put_byte(line, end, b'\n');
+    if n <= line.len() {
+        io::write_all(STDOUT_FILENO, &line[0..n]);
+    }
+    true
+}
+
+// The parts of a request and its line; false where it is beyond the limits, cut short, or of no op.
+fn serve(h: Head, body: &mut [u8], out: &mut [u8], line: &mut [u8]) -> bool
+    requires { ⌜ 92304 ≤ length (now body) ⌝ }
+{
+    let schema = h.schema;
+    if SCHEMA < schema {
+        return false;
+    }
+    let second = h.second;
+    if SECOND < second {
+        return false;
+    }
+    let steps = h.steps;
+    if STEPS < steps {
+        return false;
+    }
+    let third = h.third;
+    if THIRD < third {
+        return false;
+    }
+    let second_end = schema + second;
+    let steps_end = second_end + 4 * steps;
+    let end = steps_end + third;
+    if io::read_full(STDIN_FILENO, &mut body[0..end]) < end {
+        return false;
+    }
+    let whole = &body[..];
+    let n = calls::answer(
+        h,
+        &whole[0..schema],
+        &whole[schema..second_end],
+        &whole[second_end..steps_end],
+        &whole[steps_end..end],
+        out,
+        line,
+    );
+    write_line(line, n)
+}
+
+fn end_run() -> bool {
+    io::write_all(STDOUT_FILENO, b"end\n");
+    false
+}
+
+// Whether the run goes on after one more request.
+pub fn next(body: &mut [u8], out: &mut [u8], line: &mut [u8]) -> bool
+    requires { ⌜ 92304 ≤ length (now body) ⌝ }
+{
+    match read_head() {
+        Start::Nothing => false,
+        Start::Cut => end_run(),
+        Start::Request(h) => serve(h, body, out, line) || end_run(),
+    }
+}

@@ -1,0 +1,75 @@
+// What a call answered, as text at the start of a line.
+use crate::lines;
+use answers::Answer;
+use answers::floats;
+use answers::refusals;
+
+fn tell_refused(line: &mut [u8], number: u64, length: u64) -> usize {
+    let end = lines::put_text(line, 0, b"refused");
+    let end = lines::put_number(line, end, number);
+    lines::put_number(line, end, length)
+}
+
+// A code whose upper half is a refusal's number, 0 for done.
+pub fn tell_verdict(line: &mut [u8], code: u64) -> usize {
+    if code >> 32 == 0 {
+        lines::put_text(line, 0, b"done")
+    } else {
+        tell_refused(line, code >> 32, code % 0x1_0000_0000)
+    }
+}
+
+// The same with all of the lent bytes after the call.
+pub fn tell_bytes(line: &mut [u8], code: u64, bytes: &[u8]) -> usize {
+    let end = tell_verdict(line, code);
+    let end = lines::put_byte(line, end, b' ');
+    lines::put_bytes(line, end, bytes)
+}
+
+// The same where the code of what was done is its length.
+pub fn tell_output(line: &mut [u8], code: u64, out: &[u8]) -> usize {
+    if code >> 32 != 0 {
+        return tell_bytes(line, code, out);
+    }
+    let end = lines::put_text(line, 0, b"done");
+    let end = lines::put_number(line, end, code);
+    let end = lines::put_byte(line, end, b' ');
+    lines::put_bytes(line, end, out)
+}
+
+fn tell_range(line: &mut [u8], name: &[u8], start: usize, len: usize) -> usize {
+    let end = lines::put_text(line, 0, name);
+    let end = lines::put_number(line, end, start as u64);
+    lines::put_number(line, end, len as u64)
+}
+
+fn tell_float(line: &mut [u8], name: &[u8], bits: u64, width: usize) -> usize {
+    let end = lines::put_text(line, 0, name);
+    lines::put_bits(line, end, bits, width)
+}
+
+pub fn tell_answer(line: &mut [u8], answer: Answer) -> usize {
+    match answer {
+        Answer::Null => lines::put_text(line, 0, b"null"),
+        Answer::Bool(v) => {
+            let end = lines::put_text(line, 0, b"bool");
+            lines::put_number(line, end, v as u64)
+        }
+        Answer::Number(n) => {
+            let end = lines::put_text(line, 0, b"number");
+            lines::put_signed(line, end, n)
+        }
+        Answer::Float32(v) => tell_float(line, b"float32", floats::bits32(v) as u64, 8),
+        Answer::Float32Nan(v) => tell_float(line, b"float32", v as u64, 8),
+        Answer::Float64(v) => tell_float(line, b"float64", floats::bits64(v), 16),
+        Answer::Float64Nan(v) => tell_float(line, b"float64", v, 16),
+        Answer::Bytes { start, len } => tell_range(line, b"bytes", start, len),
+        Answer::Container { start, len, count } => {
+            let end = tell_range(line, b"container", start, len);
+            lines::put_number(line, end, count as u64)
+        }
+        Answer::Refused(r) => {
+            tell_refused(line, refusals::number(r) as u64, refusals::length(r) as u64)
+        }
+    }
+}

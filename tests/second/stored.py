@@ -1,0 +1,47 @@
+#!/usr/bin/env python3
+"""The run that is kept beside the driver: each op, refusals with their bytes, a path of 17 steps.
+
+    stored.py            whether crates/drive/stdin and stdout are what is made here
+    stored.py --write    write them
+"""
+
+import pathlib
+import sys
+
+import answers
+import cases
+from answers import request
+
+DRIVE = pathlib.Path(__file__).resolve().parents[2] / 'crates' / 'drive'
+
+REQUESTS = (
+    request('j', cases.F_SCHEMA),
+    request('c', cases.H_SCHEMA, cases.H_ROW),
+    request('w', cases.A_SCHEMA, cases.B_LISTING, room=len(cases.B_ROW) + 4),
+    request('w', cases.C_SCHEMA, cases.C_LISTING, room=8),
+    request('l', cases.F_SCHEMA, cases.F_ROW, room=len(cases.F_LISTING)),
+    request('s', cases.A_SCHEMA, cases.A_ROW, (0,), kind=0),
+    request('s', cases.C_SCHEMA, cases.C_ROW, (0,), kind=5, third=b'TP'),
+    request('r', cases.A_SCHEMA, cases.A_ROW, (0,)),
+    request('r', cases.E_SCHEMA, cases.E_ROW, (0,) * 17),
+    request('o', cases.G_SCHEMA, cases.G_ROW, (0, 1)),
+    request('t', cases.C_SCHEMA, cases.C_ROW, (0,), third=b'none'),
+)
+
+
+def stored_run():
+    """What the driver reads, with one byte more that begins a request, and what it writes."""
+    lines = [answers.answer(req) for req in REQUESTS] + ['end']
+    return b''.join(map(answers.encode, REQUESTS)) + b'j', ''.join(line + '\n' for line in lines).encode()
+
+
+def main():
+    for name, data in zip(('stdin', 'stdout'), stored_run()):
+        if sys.argv[1:] == ['--write']:
+            (DRIVE / name).write_bytes(data)
+        elif (DRIVE / name).read_bytes() != data:
+            sys.exit('crates/drive/%s is not what stored.py makes' % name)
+    print('%d requests are stored with the driver' % len(REQUESTS))
+
+
+main()
