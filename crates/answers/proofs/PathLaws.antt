@@ -1,10 +1,10 @@
 -- A path is its first len numbers: those past its length play no part. Assumes nothing.
-use mathlib.Core.Path.{_≡_, refl, sym, ap, _∙_}
+use mathlib.Core.Path.{_≡_, sym, ap, _∙_}
 use mathlib.Core.Logic.{_⊎_, inl, inr}
 use mathlib.Core.List.{List, _++_}
 use Prim.Native.Nat.{ℕ, _+_, _-_, _<_, _≤_}
 use native.Mathlib.Omega.{arith}
-use lib.ListN.{length, take, getD, length-take, length-append, List·getD-append, List·getD-eq-default, getD-replicate, replicate}
+use lib.ListN.{length, take, getD, length-take, List·getD-append, List·getD-eq-default, getD-replicate}
 use lib.Seq.{getD-take, getD-append-add, ext-getD}
 use Rattle.words.specs.Bytes.{zeros, fill}
 use Rattle.words.proofs.Numbers.{length-fill}
@@ -45,10 +45,3 @@ one-path p q e same =
     (λ i h.
     let l : i < p .len = rw (length-path p) at h in
     path-at p i l ∙ same i l ∙ sym (path-at q i (rw e at l)))
-
--- the sixteen numbers as far as they count, and zeros behind them
-pub path-is : (p : Path) → length (p .steps) ≡ 16 → pathOf p ≡ take (p .len) (p .steps) ++ zeros (p .len - 16)
-unfolding pathOf fill
-path-is p h =
-    let n : p .len - length (take (p .len) (p .steps)) ≡ p .len - 16 = rw length-take (omega arith) in
-    rw n
