@@ -1,0 +1,7 @@
+-- Laws that the proofs cite.
+mod Apart
+mod Putting
+mod Lengths
+mod Told
+mod Placing
+mod Checked
