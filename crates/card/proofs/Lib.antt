@@ -5,3 +5,4 @@ mod Lengths
 mod Told
 mod Placing
 mod Checked
+mod Walking

@@ -3,3 +3,4 @@ pub mod Input
 pub mod Lines
 pub mod Room
 pub mod Places
+pub mod Whole

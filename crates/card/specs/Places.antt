@@ -88,9 +88,3 @@ pub record ShowRoom (s row : List ℕ) (p : Path) (out : List ℕ) (at : ℕ) : 
   pub opened : Open s row
   pub few : p .len ≤ 16
   pub room : at + 33110 ≤ length out
-
-pub record WalkRoom (s row : List ℕ) (p : Path) (out : List ℕ) (used : ℕ) : Type 0 where
-  pub opened : Open s row
-  pub few : p .len ≤ 16
-  pub room : length out ≡ 65536
-  pub within : used ≤ length out

@@ -6,7 +6,8 @@ ghost use Rattle.answers.specs.Meaning.{meaning};
 ghost use Rattle.answers.specs.Paths.{pathOf};
 ghost use Rattle.reading.specs.Finding.{Open};
 ghost use Rattle.reading.specs.Places.{OpenSmall};
-ghost use Rattle.card.specs.Places.{isLeaf, InTable, below, ShowRoom, Shows, WalkRoom};
+ghost use Rattle.card.specs.Places.{isLeaf, InTable, below, ShowRoom, Shows};
+ghost use Rattle.card.specs.Whole.{cardOf, cardAt, Spilt, WalkRoom, Walked};
 use crate::lines;
 use answers::Answer;
 use answers::Path;
@@ -101,7 +102,7 @@ fn show(s: &[u8], row: &[u8], path: Path, out: &mut [u8], at: usize) -> Shown
 // Prints the text so far where another line might not find room behind it, and answers where that line goes.
 fn spill(out: &[u8], used: usize) -> usize
     requires { ⌜ used ≤ length (now out) ⌝ }
-    ensures { λ r. ⌜ r ≤ 32000 ⌝ }
+    ensures { λ r. ⌜ Spilt used r ⌝ }
 {
     if used <= 32000 {
         return used;
@@ -114,7 +115,7 @@ fn spill(out: &[u8], used: usize) -> usize
 // paths of at most 13 steps, two for a map.
 fn place(s: &[u8], row: &[u8], path: Path, out: &mut [u8], used: usize) -> usize
     requires { ⌜ WalkRoom (now s) (now row) path (now out) used ⌝ }
-    ensures { λ r. ⌜ r ≤ length (now (out .entry)) ⌝ }
+    ensures { λ r. ⌜ Walked (cardAt (now (s .entry)) (now (row .entry)) path) (now (out .entry)) used r (now (out .exit)) ⌝ }
 {
     let here = show(s, row, path, out, spill(out, used));
     let count = here.count;
@@ -134,14 +135,22 @@ fn place(s: &[u8], row: &[u8], path: Path, out: &mut [u8], used: usize) -> usize
     next
 }
 
-pub fn print(s: &[u8], row: &[u8])
-    requires { ⌜ Open (now s) (now row) ⌝ }
+// The card of an accepted row: its text in the lent bytes, but for what was printed on the way.
+fn whole(s: &[u8], row: &[u8], out: &mut [u8]) -> usize
+    requires { ⌜ Open (now s) (now row) × (length (now out) ≡ 65536) ⌝ }
+    ensures { λ r. ⌜ Walked (cardOf (now (s .entry)) (now (row .entry))) (now (out .entry)) 0 r (now (out .exit)) ⌝ }
 {
-    let mut out = io::large_buffer();
     let root = Path {
         steps: [0; 16],
         len: 0,
     };
-    let n = place(s, row, root, &mut out, 0);
+    place(s, row, root, out, 0)
+}
+
+pub fn print(s: &[u8], row: &[u8])
+    requires { ⌜ Open (now s) (now row) ⌝ }
+{
+    let mut out = io::large_buffer();
+    let n = whole(s, row, &mut out);
     io::write_all(STDOUT_FILENO, &out[..n]);
 }

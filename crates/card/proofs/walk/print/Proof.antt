@@ -8,17 +8,17 @@ use Rattle.card.proofs.walk.print.Tie as tie
 large-buffer-requires : tie.Need-large-buffer-requires
 large-buffer-requires c κs = search needs
 
-slice-aggregate-place : tie.Need-slice-aggregate-place
-slice-aggregate-place c = search needs
+slice-aggregate-whole : tie.Need-slice-aggregate-whole
+slice-aggregate-whole c = search needs
 
-place-requires : tie.Need-place-requires
-place-requires c κs = search needs
+whole-requires : tie.Need-whole-requires
+whole-requires c κs = search needs
 
 array-share-prefix-out : tie.Need-array-share-prefix-out
 array-share-prefix-out c = search needs
 
 slice-aggregate-write-all : tie.Need-slice-aggregate-write-all
-slice-aggregate-write-all c = simp length-take (omega (arith, c .before .before .place .ensures, c .before .before .place .kept .1 .1 .1 .0))
+slice-aggregate-write-all c = simp length-take (omega (arith, c .before .before .whole .ensures .within, c .before .before .whole .kept .1 .1 .0))
 
 write-all-requires : tie.Need-write-all-requires
 write-all-requires c κs = search needs
@@ -31,8 +31,8 @@ print-spec =
     tie.close
     (tie.spec
     large-buffer-requires
-    slice-aggregate-place
-    place-requires
+    slice-aggregate-whole
+    whole-requires
     array-share-prefix-out
     slice-aggregate-write-all
     write-all-requires
