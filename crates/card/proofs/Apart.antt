@@ -1,5 +1,5 @@
 -- Where an input is taken apart, and that it lies in the input. Assumes nothing.
-use mathlib.Core.Path.{_≡_, refl, sym, _∙_, subst}
+use mathlib.Core.Path.{_≡_, refl, sym, ap, _∙_, subst}
 use mathlib.Core.Bool.{Bool, true, false}
 use mathlib.Core.List.{List}
 use Prim.Native.Nat.{ℕ, _+_, _-_, _≤_, _<_}
@@ -7,10 +7,12 @@ use native.Mathlib.Omega.{arith}
 use lib.Dec.{ltb}
 use lib.ListN.{length}
 use borrow.Author.Tests.{lt-ltb, le-ltb, ltb-false}
-use Rattle.words.specs.Bytes.{num, part}
+use Rattle.words.specs.Bytes.{part}
 use Rattle.words.specs.Reads.{Reads}
 use Rattle.schema.specs.Kinds.{pick}
 use Rattle.card.specs.Input.{announced, splitOf}
+use Rattle.card.specs.Lines.{refusal}
+use Rattle.card.specs.Output.{judgedText, bySplit, outputOf}
 use Rattle.card.specs.declared.input.Split.{Split}
 use Rattle.card.specs.declared.input.Split.the-variants.{Short, Parts}
 
@@ -48,3 +50,13 @@ inside s = go (ltb (length s) 2) (ltb (length s - 2) (announced s)) refl refl
 
 pub ends-inside : (s : List ℕ) (r : Split) (e : ℕ) → r ≡ splitOf s → r ≡ Parts e → (2 ≤ e) × (e ≤ length s)
 ends-inside s r e p q = subst (λ (x : Split). Inside x s) (sym p ∙ q) (inside s)
+
+-- ---- the output by where the input is taken apart
+
+pub output-short : (s : List ℕ) (r : Split) → r ≡ splitOf s → r ≡ Short → refusal 1 ≡ outputOf s
+unfolding outputOf
+output-short s r p q = ap (λ (x : Split). bySplit x s) (sym q ∙ p)
+
+pub output-parts : (s : List ℕ) (r : Split) (e : ℕ) → r ≡ splitOf s → r ≡ Parts e → judgedText (part s 2 (e - 2)) (part s e (length s - e)) ≡ outputOf s
+unfolding outputOf
+output-parts s r e p q = ap (λ (x : Split). bySplit x s) (sym q ∙ p)

@@ -1,8 +1,8 @@
 -- How long a text is at most. Assumes nothing.
-use mathlib.Core.Path.{_≡_, refl, sym, ap, _∙_}
+use mathlib.Core.Path.{_≡_, refl, _∙_}
 use mathlib.Core.Bool.{Bool, true, false, cond}
 use mathlib.Core.List.{List, [], _∷_, _++_}
-use Prim.Native.Nat.{ℕ, zero, suc, _+_, _-_, _*_, _/_, _%_, _≤_, _<_}
+use Prim.Native.Nat.{ℕ, zero, suc, _+_, _-_, _*_, _/_, _%_, _≤_}
 use native.Mathlib.Omega.{arith}
 use lib.Dec.{ltb}
 use lib.IntN.{ℤ, pos, negsuc}
@@ -17,7 +17,7 @@ use Rattle.answers.specs.declared.Path.{Path}
 use Rattle.answers.specs.Paths.{pathOf}
 use Rattle.answers.proofs.PathLaws.{length-path}
 use Rattle.reading.specs.Texts.{InRow}
-use Rattle.card.specs.Lines.{hex, decimalIn, decimal, signed, hexes, bytes, dotted, path, contents, line}
+use Rattle.card.specs.Lines.{hex, decimalIn, decimal, signed, hexes, bytes, dotted, path, contents, line, refusal}
 
 pub hex-length : (k n : ℕ) → length (hex k n) ≡ k
 unfolding hex
@@ -86,3 +86,7 @@ line-most p k row a h s w =
     let c = length-append (contents row a) (10 ∷ []) in
     let m = length-append (markAt k) ((32 ∷ []) ++ (contents row a ++ (10 ∷ []))) in
     rw (length-append (path (pathOf p))) (omega (arith, path-sixteen p h, mark-two k, contents-most row a s w))
+
+pub refusal-most : (n : ℕ) → length (refusal n) ≤ 29
+unfolding refusal
+refusal-most n = omega (arith, length-append (decimal n) (10 ∷ []), decimal-twenty n)

@@ -1,7 +1,7 @@
 -- What one place adds to the card, by what was found there. Assumes nothing.
 use mathlib.Core.Path.{_≡_, refl, sym, ap, _∙_}
 use mathlib.Core.Bool.{Bool, true, false, cond}
-use mathlib.Core.Option.{Option, none, some}
+use mathlib.Core.Option.{Option, some}
 use mathlib.Core.List.{List, [], _∷_}
 use Prim.Native.Nat.{ℕ, zero, suc, _+_, _-_, _≤_, _<_}
 use native.Mathlib.Omega.{arith}
@@ -13,23 +13,21 @@ use borrow.Author.Tests.{eqb-true, eqb-false, ne-eqb}
 use Rattle.words.specs.Bytes.{num, part}
 use Rattle.words.proofs.Parts.{length-part}
 use Rattle.schema.specs.Marks.{markAt}
-use Rattle.schema.specs.Types.{Fixed, bo, i1, i2, i4, i8, f4, f8, Text, st, bi, Ty, ro, fixedPlace, textPlace, fixedAt, textAt as textOf, place, mark}
+use Rattle.schema.specs.Types.{Fixed, bo, i1, i2, i4, i8, f4, f8, st, bi, Ty, ro, textPlace, fixedAt, textAt as textOf, place, mark}
 use Rattle.schema.specs.Walk.{fieldsOf}
 use Rattle.schema.specs.declared.Opened.{Opened}
 use Rattle.schema.specs.declared.Opened.the-variants.{Fixed as OFixed, Text as OText, List as OList, Map as OMap, Struct as OStruct, Nothing as ONothing}
 use Rattle.schema.proofs.Table.{place-fixed}
 use Rattle.layout.specs.Reading as R
 use Rattle.layout.specs.Reading.{Answer, valueOf, placed}
-use Rattle.layout.specs.Entries.{readOf}
 use Rattle.answers.specs.declared.Answer.{Answer as Case}
 use Rattle.answers.specs.declared.Answer.the-variants as A
 use Rattle.answers.specs.declared.Path.{Path}
-use Rattle.answers.specs.declared.Refusal.{Refusal}
 use Rattle.answers.specs.Meaning.{plain, float, meaning}
 use Rattle.answers.specs.Paths.{pathOf}
-use Rattle.reading.specs.Places.{openTy, placeTy, bytesOf, OpenIs, OpenSmall, Stands}
+use Rattle.reading.specs.Places.{openTy, bytesOf, OpenIs, OpenSmall, Stands}
 use Rattle.reading.specs.Finding.{Open, Finds}
-use Rattle.reading.specs.Texts.{shown, showOf, Shows as Showing, InRow, Reads}
+use Rattle.reading.specs.Texts.{shown, showOf, InRow, Reads}
 use Rattle.reading.specs.declared.Place.{Place}
 use Rattle.reading.specs.declared.Seat.{Seat}
 use Rattle.reading.specs.declared.Found.{Found}
@@ -37,7 +35,6 @@ use Rattle.reading.specs.declared.Found.the-variants.{NoPlace, NullBefore, Brok
 use Rattle.reading.proofs.Rules.{list-says, open-small}
 use Rattle.reading.proofs.Shown.{read-nowhere, read-under, read-broken, read-null, read-at}
 use Rattle.row.specs.Demand1 as D
-use Rattle.row.specs.Demand1.{ReadGives}
 use Rattle.row.proofs.Numbers.{read-gives}
 use Rattle.card.specs.Lines.{line, Puts}
 use Rattle.card.specs.Room.{LineRoom}

@@ -1,11 +1,10 @@
 -- Text put piece by piece: numbers digit by digit, bytes one by one, a path step by step. Assumes nothing.
 use mathlib.Core.Path.{_≡_, refl, sym, ap, _∙_}
-use mathlib.Core.Bool.{Bool, true, false}
+use mathlib.Core.Bool.{true, false}
 use mathlib.Core.List.{List, [], _∷_, _++_, append-assoc, append-nil}
-use Prim.Native.Nat.{ℕ, zero, suc, _+_, _-_, _*_, _/_, _%_, _≤_, _<_}
+use Prim.Native.Nat.{ℕ, zero, suc, _+_, _-_, _/_, _%_, _≤_, _<_}
 use native.Mathlib.Omega.{arith}
 use native.Mathlib.Numerals.{add-one}
-use lib.Dec.{ltb}
 use lib.IntN.{ℤ, pos, negsuc}
 use lib.Signed.{mag}
 use lib.ListN.{length, take, drop, getD, set, length-append}
@@ -16,7 +15,7 @@ use Rattle.words.specs.Bytes.{part}
 use Rattle.words.specs.Signed.{isNegative}
 use Rattle.words.proofs.Runs.{sets-then}
 use Rattle.words.proofs.Parts.{length-part, part-snoc}
-use Rattle.card.specs.Lines.{hex, decimalIn, decimal, signed, hexes, bytes, dotted, path, Puts}
+use Rattle.card.specs.Lines.{hex, decimalIn, decimal, signed, hexes, bytes, dotted, path, refusal, Puts}
 
 -- ---- pieces
 
@@ -178,3 +177,11 @@ path-all p k i z h e q s =
     ∙ ap (λ (t : List ℕ). decimal (getD p 0 0) ++ dotted (drop 1 t)) (take-all k p h)
     ∙ by-steps p z)
     (puts-then q s)
+
+-- ---- a refusal
+
+pub refusal-puts : {a b c d : List ℕ} {m r : ℕ} (n : ℕ) → b ≡ sets a 0 (114 ∷ 101 ∷ 102 ∷ 117 ∷ 115 ∷ 101 ∷ 100 ∷ 32 ∷ []) → Puts b 8 (decimal n) m c → Puts c m (10 ∷ []) r d → Puts a 0 (refusal n) r d
+unfolding refusal
+refusal-puts {a} {b} n e p q =
+    let word : Puts a 0 (114 ∷ 101 ∷ 102 ∷ 117 ∷ 115 ∷ 101 ∷ 100 ∷ 32 ∷ []) 8 b = record { bytes = e; next = refl } in
+    puts-then word (puts-then p q)

@@ -1,8 +1,8 @@
 -- Each case of an answer as the contents of its line. Assumes nothing.
-use mathlib.Core.Path.{_≡_, refl, sym, ap, _∙_}
+use mathlib.Core.Path.{_≡_, refl}
 use mathlib.Core.Bool.{Bool, true, false, cond}
 use mathlib.Core.List.{List, [], _∷_}
-use Prim.Native.Nat.{ℕ, _+_, _*_, _≤_, _<_}
+use Prim.Native.Nat.{ℕ, _+_, _*_, _≤_}
 use native.Mathlib.Omega.{arith}
 use lib.IntN.{ℤ}
 use lib.Ieee.{Float, Format, binary32, binary64, toBits, nanBits}
@@ -11,12 +11,10 @@ use mir.Val.{boolByte}
 use Rattle.words.specs.Bytes.{part}
 use Rattle.words.specs.Bits.{digit}
 use Rattle.layout.specs.Reading as R
-use Rattle.layout.specs.Reading.{Answer}
 use Rattle.answers.specs.declared.Answer.{Answer as Case}
 use Rattle.answers.specs.declared.Answer.the-variants as A
 use Rattle.answers.specs.declared.Refusal.{Refusal}
 use Rattle.answers.specs.Meaning.{plain, float, meaning}
-use Rattle.reading.specs.Texts.{InRow}
 use Rattle.row.specs.Demand1.{ReadNumber, ReadGives}
 use Rattle.row.specs.Demand1 as D
 use Rattle.card.specs.Lines.{hex, signed, bytes, contents, Puts}

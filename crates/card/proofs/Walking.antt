@@ -1,15 +1,13 @@
 -- The walk: a place's own text, and the texts of the places below it one behind the other. Assumes nothing.
-use mathlib.Core.Path.{_≡_, refl, sym, ap, ap₂, _∙_}
-use mathlib.Core.Logic.{⊎-elim}
+use mathlib.Core.Path.{_≡_, sym, ap, ap₂, _∙_}
 use mathlib.Core.List.{List, [], _∷_, _++_, append-nil}
 use Prim.Native.Nat.{ℕ, zero, suc, _+_, _-_, _≤_, _<_}
 use native.Mathlib.Nat.{zero-add, suc-add}
 use native.Mathlib.Numerals.{add-one}
 use native.Mathlib.Omega.{arith}
-use lib.ListN.{length, take, drop, set, length-append, length-set}
-use lib.Seq.{take-suc-set, take-set-le}
+use lib.ListN.{length, take, set, length-append, length-set}
+use lib.Seq.{take-suc-set}
 use Rattle.words.specs.Bytes.{zeros}
-use Rattle.words.proofs.Parts.{lt-or-le}
 use Rattle.layout.specs.Entries.{readOf}
 use Rattle.answers.specs.declared.Path.{Path}
 use Rattle.answers.specs.Paths.{pathOf}
@@ -56,7 +54,7 @@ module _ (f : List ℕ → List ℕ) (p : List ℕ) where
 
 -- ---- the walk
 
-at-used : {out out′ text : List ℕ} {used at r : ℕ} → Spilt used at → used ≤ 32000 → Puts out at text r out′ → Puts out used text r out′
+at-used : {out out′ text : List ℕ} {used at r : ℕ} → Spilt used at → used ≤ 229000 → Puts out at text r out′ → Puts out used text r out′
 at-used S l q = rw (S .held l) at q
 
 module _ (s row : List ℕ) where
@@ -65,7 +63,7 @@ module _ (s row : List ℕ) where
   beneath n q = cardFrom (15 - n) s row q
 
   -- a path of sixteen steps has nothing below it
-  pub walked-last : (p : Path) (r : Shown) {out out′ : List ℕ} {used at : ℕ} → 16 ≤ p .len → Spilt used at → length out ≡ 65536 → Shows s row (pathOf p) out at r out′ → Walked (cardAt s row p) out used (r .next) out′
+  pub walked-last : (p : Path) (r : Shown) {out out′ : List ℕ} {used at : ℕ} → 16 ≤ p .len → Spilt used at → length out ≡ 262144 → Shows s row (pathOf p) out at r out′ → Walked (cardAt s row p) out used (r .next) out′
   unfolding cardFrom
   walked-last p r {used = used} h S e G =
       let z : 16 - p .len ≡ 0 = omega arith in
@@ -73,16 +71,16 @@ module _ (s row : List ℕ) where
 
   -- one more child
   pub walked-turn : (P q : List ℕ) (n i count len : ℕ) {out₀ out out′ : List ℕ} {next₀ next r : ℕ} → n < 16 → i < count → len ≡ n + 1 → q ≡ P ++ (i ∷ [])
-      → (next₀ + length (inOrder (beneath n) P count) ≤ 32000 → Puts out₀ next₀ (inOrder (beneath n) P i) next out)
+      → (next₀ + length (inOrder (beneath n) P count) ≤ 229000 → Puts out₀ next₀ (inOrder (beneath n) P i) next out)
       → Walked (cardFrom (16 - len) s row q) out next r out′
-      → next₀ + length (inOrder (beneath n) P count) ≤ 32000 → Puts out₀ next₀ (inOrder (beneath n) P (i + 1)) r out′
+      → next₀ + length (inOrder (beneath n) P count) ≤ 229000 → Puts out₀ next₀ (inOrder (beneath n) P (i + 1)) r out′
   walked-turn P q n i count len {next = next} h l e same before W fits =
       let f = beneath n in
       let A = before fits in
       let d : 16 - len ≡ 15 - n = omega arith in
       let t : cardFrom (16 - len) s row q ≡ f (P ++ (i ∷ [])) = ap₂ (λ (k : ℕ) (x : List ℕ). cardFrom k s row x) d same in
       let long : length (inOrder f P (i + 1)) ≡ length (inOrder f P i) + length (f (P ++ (i ∷ []))) = ap length (sym (in-order-more f P i)) ∙ length-append (inOrder f P i) (f (P ++ (i ∷ []))) in
-      let room : next + length (cardFrom (16 - len) s row q) ≤ 32000 = rw t (omega (arith, A .next, in-order-grows f P (i + 1) count (omega arith))) in
+      let room : next + length (cardFrom (16 - len) s row q) ≤ 229000 = rw t (omega (arith, A .next, in-order-grows f P (i + 1) count (omega arith))) in
       puts-as (ap (λ (x : List ℕ). inOrder f P i ++ x) t ∙ in-order-more f P i) (puts-then A (W .held room))
 
   split : (n : ℕ) (p : List ℕ) → n < 16 → textAt s row p ++ inOrder (beneath n) p (below (readOf s row p)) ≡ cardFrom (16 - n) s row p
@@ -92,7 +90,7 @@ module _ (s row : List ℕ) where
   -- a place and all its children
   pub walked-all : (p : Path) (r : Shown) (i next : ℕ) {out out₀ out′ : List ℕ} {used at : ℕ} → p .len < 16 → length (p .steps) ≡ 16 → Spilt used at → Shows s row (pathOf p) out at r out₀
       → i ≤ r .count → r .count ≤ i → next ≤ length out
-      → (r .next + length (inOrder (beneath (p .len)) (take (p .len) (p .steps)) (r .count)) ≤ 32000 → Puts out₀ (r .next) (inOrder (beneath (p .len)) (take (p .len) (p .steps)) i) next out′)
+      → (r .next + length (inOrder (beneath (p .len)) (take (p .len) (p .steps)) (r .count)) ≤ 229000 → Puts out₀ (r .next) (inOrder (beneath (p .len)) (take (p .len) (p .steps)) i) next out′)
       → Walked (cardAt s row p) out used next out′
   walked-all p r i next {used = used} h e S G a b w before =
       let f = beneath (p .len) in
@@ -104,7 +102,7 @@ module _ (s row : List ℕ) where
       record {
         within = w;
         held = λ l.
-            let u : used ≤ 32000 = omega arith in
+            let u : used ≤ 229000 = omega arith in
             let T = at-used S u (G .text) in
             puts-as whole (puts-then T (puts-as (ap (inOrder f P) k) (before (omega (arith, T .next)))));
       }

@@ -4,3 +4,4 @@ pub mod Lines
 pub mod Room
 pub mod Places
 pub mod Whole
+pub mod Output

@@ -71,6 +71,10 @@ contents row (R.refused n) = []
 unfoldable pub line : List ℕ → List ℕ → List ℕ → Answer → List ℕ
 line p mark row a = path p ++ ((32 ∷ []) ++ (mark ++ ((32 ∷ []) ++ (contents row a ++ (10 ∷ [])))))
 
+-- `refused`, space, the refusal's number, and the line's end
+unfoldable pub refusal : ℕ → List ℕ
+refusal n = (114 ∷ 101 ∷ 102 ∷ 117 ∷ 115 ∷ 101 ∷ 100 ∷ 32 ∷ []) ++ (decimal n ++ (10 ∷ []))
+
 -- ---- putting text
 
 -- the text stands at the place at, all else is as it was, and r is the place after it

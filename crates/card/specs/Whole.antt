@@ -27,22 +27,22 @@ cardOf s row = cardFrom 16 s row []
 
 -- ---- the walk
 
--- text of up to 32,000 bytes is held, and printed no sooner
+-- text of up to 229,000 bytes is held, and printed no sooner
 pub record Spilt (used r : ℕ) : Type 0 where
-  pub few : r ≤ 32000
-  pub held : used ≤ 32000 → r ≡ used
+  pub few : r ≤ 229000
+  pub held : used ≤ 229000 → r ≡ used
 
 pub record WalkRoom (s row : List ℕ) (p : Path) (out : List ℕ) (used : ℕ) : Type 0 where
   pub opened : Open s row
   pub few : p .len ≤ 16
   pub steps : length (p .steps) ≡ 16
-  pub room : length out ≡ 65536
+  pub room : length out ≡ 262144
   pub within : used ≤ length out
 
 -- the text behind that of used bytes stands there, where all of it is held
 pub record Walked (text out : List ℕ) (used r : ℕ) (out′ : List ℕ) : Type 0 where
   pub within : r ≤ length out
-  pub held : used + length text ≤ 32000 → Puts out used text r out′
+  pub held : used + length text ≤ 229000 → Puts out used text r out′
 
 -- the place p and all below it, of the paths that have at most 16 steps
 abbrev pub cardAt : List ℕ → List ℕ → Path → List ℕ

@@ -104,7 +104,7 @@ fn spill(out: &[u8], used: usize) -> usize
     requires { ⌜ used ≤ length (now out) ⌝ }
     ensures { λ r. ⌜ Spilt used r ⌝ }
 {
-    if used <= 32000 {
+    if used <= 229000 {
         return used;
     }
     io::write_all(STDOUT_FILENO, &out[..used]);
@@ -136,8 +136,8 @@ fn place(s: &[u8], row: &[u8], path: Path, out: &mut [u8], used: usize) -> usize
 }
 
 // The card of an accepted row: its text in the lent bytes, but for what was printed on the way.
-fn whole(s: &[u8], row: &[u8], out: &mut [u8]) -> usize
-    requires { ⌜ Open (now s) (now row) × (length (now out) ≡ 65536) ⌝ }
+pub fn whole(s: &[u8], row: &[u8], out: &mut [u8]) -> usize
+    requires { ⌜ Open (now s) (now row) × (length (now out) ≡ 262144) ⌝ }
     ensures { λ r. ⌜ Walked (cardOf (now (s .entry)) (now (row .entry))) (now (out .entry)) 0 r (now (out .exit)) ⌝ }
 {
     let root = Path {
@@ -145,12 +145,4 @@ fn whole(s: &[u8], row: &[u8], out: &mut [u8]) -> usize
         len: 0,
     };
     place(s, row, root, out, 0)
-}
-
-pub fn print(s: &[u8], row: &[u8])
-    requires { ⌜ Open (now s) (now row) ⌝ }
-{
-    let mut out = io::large_buffer();
-    let n = whole(s, row, &mut out);
-    io::write_all(STDOUT_FILENO, &out[..n]);
 }

@@ -1,6 +1,6 @@
 -- `card::walk::place` meets its contract: the measure is how many steps a path may still take; in the loop the texts of the children
 -- passed stand one behind the other. Assumes nothing.
-use mathlib.Core.Path.{_≡_, refl, sym, _∙_}
+use mathlib.Core.Path.{_≡_, refl, _∙_}
 use native.Mathlib.Omega.{arith}
 use lib.ListN.{length, take, length-set}
 use lib.Seq.{take-set-le}
@@ -31,7 +31,7 @@ place-below t = and 3 place-kinds.ps (falls 3 place-kinds.ps _<_ μ-place t) pla
 abbrev place-Inv-loop : place-lts.InvT-loop
 place-Inv-loop s row out₀ used count next₀ n child₀ i₀ out next child i =
     (i ≤ count) × (length out ≡ length out₀) × (next ≤ length out₀) × (child .len ≡ n + 1) × (length (child .steps) ≡ 16) × (take n (child .steps) ≡ take n (child₀ .steps))
-    × (next₀ + length (inOrder (λ q. cardFrom (15 - n) s row q) (take n (child₀ .steps)) count) ≤ 32000 → Puts out₀ next₀ (inOrder (λ q. cardFrom (15 - n) s row q) (take n (child₀ .steps)) i) next out)
+    × (next₀ + length (inOrder (λ q. cardFrom (15 - n) s row q) (take n (child₀ .steps)) count) ≤ 229000 → Puts out₀ next₀ (inOrder (λ q. cardFrom (15 - n) s row q) (take n (child₀ .steps)) i) next out)
 
 abbrev place-μ-loop : place-lts.MeasureT-loop
 place-μ-loop s row out₀ used count next₀ n child₀ i₀ out next child i = count - i
