@@ -21,7 +21,7 @@ unfoldable pub cardFrom : ℕ → List ℕ → List ℕ → List ℕ → List �
 cardFrom zero s row p = textAt s row p
 cardFrom (suc d) s row p = textAt s row p ++ inOrder (λ q. cardFrom d s row q) p (below (readOf s row p))
 
--- the card: no place is more than 16 steps away
+-- the card: no path has more than 16 steps
 unfoldable pub cardOf : List ℕ → List ℕ → List ℕ
 cardOf s row = cardFrom 16 s row []
 
@@ -39,7 +39,8 @@ pub record WalkRoom (s row : List ℕ) (p : Path) (out : List ℕ) (used : ℕ) 
   pub room : length out ≡ 262144
   pub within : used ≤ length out
 
--- the text behind that of used bytes stands there, where all of it is held
+-- Where a text and the used bytes before it are at most 229,000 together, it stands behind them and r is its end. Of a longer one, whose
+-- front was printed on the way, it is said only that r lies in out: no statement can speak of what was printed.
 pub record Walked (text out : List ℕ) (used r : ℕ) (out′ : List ℕ) : Type 0 where
   pub within : r ≤ length out
   pub held : used + length text ≤ 229000 → Puts out used text r out′
