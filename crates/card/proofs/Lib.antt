@@ -1,0 +1,8 @@
+-- Laws that the proofs cite.
+mod Apart
+mod Putting
+mod Lengths
+mod Told
+mod Placing
+mod Checked
+mod Walking

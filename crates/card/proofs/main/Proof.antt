@@ -1,0 +1,55 @@
+-- `card::main` is safe and ends. Assumes nothing.
+use native.Mathlib.Omega.{arith}
+use lib.ListN.{length-take}
+use borrow.Author.Needs.{needs}
+use Rattle.card.proofs.main.Statement.{statement}
+use Rattle.card.proofs.main.Tie as tie
+
+slice-aggregate-read-full : tie.Need-slice-aggregate-read-full
+slice-aggregate-read-full c = search needs
+
+read-full-requires : tie.Need-read-full-requires
+read-full-requires c κs = search needs
+
+room-requires : tie.Need-room-requires
+room-requires c κs = search needs
+
+array-share-prefix-buf : tie.Need-array-share-prefix-buf
+array-share-prefix-buf c = search needs
+
+slice-aggregate-card : tie.Need-slice-aggregate-card
+slice-aggregate-card c = search needs
+
+slice-aggregate-card-2 : tie.Need-slice-aggregate-card-2
+slice-aggregate-card-2 c = search needs
+
+card-requires : tie.Need-card-requires
+card-requires c κs = search needs
+
+array-share-prefix-out : tie.Need-array-share-prefix-out
+array-share-prefix-out c = search needs
+
+slice-aggregate-write-all : tie.Need-slice-aggregate-write-all
+slice-aggregate-write-all c = simp length-take (omega (arith, c .before .before .card .ensures .within, c .before .before .card .kept .1 .0))
+
+write-all-requires : tie.Need-write-all-requires
+write-all-requires c κs = search needs
+
+returns : tie.Need-returns
+returns c = search needs
+
+pub main-spec : {M : Type 1} → statement M
+main-spec =
+    tie.close
+    (tie.spec
+    slice-aggregate-read-full
+    read-full-requires
+    room-requires
+    array-share-prefix-buf
+    slice-aggregate-card
+    slice-aggregate-card-2
+    card-requires
+    array-share-prefix-out
+    slice-aggregate-write-all
+    write-all-requires
+    returns)

@@ -1,0 +1,50 @@
+-- `card::row_text` meets its contract: what is walked was accepted. Assumes nothing.
+use Rattle.card.proofs.Checked.{checked, text-done, text-refused, walked-as, refusal-walked}
+use borrow.Author.Needs.{needs}
+use Rattle.card.proofs.row_text.Statement.{statement}
+use Rattle.card.proofs.row_text.Tie as tie
+
+check-requires : tie.Need-check-requires
+check-requires c κs = search needs
+
+enum-told : tie.Need-enum-told
+enum-told c = search needs
+
+whole-requires : tie.Need-whole-requires
+whole-requires c κs = (checked _ _ _ (c .before .before .before .check .ensures) (c .before .enum-told .given .1), c .before .before .before .before .before .before .before .pre)
+
+enum-known-r : tie.Need-enum-known-r
+enum-known-r c = search needs
+
+number-requires : tie.Need-number-requires
+number-requires c κs = search needs
+
+refused-requires : tie.Need-refused-requires
+refused-requires c κs = search needs
+
+same-length : tie.Need-same-length
+same-length c = search needs
+
+returns : tie.Need-returns
+returns c = walked-as (text-done _ _ _ (c .before .before .before .before .before .before .check .ensures) (c .before .before .before .before .enum-told .given .1)) (c .before .before .whole .ensures)
+
+same-length-2 : tie.Need-same-length-2
+same-length-2 c = search needs
+
+returns-2 : tie.Need-returns-2
+returns-2 c = walked-as (text-refused _ _ _ _ _ (c .before .before .before .before .before .before .before .before .check .ensures) (c .before .before .before .before .before .before .r .given .1) (c .before .before .before .number .ensures)) (refusal-walked _ (c .before .before .before .before .before .before .before .before .before .before .before .before .pre) (c .before .before .refused .ensures))
+
+pub row-text-spec : {M : Type 1} → statement M
+row-text-spec =
+    tie.close
+    (tie.spec
+    check-requires
+    enum-told
+    whole-requires
+    enum-known-r
+    number-requires
+    refused-requires
+    same-length
+    returns
+    same-length-2
+    returns-2)

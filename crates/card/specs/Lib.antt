@@ -1,0 +1,7 @@
+-- What the contracts of `card` cite.
+pub mod Input
+pub mod Lines
+pub mod Room
+pub mod Places
+pub mod Whole
+pub mod Output

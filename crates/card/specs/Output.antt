@@ -1,0 +1,27 @@
+-- What the card tool writes for an input. Assumes nothing: these are definitions.
+use mathlib.Core.List.{List}
+use Prim.Native.Nat.{ℕ, _-_}
+use lib.ListN.{length}
+use Rattle.words.specs.Bytes.{part}
+use Rattle.layout.specs.Entries.{Verdict, done, refused, checkOf}
+use Rattle.card.specs.Input.{splitOf}
+use Rattle.card.specs.Lines.{refusal}
+use Rattle.card.specs.Whole.{cardOf}
+use Rattle.card.specs.declared.input.Split.{Split}
+use Rattle.card.specs.declared.input.Split.the-variants.{Short, Parts}
+
+-- the card of an accepted row, or only the refusal, with the number that check gives
+abbrev pub byVerdict : Verdict → List ℕ → List ℕ
+byVerdict done card = card
+byVerdict (refused n) card = refusal n
+
+unfoldable pub judgedText : List ℕ → List ℕ → List ℕ
+judgedText s row = byVerdict (checkOf s row) (cardOf s row)
+
+-- an input under two bytes, or shorter than announced, is refused with 1; else the schema ends at e, and the rest is the row
+abbrev pub bySplit : Split → List ℕ → List ℕ
+bySplit Short input = refusal 1
+bySplit (Parts e) input = judgedText (part input 2 (e - 2)) (part input e (length input - e))
+
+unfoldable pub outputOf : List ℕ → List ℕ
+outputOf input = bySplit (splitOf input) input

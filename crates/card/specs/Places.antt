@@ -1,0 +1,90 @@
+-- What one place of an accepted row adds to the card, and what the walk asks. Assumes nothing: these are definitions.
+use mathlib.Core.Path.{_≡_}
+use mathlib.Core.Bool.{Bool, true, false, cond}
+use mathlib.Core.Option.{Option, none, some}
+use mathlib.Core.List.{List, []}
+use Prim.Native.Nat.{ℕ, _+_, _≤_, _<_}
+use lib.Dec.{eqb}
+use lib.ListN.{length}
+use Rattle.schema.specs.Types.{Ty, ro, mark}
+use Rattle.schema.specs.Walk.{fieldsOf}
+use Rattle.schema.specs.declared.Opened.{Opened}
+use Rattle.schema.specs.declared.Opened.the-variants.{Fixed as OFixed, Text as OText, List as OList, Map as OMap, Struct as OStruct, Nothing as ONothing}
+use Rattle.layout.specs.Reading as R
+use Rattle.layout.specs.Reading.{Answer, placed}
+use Rattle.layout.specs.Entries.{readOf}
+use Rattle.answers.specs.declared.Path.{Path}
+use Rattle.reading.specs.Finding.{Open}
+use Rattle.card.specs.Lines.{line, Puts}
+use Rattle.card.specs.declared.walk.Shown.{Shown}
+
+-- ---- what a place shows
+
+-- a leaf or a null has a line; a container that is present has none of its own
+unfoldable pub hasLine : Answer → Bool
+hasLine R.null = true
+hasLine (R.bool v) = true
+hasLine (R.signed z) = true
+hasLine (R.float32 n) = true
+hasLine (R.float64 n) = true
+hasLine (R.bytes o n) = true
+hasLine (R.container o n k) = false
+hasLine (R.refused n) = false
+
+-- how many places are right below
+unfoldable pub below : Answer → ℕ
+below R.null = 0
+below (R.bool v) = 0
+below (R.signed z) = 0
+below (R.float32 n) = 0
+below (R.float64 n) = 0
+below (R.bytes o n) = 0
+below (R.container o n k) = k
+below (R.refused n) = 0
+
+-- the mark of the type that the schema shows at a path
+unfoldable pub markIn : Option Ty → List ℕ
+markIn none = []
+markIn (some t) = mark t
+
+-- the line of the path p, where it has one
+unfoldable pub textAt : List ℕ → List ℕ → List ℕ → List ℕ
+textAt s row p = cond (hasLine (readOf s row p)) (line p (markIn (placed p (ro (fieldsOf s)))) row (readOf s row p)) []
+
+-- the text of the place is put at the place at of out, and r says where it ends and how many places are right below: no more than
+-- the bitmap of a row has bits
+pub record Shows (s row p out : List ℕ) (at : ℕ) (r : Shown) (out′ : List ℕ) : Type 0 where
+  pub text : Puts out at (textAt s row p) (r .next) out′
+  pub count : r .count ≡ below (readOf s row p)
+  pub few : r .count ≤ 131072
+  pub most : r .next ≤ at + 33110
+
+-- ---- a type taken apart
+
+abbrev pub isLeaf : Opened → Bool
+isLeaf (OFixed k) = true
+isLeaf (OText k) = true
+isLeaf (OList c) = false
+isLeaf (OMap k v) = false
+isLeaf (OStruct f n) = false
+isLeaf ONothing = false
+
+-- its place in the table, where 8 is binary's
+abbrev pub tablePlace : Opened → ℕ
+tablePlace (OFixed k) = k
+tablePlace (OText k) = cond (eqb k 8) 8 7
+tablePlace (OList c) = 9
+tablePlace (OMap k v) = 10
+tablePlace (OStruct f n) = 11
+tablePlace ONothing = 11
+
+pub record InTable (x : Opened) (r : ℕ) : Type 0 where
+  pub is : r ≡ tablePlace x
+  pub small : r < 12
+
+-- ---- what is asked
+
+pub record ShowRoom (s row : List ℕ) (p : Path) (out : List ℕ) (at : ℕ) : Type 0 where
+  pub opened : Open s row
+  pub few : p .len ≤ 16
+  pub room : at + 33110 ≤ length out

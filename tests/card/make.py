@@ -1,0 +1,160 @@
+#!/usr/bin/env python3
+"""Makes the stored runs, NAME.in and NAME.out, and the rows of examples/.
+
+Inputs come from the second program's writer. The expected lines are typed
+here, from the document; the second program's card must say the same.
+"""
+
+import os
+
+import second
+from rows import Null, content, judge
+
+HERE = os.path.dirname(os.path.abspath(__file__))
+EXAMPLES = os.path.join(HERE, '..', '..', 'examples')
+
+JUNK = bytes.fromhex('DEADBEEFFFFFFFFF')
+
+
+def n(value, width):
+    return (value % 256 ** width).to_bytes(width, 'little')
+
+
+def i4(value):
+    return n(value, 4)
+
+
+def row_of(schema, cells):
+    return content(judge(schema), cells)
+
+
+def whole(schema, row):
+    return n(len(schema), 2) + schema + row
+
+
+def write(folder, name, data):
+    with open(os.path.join(folder, name), 'wb') as file:
+        file.write(data)
+
+
+def store(folder, name, data, lines):
+    """Writes the input, and answers its card."""
+    want = ''.join(line + '\n' for line in lines)
+    assert second.card(data) == want, name
+    write(folder, name, data)
+    return want
+
+
+def run(name, data, *lines):
+    want = store(HERE, name + '.in', data, lines)
+    write(HERE, name + '.out', want.encode())
+
+
+def row(name, schema, cells, *lines):
+    run(name, whole(schema, row_of(schema, cells)), *lines)
+
+
+# --- Every type ---------------------------------------------------------------
+
+row('case_b', b'ro\x02i4i8', [i4(-2), Null(bytes(8))],
+    '0 i4 -2',
+    '1 i8 null')
+
+row('numbers', b'ro\x0Dbobo' b'i1i1i1' b'i2i2' b'i4i4' b'i8i8i8i8',
+    [n(0, 1), n(1, 1), n(-128, 1), n(127, 1), n(0, 1), n(-32768, 2), n(32767, 2), i4(-2 ** 31), i4(2 ** 31 - 1),
+     n(-2 ** 63, 8), n(2 ** 63 - 1, 8), n(-1, 8), n(1000, 8)],
+    '0 bo 0', '1 bo 1',
+    '2 i1 -128', '3 i1 127', '4 i1 0',
+    '5 i2 -32768', '6 i2 32767',
+    '7 i4 -2147483648', '8 i4 2147483647',
+    '9 i8 -9223372036854775808', '10 i8 9223372036854775807', '11 i8 -1', '12 i8 1000')
+
+# One, minus zero, infinity, and NaNs with a payload and a sign of their own.
+row('floats', b'ro\x08f4f4f4f4' b'f8f8f8f8',
+    [n(0x3F800000, 4), n(0x80000000, 4), n(0x7F800001, 4), n(0xFFABCDEF, 4),
+     n(0x3FF0000000000000, 8), n(0x7FF0000000000000, 8), n(0x7FF0000000000001, 8), n(0xFFF123456789ABCD, 8)],
+    '0 f4 3f800000', '1 f4 80000000', '2 f4 7f800001', '3 f4 ffabcdef',
+    '4 f8 3ff0000000000000', '5 f8 7ff0000000000000', '6 f8 7ff0000000000001', '7 f8 fff123456789abcd')
+
+row('texts', b'ro\x04stbistbi', [b'STK', bytes([0, 1, 0x7F, 0x80, 0xFF]), b'', b''],
+    '0 st 53544b',
+    '1 bi 00017f80ff',
+    '2 st -',
+    '3 bi -')
+
+# --- Containers ---------------------------------------------------------------
+
+row('lists', b'ro\x04lii2listlii8liro\x02bost',
+    [[n(1, 2), n(-1, 2), n(300, 2)], [b'A', b'', b'BC'], [], [[n(1, 1), b'z'], [n(0, 1), b'']]],
+    '0.0 i2 1', '0.1 i2 -1', '0.2 i2 300',
+    '1.0 st 41', '1.1 st -', '1.2 st 4243',
+    '3.0.0 bo 1', '3.0.1 st 7a', '3.1.0 bo 0', '3.1.1 st -')
+
+row('map', b'ro\x02mai4stmai8i8', [[[i4(7), i4(-7)], [b'S', b'TK']], [[], []]],
+    '0.0.0 i4 7', '0.0.1 i4 -7',
+    '0.1.0 st 53', '0.1.1 st 544b')
+
+# A map whose keys are maps and whose values are lists of maps.
+row('maps_in_maps', b'ro\x01' b'ma' b'mai1i1' b'limastbo',
+    [[[[[n(1, 1), n(2, 1)], [n(3, 1), n(4, 1)]], [[], []]],
+      [[], [[[b'k'], [n(1, 1)]], [[b''], [n(0, 1)]]]]]],
+    '0.0.0.0.0 i1 1', '0.0.0.0.1 i1 2', '0.0.0.1.0 i1 3', '0.0.0.1.1 i1 4',
+    '0.1.1.0.0.0 st 6b', '0.1.1.0.1.0 bo 1', '0.1.1.1.0.0 st -', '0.1.1.1.1.0 bo 0')
+
+
+def deep(cell, levels):
+    """Maps of one entry around a cell: a null key, and the rest as its value."""
+    for _ in range(levels):
+        cell = [[Null(bytes(1))], [cell]]
+    return cell
+
+
+# Eight levels, six of them maps: a path has thirteen steps.
+row('deepest', b'ro\x01' + b'mai1' * 6 + b'i2', [deep(n(-5, 2), 6)],
+    '0.0.0 i1 null',
+    '0.1.0.0.0 i1 null',
+    '0.1.0.1.0.0.0 i1 null',
+    '0.1.0.1.0.1.0.0.0 i1 null',
+    '0.1.0.1.0.1.0.1.0.0.0 i1 null',
+    '0.1.0.1.0.1.0.1.0.1.0.0.0 i1 null',
+    '0.1.0.1.0.1.0.1.0.1.0.1.0 i2 -5')
+
+row('nothing_to_say', b'ro\x02list' b'mai1i1', [[], [[], []]])
+
+# --- Nulls, with junk under them -----------------------------------------------
+
+row('nulls', b'ro\x0Cboi1i2i4i8f4f8stbi' b'lii4' b'mastst' b'ro\x01i8', [Null(JUNK)] * 12,
+    '0 bo null', '1 i1 null', '2 i2 null', '3 i4 null', '4 i8 null', '5 f4 null', '6 f8 null', '7 st null', '8 bi null',
+    '9 li null', '10 ma null', '11 ro null')
+
+row('nulls_inside', b'ro\x02li' b'lii1' b'ma' b'bo' b'ro\x02i2st',
+    [[Null(JUNK), [n(9, 1), Null(b'\xFF')], [Null(b'\x80')]],
+     [[Null(b'\x02'), n(1, 1)], [Null(JUNK), [Null(JUNK), b'x']]]],
+    '0.0 li null', '0.1.0 i1 9', '0.1.1 i1 null', '0.2.0 i1 null',
+    '1.0.0 bo null', '1.0.1 bo 1', '1.1.0 ro null', '1.1.1.0 i2 null', '1.1.1.1 st 78')
+
+# --- Refusals -------------------------------------------------------------------
+
+run('no_input', b'', 'refused 1')
+run('one_byte', b'\x07', 'refused 1')
+run('no_schema', b'\x00\x00', 'refused 1')
+run('short_of_schema', b'\x07\x00ro\x02i4i', 'refused 1')
+run('bad_schema', whole(b'ro\x02i4', bytes(24)), 'refused 1')
+run('root_not_struct', whole(b'lii4', bytes(8)), 'refused 1')
+run('no_row', whole(b'ro\x02i4i8', b''), 'refused 7')
+run('bool_two', whole(b'ro\x01bo', bytes(8) + n(2, 8)), 'refused 7')
+
+TWO_TEXTS = row_of(b'ro\x02stst', [b'STK', b'PWR'])
+run('case_h', whole(b'ro\x02stst', TWO_TEXTS[:16] + n(24 << 32 | 3, 8) + TWO_TEXTS[24:]), 'refused 7')
+
+# The first field is sound, and no line of it is printed before the second is found broken.
+run('late_fault', whole(b'ro\x02i8st', bytes(8) + n(1, 8) + n(24 << 32 | 3, 8) + b'STK\0\0\0\0\x01'), 'refused 7')
+
+# --- The rows of the examples ------------------------------------------------------
+
+STROKES = b'ro\x02' + b'ro\x02i4i4' * 2
+SOUND = row_of(STROKES, [[i4(1000), i4(5)], [i4(1001), i4(7)]])
+store(EXAMPLES, 'sound.card', whole(STROKES, SOUND), ['0.0 i4 1000', '0.1 i4 5', '1.0 i4 1001', '1.1 i4 7'])
+
+# The March accident: both slots point at the one stroke that there is.
+store(EXAMPLES, 'march.card', whole(STROKES, SOUND[:16] + SOUND[8:16] + SOUND[24:48]), ['refused 7'])
