@@ -1,5 +1,5 @@
 -- Each case of an answer as the contents of its line. Assumes nothing.
-use mathlib.Core.Path.{_≡_, refl}
+use mathlib.Core.Path.{_≡_}
 use mathlib.Core.Bool.{Bool, true, false, cond}
 use mathlib.Core.List.{List, [], _∷_}
 use Prim.Native.Nat.{ℕ, _+_, _*_, _≤_}
@@ -16,15 +16,10 @@ use Rattle.answers.specs.declared.Answer.the-variants as A
 use Rattle.answers.specs.declared.Refusal.{Refusal}
 use Rattle.answers.specs.Meaning.{plain, float, meaning}
 use Rattle.row.specs.Demand1.{ReadGives}
-use Rattle.row.specs.Demand1 as D
-use Rattle.row.proofs.Among.{not-among}
+use Rattle.row.proofs.Numbers.{no-zero}
 use Rattle.card.specs.Lines.{hex, signed, bytes, contents, Puts}
 use Rattle.card.specs.Room.{Room}
 use Rattle.card.proofs.Putting.{puts-none}
-
--- no answer of reading is a float case without its float
-no-zero : ReadGives (R.refused 0) → ⊥
-no-zero (D.refused o) = not-among 0 o refl refl
 
 pub bool-byte : (v : Bool) → 48 + boolByte v ≤ 49
 bool-byte true = omega arith

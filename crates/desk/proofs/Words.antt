@@ -1,14 +1,13 @@
 -- Four words put, and each case of an answer told in them. Assumes nothing.
-use mathlib.Core.Path.{_≡_, refl, sym, ap, _∙_, subst}
+use mathlib.Core.Path.{_≡_, refl, _∙_, subst}
 use mathlib.Core.Bool.{Bool, true, false, cond}
-use mathlib.Core.Option.{Option, none, some}
+use mathlib.Core.Option.{none}
 use mathlib.Core.List.{List, [], _∷_}
-use Prim.Native.Nat.{ℕ, suc, _+_, _*_, _%_, _^_, _≤_, _<_}
+use Prim.Native.Nat.{ℕ, _*_, _%_, _≤_, _<_}
 use native.Mathlib.Omega.{arith}
 use lib.IntN.{ℤ}
 use lib.Ieee.{Float, Format, binary32, binary64, toBits, nanBits}
 use lib.ListN.{length, set}
-use lib.Seq.{sets}
 use borrow.Author.Tests.{le-leb, lt-leb}
 use Rattle.words.specs.Bits.{digit}
 use Rattle.words.specs.Signed.{halfOf, ofSigned}
@@ -18,10 +17,9 @@ use Rattle.layout.specs.Setting.{refusalIn}
 use Rattle.answers.specs.declared.Refusal.{Refusal}
 use Rattle.answers.specs.declared.Answer.{Answer as Case}
 use Rattle.answers.specs.declared.Answer.the-variants as A
-use Rattle.answers.specs.Meaning.{numberOf, plain, float, floatMeans, nanMeans, meaning}
+use Rattle.answers.specs.Meaning.{numberOf, plain, float, meaning}
 use Rattle.row.specs.Demand1.{ReadGives}
-use Rattle.row.specs.Demand1 as D
-use Rattle.row.proofs.Among.{not-among}
+use Rattle.row.proofs.Numbers.{no-zero}
 use Rattle.desk.specs.Words.{wordsOf, Tells, Puts}
 use Rattle.desk.proofs.Codes.{number-small}
 
@@ -30,10 +28,6 @@ put-short w out h = record { answers = rw (lt-leb 4 (length out) h); leaves = rw
 
 pub put-done : (k a b c : ℕ) (out : List ℕ) → 4 ≤ length out → Puts (k ∷ a ∷ b ∷ c ∷ []) out 0 (set (set (set (set out 0 k) 1 a) 2 b) 3 c)
 put-done k a b c out h = record { answers = rw (le-leb 4 (length out) h); leaves = rw (le-leb 4 (length out) h) refl }
-
--- no answer of reading is a float case without its float
-no-zero : ReadGives (R.refused 0) → ⊥
-no-zero (D.refused o) = not-among 0 o refl refl
 
 module _ (out out′ : List ℕ) (r : ℕ) where
   told : (a : Answer) → refusalIn a ≡ none → Puts (wordsOf a) out r out′ → Tells a out r out′

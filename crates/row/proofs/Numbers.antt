@@ -15,10 +15,12 @@ use Rattle.schema.specs.declared.Judged.{Judged}
 use Rattle.schema.specs.declared.Judged.the-variants.{Accepted, Refused}
 use Rattle.layout.specs.Layout.{slotOf, front, limit, codec}
 use Rattle.layout.specs.Walk.{Seat, Seen, bad, nullAt, seen, Step, stop, toNull, into, must, mustStep, own, bySlot, byFlag, seatOf, child, stepIn, goOn, rootSeat, walk}
+use Rattle.layout.specs.Reading as R
 use Rattle.layout.specs.Reading.{Answer, valueOf, placed, answerOf, found, readIn}
 use Rattle.layout.specs.Entries.{readOf}
 use Rattle.row.specs.Demand1.{OneOf, here, there, Gives, ReadGives}
 use Rattle.row.specs.Demand1 as D
+use Rattle.row.proofs.Among.{not-among}
 
 -- the numbers of the walk
 abbrev walks : List ℕ
@@ -153,3 +155,7 @@ read-gives s row p = by-schema (judged s) refl (leb (length row) 16384) refl
     by-schema Refused a v h = rw a (D.refused here)
     by-schema Accepted a false h = rw (a, h) (D.refused (there here))
     by-schema Accepted a true h = rw (a, h) (after-two (readIn (fieldsOf s) row p) (place-gives (fieldsOf s) row p))
+
+-- so none is the number 0, which stands for a float's case without its float
+pub no-zero : ReadGives (R.refused 0) → ⊥
+no-zero (D.refused o) = not-among 0 o refl refl
