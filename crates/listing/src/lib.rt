@@ -22,8 +22,9 @@ fn put_mark(out: &mut [u8], pos: usize, k: usize) -> usize
     if out.len() < end {
         return end;
     }
-    out[pos] = schema::TYPES[k].first;
-    out[pos + 1] = schema::TYPES[k].second;
+    let e = schema::TYPES[k];
+    out[pos] = e.first;
+    out[pos + 1] = e.second;
     end
 }
 

@@ -141,7 +141,8 @@ pub fn width_of(k: usize) -> usize
     requires { ⌜ k < 12 ⌝ }
     ensures { λ r. ⌜ r ≡ line k .width ⌝ }
 {
-    wide(TYPES[k].width)
+    let e = TYPES[k];
+    wide(e.width)
 }
 
 // The bytes of an element of the type at a place of the table: a slot's 8 where they vary.

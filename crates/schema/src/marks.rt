@@ -48,11 +48,8 @@ fn is_mark(i: usize, a: u8, b: u8) -> bool
     requires { ⌜ i < 12 ⌝ }
     ensures { λ r. ⌜ r ≡ isMark (line i) a b ⌝ }
 {
-    if TYPES[i].first == a {
-        TYPES[i].second == b
-    } else {
-        false
-    }
+    let e = TYPES[i];
+    if e.first == a { e.second == b } else { false }
 }
 
 // The place of a mark in the table, or 12 where it has none.

@@ -27,7 +27,8 @@ fn mark_number(k: usize) -> usize
     requires { ⌜ k < 12 ⌝ }
     ensures { λ r. ⌜ r ≡ num (markAt k) ⌝ }
 {
-    schema::wide(schema::TYPES[k].first) + 256 * schema::wide(schema::TYPES[k].second)
+    let e = schema::TYPES[k];
+    schema::wide(e.first) + 256 * schema::wide(e.second)
 }
 
 // A varying child's contents are padded in its container.

@@ -15,20 +15,14 @@ returns : tie.Need-returns
 unfolding markAt
 returns c = wrote-none _ _ _ 2 _ refl refl (c .if1 .taken)
 
-mul-out : tie.Need-mul-out
-mul-out c = search needs
+mul-e : tie.Need-mul-e
+mul-e c = search needs
 
-element-copy-out-out : tie.Need-element-copy-out-out
-element-copy-out-out c = search needs
+array-copy-out-e : tie.Need-array-copy-out-e
+array-copy-out-e c = search needs
 
 slice-write-out : tie.Need-slice-write-out
 slice-write-out c = search needs
-
-mul-out-2 : tie.Need-mul-out-2
-mul-out-2 c = search needs
-
-element-copy-out-out-2 : tie.Need-element-copy-out-out-2
-element-copy-out-out-2 c = search needs
 
 add-out : tie.Need-add-out
 add-out c = search needs
@@ -49,11 +43,9 @@ put-mark-spec =
     (tie.spec
     add-end
     returns
-    mul-out
-    element-copy-out-out
+    mul-e
+    array-copy-out-e
     slice-write-out
-    mul-out-2
-    element-copy-out-out-2
     add-out
     slice-write-out-2
     same-length

@@ -4,11 +4,11 @@ use borrow.Author.Needs.{needs}
 use Rattle.schema.proofs.width_of.Statement.{statement}
 use Rattle.schema.proofs.width_of.Tie as tie
 
-mul-wide : tie.Need-mul-wide
-mul-wide c = search needs
+mul-e : tie.Need-mul-e
+mul-e c = search needs
 
-element-copy-out-wide : tie.Need-element-copy-out-wide
-element-copy-out-wide c = search needs
+array-copy-out-e : tie.Need-array-copy-out-e
+array-copy-out-e c = search needs
 
 wide-requires : tie.Need-wide-requires
 wide-requires c κs = search needs
@@ -18,4 +18,4 @@ unfolding types
 returns c = c .wide .ensures
 
 pub width-of-spec : {M : Type 1} → statement M
-width-of-spec = tie.close (tie.spec mul-wide element-copy-out-wide wide-requires returns)
+width-of-spec = tie.close (tie.spec mul-e array-copy-out-e wide-requires returns)

@@ -6,27 +6,19 @@ use borrow.Author.Needs.{needs}
 use Rattle.schema.proofs.marks.is_mark.Statement.{statement}
 use Rattle.schema.proofs.marks.is_mark.Tie as tie
 
-mul-if1 : tie.Need-mul-if1
-mul-if1 c = search needs
+mul-e : tie.Need-mul-e
+mul-e c = search needs
 
-element-copy-out-if1 : tie.Need-element-copy-out-if1
-element-copy-out-if1 c = search needs
-
-mul-result : tie.Need-mul-result
-mul-result c = search needs
-
-element-copy-out-result : tie.Need-element-copy-out-result
-element-copy-out-result c = search needs
+array-copy-out-e : tie.Need-array-copy-out-e
+array-copy-out-e c = search needs
 
 returns : tie.Need-returns
 unfolding types
-returns c = sym (first-same (line (c .before .args .i)) (c .before .args .a) (c .before .args .b) (c .if1 .taken))
+returns c = sym (first-same (line (c .before .before .before .before .args .i)) (c .before .before .before .before .args .a) (c .before .before .before .before .args .b) (c .before .if1 .taken))
 
 returns-2 : tie.Need-returns-2
 unfolding types
-returns-2 c = sym (first-other (line (c .before .args .i)) (c .before .args .a) (c .before .args .b) (c .if1 .left))
+returns-2 c = sym (first-other (line (c .before .before .before .args .i)) (c .before .before .before .args .a) (c .before .before .before .args .b) (c .if1 .left))
 
 pub is-mark-spec : {M : Type 1} → statement M
-is-mark-spec =
-    tie.close
-    (tie.spec mul-if1 element-copy-out-if1 mul-result element-copy-out-result returns returns-2)
+is-mark-spec = tie.close (tie.spec mul-e array-copy-out-e returns returns-2)
