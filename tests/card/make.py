@@ -8,7 +8,8 @@ here, from the document; the second program's card must say the same.
 import os
 
 import second
-from rows import Null, content, judge
+from layouts import content
+from schemas import Null, judge
 
 HERE = os.path.dirname(os.path.abspath(__file__))
 EXAMPLES = os.path.join(HERE, '..', '..', 'examples')

@@ -14,7 +14,8 @@ import sys
 sys.path.insert(0, os.path.join(os.path.dirname(__file__), '..', 'second'))
 import requests
 import rows
-from rows import BOOL, BYTES, FLOAT, INT, LIST, Null
+from layouts import decode
+from schemas import BOOL, BYTES, FLOAT, INT, LIST, Null, Refused, judge
 
 
 def contents(t, cell):
@@ -43,11 +44,11 @@ def card(data):
     schema, row = data[2:2 + size], data[2 + size:]
     try:
         rows.check(schema, row)
-    except rows.Refused as refused:
+    except Refused as refused:
         return 'refused %d\n' % refused.number
-    root = rows.judge(schema)
+    root = judge(schema)
     found = []
-    lines(root, rows.decode(root, row, 0, len(row)), (), found)
+    lines(root, decode(root, row, 0, len(row)), (), found)
     return ''.join(found)
 
 

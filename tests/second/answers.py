@@ -4,6 +4,7 @@ import struct
 from collections import namedtuple
 
 import rows
+from schemas import Refused, judge
 
 # A request: `second` is the listing or the row, `third` the stand-in or the
 # setting's bytes, `room` the length of the lent output.
@@ -83,7 +84,7 @@ def output_line(call, req):
     out = bytes([FILL]) * req.room
     try:
         result = call(req.schema, req.second, req.room)
-    except rows.Refused as r:
+    except Refused as r:
         return '%s %s' % (refusal(r), hex_or_dash(out))
     return 'done %d %s' % (len(result), hex_or_dash(result + out[len(result):]))
 
@@ -108,7 +109,7 @@ def answer(req):
     row = req.second
     try:
         if op == 'j':
-            rows.judge(req.schema)
+            judge(req.schema)
             return 'done'
         if op == 'c':
             rows.check(req.schema, row)
@@ -118,7 +119,7 @@ def answer(req):
             return 'done ' + hex_or_dash(rows.set_leaf(req.schema, row, req.steps, setting))
         if op in ('r', 'o'):
             return value_line(rows.read(req.schema, row, req.steps))
-    except rows.Refused as r:
+    except Refused as r:
         if op == 's':
             return '%s %s' % (refusal(r), hex_or_dash(row))
         return refusal(r)

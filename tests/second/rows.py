@@ -1,370 +1,20 @@
-"""The row document, in plain Python: schema, listing, layout, reading, setting.
+"""The row document, in plain Python: reading, setting, and the entries with their orders of refusals.
 
-This is a second reading of the document, written from its text alone, so that
-two programs that share nothing can be compared.  It is meant to be read beside
-the document: each section here carries a section's rules in the same order.
+With schemas.py and layouts.py this is a second reading of the document, written
+from its text alone, so that two programs that share nothing can be compared.
+The three are meant to be read beside the document: each section here carries a
+section's rules in the same order.
 
 Every entry takes any bytes.  It answers, or it raises Refused with the
 document's number; it raises nothing else.
 """
 
-from functools import lru_cache
+from layouts import content, decode, listing_of, parse_listing
+from schemas import (BOOL, BYTES, FLOAT, INT, LIST, MAP, STRUCT, Refused, bitmap_size, judge, number_at,
+                     pad, signed_at)
 
-SCHEMA_LIMIT = 1024
-LISTING_LIMIT = 65536
 ROW_LIMIT = 16384
-DEPTH_LIMIT = 8
-FIELD_LIMIT = 128
 PATH_LIMIT = 16
-
-
-class Refused(Exception):
-    """The document's number, and the length that only number 4 carries."""
-
-    def __init__(self, number, length=0):
-        super().__init__(number, length)
-        self.number = number
-        self.length = length
-
-
-# --- Numbers in bytes --------------------------------------------------------
-
-def number_at(data, at, width):
-    return int.from_bytes(data[at:at + width], 'little')
-
-
-def signed_at(data, at, width):
-    return int.from_bytes(data[at:at + width], 'little', signed=True)
-
-
-def pad(n):
-    return (n + 7) // 8 * 8
-
-
-def padded(data):
-    return data + bytes(-len(data) % 8)
-
-
-def bitmap_size(n):
-    return (n + 63) // 64 * 8
-
-
-# --- Types and the schema ----------------------------------------------------
-
-BOOL, INT, FLOAT, BYTES, LIST, MAP, STRUCT = (
-    'bool', 'int', 'float', 'bytes', 'list', 'map', 'struct')
-
-# Mark, kind, width; a varying type has no width of its own.
-TABLE = (
-    (b'bo', BOOL, 1),
-    (b'i1', INT, 1),
-    (b'i2', INT, 2),
-    (b'i4', INT, 4),
-    (b'i8', INT, 8),
-    (b'f4', FLOAT, 4),
-    (b'f8', FLOAT, 8),
-    (b'st', BYTES, None),
-    (b'bi', BYTES, None),
-    (b'li', LIST, None),
-    (b'ma', MAP, None),
-    (b'ro', STRUCT, None),
-)
-KIND = {mark: kind for mark, kind, _ in TABLE}
-NULL_MARK = b'nu'
-
-
-class Type:
-    """A type; `room` is what an element of a list takes: its width, or a slot.
-
-    The parts of a struct are its field types, of a list its element type.  The
-    parts of a map are its two arrays, as list types, because the document
-    reads, checks and counts them as lists.
-    """
-
-    __slots__ = ('mark', 'kind', 'width', 'room', 'varying', 'parts')
-
-    def __init__(self, mark, kind, width, parts=()):
-        self.mark = mark
-        self.kind = kind
-        self.width = width
-        self.varying = width is None
-        self.room = 8 if width is None else width
-        self.parts = parts
-
-
-LEAVES = {mark: Type(mark, kind, width)
-          for mark, kind, width in TABLE if kind in (BOOL, INT, FLOAT, BYTES)}
-
-
-def list_of(element):
-    return Type(b'li', LIST, None, (element,))
-
-
-def parse_type(schema, at, depth):
-    """The type whose mark stands at `at`, and where it ends."""
-    mark = bytes(schema[at:at + 2])
-    if mark not in KIND or depth > DEPTH_LIMIT:
-        raise Refused(1)
-    at += 2
-    if mark == b'li':
-        element, at = parse_type(schema, at, depth + 1)
-        return list_of(element), at
-    if mark == b'ma':
-        key, at = parse_type(schema, at, depth + 1)
-        value, at = parse_type(schema, at, depth + 1)
-        return Type(mark, MAP, None, (list_of(key), list_of(value))), at
-    if mark == b'ro':
-        if at >= len(schema) or not 1 <= schema[at] <= FIELD_LIMIT:
-            raise Refused(1)
-        count = schema[at]
-        at += 1
-        fields = []
-        for _ in range(count):
-            field, at = parse_type(schema, at, depth + 1)
-            fields.append(field)
-        return Type(mark, STRUCT, None, tuple(fields)), at
-    return LEAVES[mark], at
-
-
-# One schema is asked about many rows; its type never changes.
-@lru_cache(maxsize=256)
-def judge(schema):
-    """The root type of a schema that keeps its rules."""
-    if len(schema) > SCHEMA_LIMIT:
-        raise Refused(1)
-    root, end = parse_type(schema, 0, 1)
-    if root.kind != STRUCT or end != len(schema):
-        raise Refused(1)
-    return root
-
-
-# --- Contents ----------------------------------------------------------------
-#
-# Contents are a tree: a Null with the bytes that stand under it in the row, a
-# leaf's bytes, or a list of contents (fields; elements; a map's two arrays).
-
-class Null:
-    __slots__ = ('under',)
-
-    def __init__(self, under):
-        self.under = under
-
-    def __eq__(self, other):
-        return isinstance(other, Null) and self.under == other.under
-
-    def __repr__(self):
-        return 'Null(%s)' % self.under.hex()
-
-
-def clean(cell):
-    """The same contents with zeros under every null."""
-    if isinstance(cell, Null):
-        return Null(bytes(len(cell.under)))
-    if isinstance(cell, list):
-        return [clean(part) for part in cell]
-    return cell
-
-
-# --- The listing -------------------------------------------------------------
-
-def take(listing, at, size):
-    """The next `size` bytes, all of which must be there."""
-    if size > len(listing) - at:
-        raise Refused(2)
-    return listing[at:at + size], at + size
-
-
-def parse_cells(types, rooms, count, listing, at):
-    """`count` records in a row; a null takes as many bytes as its place has."""
-    # Every record has two bytes or more, so a count beyond that cannot be met
-    # and need not be tried.
-    if count * 2 > len(listing) - at:
-        raise Refused(2)
-    cells = []
-    for i in range(count):
-        cell, at = parse_cell(types(i), rooms(i), listing, at)
-        cells.append(cell)
-    return cells, at
-
-
-def parse_array(array, count, listing, at):
-    element = array.parts[0]
-    return parse_cells(lambda i: element, lambda i: element.room, count, listing, at)
-
-
-def parse_cell(t, room, listing, at):
-    mark = listing[at:at + 2]
-    if mark == NULL_MARK:
-        return Null(bytes(room)), at + 2
-    if mark != t.mark:
-        raise Refused(2)
-    at += 2
-    kind = t.kind
-    if kind == STRUCT:
-        return parse_cells(t.parts.__getitem__, lambda i: 8, len(t.parts), listing, at)
-    if not t.varying:
-        data, at = take(listing, at, t.width)
-        if kind == BOOL and data[0] > 1:
-            raise Refused(2)
-        return data, at
-    head, at = take(listing, at, 4)
-    count = int.from_bytes(head, 'little')
-    if kind == BYTES:
-        return take(listing, at, count)
-    if kind == LIST:
-        return parse_array(t, count, listing, at)
-    keys, at = parse_array(t.parts[0], count, listing, at)
-    values, at = parse_array(t.parts[1], count, listing, at)
-    return [keys, values], at
-
-
-def parse_listing(root, listing):
-    """The contents that a listing holds, zeros under its nulls."""
-    if len(listing) > LISTING_LIMIT:
-        raise Refused(2)
-    cell, end = parse_cell(root, 0, listing, 0)
-    if isinstance(cell, Null) or end != len(listing):
-        raise Refused(2)
-    return cell
-
-
-def listing_parts(t, cell, parts):
-    if isinstance(cell, Null):
-        parts.append(NULL_MARK)
-        return
-    parts.append(t.mark)
-    kind = t.kind
-    if kind == STRUCT:
-        for part, field in zip(cell, t.parts):
-            listing_parts(field, part, parts)
-    elif kind == LIST:
-        parts.append(len(cell).to_bytes(4, 'little'))
-        for part in cell:
-            listing_parts(t.parts[0], part, parts)
-    elif kind == MAP:
-        parts.append(len(cell[0]).to_bytes(4, 'little'))
-        for array, half in zip(t.parts, cell):
-            for part in half:
-                listing_parts(array.parts[0], part, parts)
-    elif kind == BYTES:
-        parts.append(len(cell).to_bytes(4, 'little'))
-        parts.append(cell)
-    else:
-        parts.append(cell)
-
-
-def listing_of(t, cell):
-    parts = []
-    listing_parts(t, cell, parts)
-    return b''.join(parts)
-
-
-# --- The layout, written -----------------------------------------------------
-
-def join_slot(offset, size):
-    return (offset << 32 | size).to_bytes(8, 'little')
-
-
-def container_bytes(head, types, room, cells):
-    """A struct or an array: head, bitmap, slots up to Pad, variable data."""
-    n = len(cells)
-    fixed = len(head) + bitmap_size(n) + pad(n * room)
-    bits = 0
-    slots = bytearray()
-    data = bytearray()
-    for i, cell in enumerate(cells):
-        if isinstance(cell, Null):
-            bits |= 1 << i
-            slots += cell.under
-            continue
-        t = types(i)
-        if t.varying:
-            body = content(t, cell)
-            slots += join_slot(fixed + len(data), len(body))
-            data += padded(body)
-        else:
-            slots += cell
-            slots += bytes(room - len(cell))
-    return b''.join((head, bits.to_bytes(bitmap_size(n), 'little'), padded(slots), data))
-
-
-def content(t, cell):
-    """The bytes of a varying value that is there."""
-    if t.kind == BYTES:
-        return cell
-    if t.kind == STRUCT:
-        return container_bytes(b'', t.parts.__getitem__, 8, cell)
-    if t.kind == LIST:
-        element = t.parts[0]
-        count = len(cell).to_bytes(8, 'little')
-        return container_bytes(count, lambda i: element, element.room, cell)
-    keys = content(t.parts[0], cell[0])
-    values = content(t.parts[1], cell[1])
-    return len(keys).to_bytes(8, 'little') + keys + values
-
-
-# --- The layout, judged strictly ---------------------------------------------
-
-def decode(t, row, start, end):
-    """The contents that row[start:end] lays out, every byte of it judged."""
-    if t.kind == BYTES:
-        return row[start:end]
-    if t.kind == STRUCT:
-        return decode_container(row, start, end, 0, t.parts.__getitem__, len(t.parts), 8)
-    if end - start < 8:
-        raise Refused(7)
-    head = number_at(row, start, 8)
-    if t.kind == LIST:
-        element = t.parts[0]
-        return decode_container(row, start, end, 8, lambda i: element, head, element.room)
-    split = start + 8 + head
-    if split > end:
-        raise Refused(7)
-    keys = decode(t.parts[0], row, start + 8, split)
-    values = decode(t.parts[1], row, split, end)
-    if len(keys) != len(values):
-        raise Refused(7)
-    return [keys, values]
-
-
-def decode_container(row, start, end, head, types, n, room):
-    bitmap = start + head
-    slots = bitmap + bitmap_size(n)
-    slots_end = slots + n * room
-    next_free = slots + pad(n * room)
-    if next_free > end:
-        raise Refused(7)
-    bits = number_at(row, bitmap, slots - bitmap)
-    if bits >> n:
-        raise Refused(7)
-    cells = []
-    at = slots
-    for i in range(n):
-        if bits and bits >> i & 1:
-            cells.append(Null(row[at:at + room]))
-            at += room
-            continue
-        t = types(i)
-        if t.varying:
-            slot = number_at(row, at, 8)
-            first = start + (slot >> 32)
-            last = first + (slot & 0xFFFFFFFF)
-            # Values stand in order without gaps, each one padded with zeros.
-            if first != next_free:
-                raise Refused(7)
-            next_free = first + pad(last - first)
-            if next_free > end or any(row[last:next_free]):
-                raise Refused(7)
-            cells.append(decode(t, row, first, last))
-        else:
-            cell = row[at:at + t.width]
-            if t.kind == BOOL and cell[0] > 1 or any(row[at + t.width:at + room]):
-                raise Refused(7)
-            cells.append(cell)
-        at += room
-    if any(row[slots_end:slots + pad(n * room)]) or next_free != end:
-        raise Refused(7)
-    return cells
 
 
 # --- Reading one place -------------------------------------------------------
@@ -545,6 +195,11 @@ def within_limit(row):
         raise Refused(3)
 
 
+def within_room(answer, room):
+    if len(answer) > room:
+        raise Refused(4, len(answer))
+
+
 def check(schema, row):
     root = judge(schema)                          # 1
     within_limit(row)                             # 3
@@ -557,8 +212,7 @@ def write(schema, listing, room):
     cell = parse_listing(root, listing)           # 2
     row = content(root, cell)
     within_limit(row)                             # 3
-    if len(row) > room:
-        raise Refused(4, len(row))                # 4
+    within_room(row, room)                        # 4
     return row
 
 
@@ -568,8 +222,7 @@ def list_back(schema, row, room):
     within_limit(row)                             # 3
     cell = decode(root, row, 0, len(row))         # 7
     listing = listing_of(root, cell)
-    if len(listing) > room:
-        raise Refused(4, len(listing))            # 4
+    within_room(listing, room)                    # 4
     return listing
 
 

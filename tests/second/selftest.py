@@ -8,14 +8,17 @@ that this one is right, so that a difference is worth following.
 """
 
 import argparse
-import random
 
 import answers
 import cases
+import layouts
 import requests
 import rows
+import schemas
 import sequences
-from rows import BYTES, LIST, MAP, Null
+from damage import bad_listing, bad_row
+from making import Chooser, root_cell, sound_schema
+from schemas import BYTES, LIST, MAP, Null
 from trees import plain, replaced, tree_values
 
 
@@ -23,7 +26,7 @@ def refusal(call, *args):
     """The number that a call is refused with, None if it answers."""
     try:
         call(*args)
-    except rows.Refused as r:
+    except schemas.Refused as r:
         assert r.length == 0 or r.number == 4
         return r.number
     return None
@@ -73,19 +76,19 @@ def rebuilt(root, row):
 
     try:
         tree = cell(())
-    except (rows.Refused, TooMany):
+    except (schemas.Refused, TooMany):
         return None
-    return rows.content(root, tree) if equal_counts(root, tree) else None
+    return layouts.content(root, tree) if equal_counts(root, tree) else None
 
 
 def check_contents(root, schema, cells, row, listing):
     """Writing, listing back and reading of sound contents."""
-    assert rows.decode(root, row, 0, len(row)) == cells
+    assert layouts.decode(root, row, 0, len(row)) == cells
     assert refusal(rows.check, schema, row) is None
-    cleaned = rows.clean(cells)
-    assert rows.parse_listing(root, listing) == cleaned
-    assert rows.listing_of(root, cleaned) == listing
-    clean_row = rows.content(root, cleaned)
+    cleaned = schemas.clean(cells)
+    assert layouts.parse_listing(root, listing) == cleaned
+    assert layouts.listing_of(root, cleaned) == listing
+    clean_row = layouts.content(root, cleaned)
     assert rows.write(schema, listing, len(row)) == clean_row
     assert rows.list_back(schema, row, len(listing)) == listing
     assert rows.list_back(schema, clean_row, len(listing)) == listing
@@ -110,31 +113,31 @@ def check_row(root, schema, row):
     if number is not None:
         assert refusal(rows.list_back, schema, row, 70000) == 7
         return False
-    cells = rows.decode(root, row, 0, len(row))
-    check_contents(root, schema, cells, row, rows.listing_of(root, cells))
+    cells = layouts.decode(root, row, 0, len(row))
+    check_contents(root, schema, cells, row, layouts.listing_of(root, cells))
     return True
 
 
-def check_set(maker, scene, cells, values):
+def check_set(choose, scene, cells, values):
     """One or two settings in a sound row."""
     schema, root, row = scene.schema, scene.root, scene.row
 
     def any_setting():
-        path = maker.path(scene)
-        if maker.chance(0.6):
-            path = maker.one(list(values))
-        kind, value, third = maker.setting(scene, path)
+        path = requests.path_for(choose, scene)
+        if choose.chance(0.6):
+            path = choose.one(list(values))
+        kind, value, third = requests.setting_for(choose, scene, path)
         return path, answers.setting_of(kind, value, third)
 
     path, setting = any_setting()
     try:
         rows.type_at(root, path)
-        by_tree = rows.content(root, replaced(root, cells, path, setting))
-    except rows.Refused as r:
+        by_tree = layouts.content(root, replaced(root, cells, path, setting))
+    except schemas.Refused as r:
         by_tree = r.number
     try:
         after = rows.set_leaf(schema, row, path, setting)
-    except rows.Refused as r:
+    except schemas.Refused as r:
         assert r.number == by_tree, (schema, row, path, setting)
         return None
     assert after == by_tree
@@ -143,7 +146,7 @@ def check_set(maker, scene, cells, values):
     expected[path] = setting
     assert all_values(schema, after, values) == expected
     # The last of two settings of one place alone counts.
-    kind, value, third = maker.setting(scene, path)
+    kind, value, third = requests.setting_for(choose, scene, path)
     other = answers.setting_of(kind, value, third)
     if refusal(rows.set_leaf, schema, row, path, other) is None:
         assert (rows.set_leaf(schema, after, path, other)
@@ -159,10 +162,10 @@ def check_set(maker, scene, cells, values):
     return after
 
 
-def check_scene(maker, tally):
-    schema = maker.sound_schema()
-    root = rows.judge(schema)
-    cells = maker.root_cell(root, 20 + maker.below(60))
+def check_scene(choose, tally):
+    schema = sound_schema(choose)
+    root = schemas.judge(schema)
+    cells = root_cell(choose, root, 20 + choose.below(60))
     scene = requests.Scene(schema, root, cells)
     if len(scene.row) > rows.ROW_LIMIT:
         assert refusal(rows.write, schema, scene.listing, 70000) == 3
@@ -171,22 +174,22 @@ def check_scene(maker, tally):
     values = check_contents(root, schema, cells, scene.row, scene.listing)
     tally['places'] += len(values)
     for _ in range(8):
-        row, _ = maker.bad_row(scene)
+        row, _ = bad_row(choose, scene)
         tally['damaged rows'] += 1
         tally['of them sound'] += check_row(root, schema, row)
     for _ in range(8):
         tally['settings'] += 1
-        tally['of them done'] += check_set(maker, scene, cells, values) is not None
+        tally['of them done'] += check_set(choose, scene, cells, values) is not None
     # A damaged listing that is taken after all is the listing of what it gives.
     for _ in range(4):
-        listing = maker.bad_listing(scene)
+        listing = bad_listing(choose, scene)
         tally['damaged listings'] += 1
         if refusal(rows.write, schema, listing, 70000) is None:
             tally['of them taken'] += 1
             row = rows.write(schema, listing, 70000)
             assert rows.list_back(schema, row, 70000) == listing
     # Requests of every kind are answered and survive their encoding.
-    for req in maker.requests(scene, 8):
+    for req in requests.Maker(choose).requests(scene, 8):
         answers.answer(req)
         assert answers.decode(answers.encode(req)) == req
         assert answers.within_rooms(req)
@@ -198,7 +201,7 @@ def check_junk(rng):
                          rng.randbytes(rng.randrange(8))))
     data = rng.randbytes(rng.randrange(60))
     path = tuple(rng.randrange(3) for _ in range(rng.randrange(20)))
-    refusal(rows.judge, schema)
+    refusal(schemas.judge, schema)
     refusal(rows.check, schema, data)
     refusal(rows.write, schema, data, 100)
     refusal(rows.list_back, schema, data, 100)
@@ -214,13 +217,12 @@ def main():
     parser.add_argument('--scenes', type=int, default=3000)
     args = parser.parse_args()
     print('%d cases hold' % len(cases.requests_and_answers()))
-    rng = random.Random('selftest/%d' % args.seed)
-    maker = requests.Maker(rng)
+    choose = Chooser('selftest/%d' % args.seed)
     tally = dict.fromkeys(('places', 'damaged rows', 'of them sound', 'settings', 'of them done',
                            'damaged listings', 'of them taken'), 0)
     for _ in range(args.scenes):
-        check_scene(maker, tally)
-        check_junk(rng)
+        check_scene(choose, tally)
+        check_junk(choose)
     for number in range(3):
         for req in requests.batch(args.seed, number):
             assert answers.within_rooms(req)

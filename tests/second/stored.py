@@ -9,23 +9,23 @@ import pathlib
 import sys
 
 import answers
-import cases
+import table
 from answers import request
 
 DRIVE = pathlib.Path(__file__).resolve().parents[2] / 'crates' / 'drive'
 
 REQUESTS = (
-    request('j', cases.F_SCHEMA),
-    request('c', cases.H_SCHEMA, cases.H_ROW),
-    request('w', cases.A_SCHEMA, cases.B_LISTING, room=len(cases.B_ROW) + 4),
-    request('w', cases.C_SCHEMA, cases.C_LISTING, room=8),
-    request('l', cases.F_SCHEMA, cases.F_ROW, room=len(cases.F_LISTING)),
-    request('s', cases.A_SCHEMA, cases.A_ROW, (0,), kind=0),
-    request('s', cases.C_SCHEMA, cases.C_ROW, (0,), kind=5, third=b'TP'),
-    request('r', cases.A_SCHEMA, cases.A_ROW, (0,)),
-    request('r', cases.E_SCHEMA, cases.E_ROW, (0,) * 17),
-    request('o', cases.G_SCHEMA, cases.G_ROW, (0, 1)),
-    request('t', cases.C_SCHEMA, cases.C_ROW, (0,), third=b'none'),
+    request('j', table.F_SCHEMA),
+    request('c', table.H_SCHEMA, table.H_ROW),
+    request('w', table.A_SCHEMA, table.B_LISTING, room=len(table.B_ROW) + 4),
+    request('w', table.C_SCHEMA, table.C_LISTING, room=8),
+    request('l', table.F_SCHEMA, table.F_ROW, room=len(table.F_LISTING)),
+    request('s', table.A_SCHEMA, table.A_ROW, (0,), kind=0),
+    request('s', table.C_SCHEMA, table.C_ROW, (0,), kind=5, third=b'TP'),
+    request('r', table.A_SCHEMA, table.A_ROW, (0,)),
+    request('r', table.E_SCHEMA, table.E_ROW, (0,) * 17),
+    request('o', table.G_SCHEMA, table.G_ROW, (0, 1)),
+    request('t', table.C_SCHEMA, table.C_ROW, (0,), third=b'none'),
 )
 
 

@@ -4,8 +4,8 @@ Reading and setting in rows.py go by the bytes of a row.  Here they go by the
 contents, so that the two can be held against each other.
 """
 
-import rows
-from rows import BOOL, BYTES, FLOAT, INT, LIST, MAP, STRUCT, Null
+from rows import fits
+from schemas import BOOL, BYTES, FLOAT, INT, LIST, MAP, STRUCT, Null, Refused
 
 
 def tree_values(t, cell, path, found):
@@ -38,28 +38,28 @@ def plain(row, value):
 def replaced(root, cell, path, setting):
     """The contents with one leaf set, or a refusal; by the tree, not by the bytes."""
     if not path:
-        raise rows.Refused(8)
+        raise Refused(8)
     cell = list(cell)
     step = path[0]
     t = root.parts[0] if root.kind == LIST else root.parts[step]
     if step >= len(cell):
-        raise rows.Refused(5)
+        raise Refused(5)
     part = cell[step]
     if len(path) > 1:
         if isinstance(part, Null):
-            raise rows.Refused(6)
+            raise Refused(6)
         cell[step] = replaced(t, part, path[1:], setting)
         return cell
-    if root.kind == MAP or not rows.fits(t, setting):
-        raise rows.Refused(8)
+    if root.kind == MAP or not fits(t, setting):
+        raise Refused(8)
     room = 8 if root.kind == STRUCT else t.room
     if setting[0] == 'null':
         if t.kind == BYTES and not isinstance(part, Null):
-            raise rows.Refused(9)
+            raise Refused(9)
         cell[step] = Null(bytes(room))
     elif t.kind == BYTES:
         if isinstance(part, Null) or len(part) != len(setting[1]):
-            raise rows.Refused(9)
+            raise Refused(9)
         cell[step] = setting[1]
     else:
         cell[step] = (setting[1] % (1 << 8 * t.width)).to_bytes(t.width, 'little')
