@@ -6,3 +6,4 @@ mod Told
 mod Placing
 mod Checked
 mod Walking
+mod Example
