@@ -14,8 +14,8 @@ use answers::Outcome;
 use answers::Path;
 use answers::Setting;
 
-pub mod kinds;
-pub mod told;
+mod kinds;
+mod told;
 
 // What a kind and a value ask for: nothing that there is, or a setting.
 pub enum Asked {
