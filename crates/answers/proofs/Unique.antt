@@ -30,7 +30,7 @@ refusal n l =
     (cond (eqb n 2) F.Listing
     (cond (eqb n 3) F.TooLong
     (cond (eqb n 4) (F.Room l)
-    (cond (eqb n 5) F.NoPlace (cond (eqb n 6) F.NullBefore (cond (eqb n 7) F.Layout (cond (eqb n 8) F.Unfit F.Resize)))))))
+    (cond (eqb n 5) F.NoPlace (cond (eqb n 6) F.NullBefore (cond (eqb n 7) F.Layout (cond (eqb n 8) F.Unfit (cond (eqb n 9) F.Resize F.Batch))))))))
 
 refusal-back : (r : Refusal) → refusal (numberOf r) (lengthOf r) ≡ r
 refusal-back F.Schema = refl
@@ -42,6 +42,7 @@ refusal-back F.NullBefore = refl
 refusal-back F.Layout = refl
 refusal-back F.Unfit = refl
 refusal-back F.Resize = refl
+refusal-back F.Batch = refl
 
 -- a refusal is its number and its length
 pub refusal-one : (r s : Refusal) → numberOf r ≡ numberOf s → lengthOf r ≡ lengthOf s → r ≡ s
@@ -58,6 +59,7 @@ no-length F.NullBefore h = refl
 no-length F.Layout h = refl
 no-length F.Unfit h = refl
 no-length F.Resize h = refl
+no-length F.Batch h = refl
 
 -- so the number alone tells any other
 pub number-one : (r s : Refusal) → numberOf r ≡ numberOf s → (numberOf r ≡ 4 → ⊥) → r ≡ s

@@ -34,6 +34,7 @@ numberOf F.NullBefore = 6
 numberOf F.Layout = 7
 numberOf F.Unfit = 8
 numberOf F.Resize = 9
+numberOf F.Batch = 10
 
 -- a refusal's length is 0 except for 4, which answers the length needed
 abbrev pub lengthOf : Refusal → ℕ
@@ -46,6 +47,7 @@ lengthOf F.NullBefore = 0
 lengthOf F.Layout = 0
 lengthOf F.Unfit = 0
 lengthOf F.Resize = 0
+lengthOf F.Batch = 0
 
 -- ---- outcomes
 

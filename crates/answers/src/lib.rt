@@ -15,6 +15,7 @@ pub enum Refusal {
     Layout,
     Unfit,
     Resize,
+    Batch,
 }
 
 pub enum Outcome {

@@ -16,6 +16,7 @@ pub fn number(r: Refusal) -> u8
         Refusal::Layout => 7,
         Refusal::Unfit => 8,
         Refusal::Resize => 9,
+        Refusal::Batch => 10,
     }
 }
 
@@ -32,5 +33,6 @@ pub fn length(r: Refusal) -> usize
         Refusal::Layout => 0,
         Refusal::Unfit => 0,
         Refusal::Resize => 0,
+        Refusal::Batch => 0,
     }
 }

@@ -1,4 +1,4 @@
--- A code's halves do not meet: a refusal's number is at most 9. Assumes nothing.
+-- A code's halves do not meet: a refusal's number is at most 10. Assumes nothing.
 use mathlib.Core.Path.{_≡_, refl, sym, ap, _∙_}
 use Prim.Native.Nat.{ℕ, _+_, _*_, _%_, _^_, _≤_, _<_}
 use native.Mathlib.Omega.{arith}
@@ -13,7 +13,7 @@ use Rattle.answers.specs.Meaning.{numberOf, lengthOf, outcomeMeans, lengthMeans
 use Rattle.row.specs.Outcomes.{lengthIn}
 use Rattle.desk.specs.Codes.{verdictCode, sizedCode, Halved}
 
-pub number-small : (r : Refusal) → numberOf r ≤ 9
+pub number-small : (r : Refusal) → numberOf r ≤ 10
 number-small F.Schema = omega arith
 number-small F.Listing = omega arith
 number-small F.TooLong = omega arith
@@ -23,6 +23,7 @@ number-small F.NullBefore = omega arith
 number-small F.Layout = omega arith
 number-small F.Unfit = omega arith
 number-small F.Resize = omega arith
+number-small F.Batch = omega arith
 
 pub code-refused : (o : Outcome) (r : Refusal) (n : ℕ) → o ≡ O.Refused r → n ≡ numberOf r → n * 4294967296 % 18446744073709551616 ≡ verdictCode (outcomeMeans o)
 code-refused o r n e q = rw e (omega (arith, number-small r))

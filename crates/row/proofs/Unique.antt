@@ -16,7 +16,7 @@ use Rattle.answers.specs.declared.Answer.{Answer}
 use Rattle.answers.specs.Meaning.{outcomeMeans, meaning, Numbered}
 use Rattle.answers.proofs.Unique.{outcome-one, length-one, meaning-one}
 use Rattle.reading.specs.Texts.{TextOf}
-use Rattle.row.specs.Demand1.{Ends, ReadGives, Sets}
+use Rattle.row.specs.Demand1.{Ends, Gives, Sets}
 use Rattle.row.specs.Demand1 as D
 use Rattle.row.specs.declared.Opened.{Opened}
 use Rattle.row.specs.Unique.{SamePlace, Unique}
@@ -47,19 +47,20 @@ no-refusal a q n e = let z : some n ≡ none = sym (ap refusalIn e) ∙ q in let
 value : (a : R.Answer) → refusalIn a ≡ none → Numbered a
 value a q = record { known = no-refusal a q 0; roomless = no-refusal a q 4 }
 
-numbered : (a : R.Answer) → ReadGives a → Numbered a
+pub numbered : {ns : List ℕ} (a : R.Answer) → lacks 0 ns ≡ true → lacks 4 ns ≡ true → Gives ns a → Numbered a
 unfolding refusalIn
-numbered a D.null = value a refl
-numbered a D.bool = value a refl
-numbered a D.signed = value a refl
-numbered a D.float32 = value a refl
-numbered a D.float64 = value a refl
-numbered a D.bytes = value a refl
-numbered a D.container = value a refl
-numbered a (D.refused {n = n} o) = record { known = λ e. let z : n ≡ 0 = cc in not-among 0 o refl z; roomless = λ e. let z : n ≡ 4 = cc in not-among 4 o refl z }
+numbered a h₀ h₄ D.null = value a refl
+numbered a h₀ h₄ D.bool = value a refl
+numbered a h₀ h₄ D.signed = value a refl
+numbered a h₀ h₄ D.float32 = value a refl
+numbered a h₀ h₄ D.float64 = value a refl
+numbered a h₀ h₄ D.bytes = value a refl
+numbered a h₀ h₄ D.container = value a refl
+numbered a h₀ h₄ (D.refused {n = n} o) =
+    record { known = λ e. let z : n ≡ 0 = cc in not-among 0 o h₀ z; roomless = λ e. let z : n ≡ 4 = cc in not-among 4 o h₄ z }
 
 reads : (s row p : List ℕ) (r r′ : Answer) → meaning r ≡ readOf s row p → meaning r′ ≡ readOf s row p → r ≡ r′
-reads s row p r r′ e e′ = meaning-one r r′ (e ∙ sym e′) (rw e (numbered (readOf s row p) (read-gives s row p)))
+reads s row p r r′ e e′ = meaning-one r r′ (e ∙ sym e′) (rw e (numbered (readOf s row p) refl refl (read-gives s row p)))
 
 -- ---- texts
 

@@ -1,0 +1,25 @@
+-- `batch::judge_row` meets its contract: as the check of a row, whose schema is judged. Assumes nothing.
+use native.Mathlib.Omega.{arith}
+use Rattle.row.proofs.Orders.{check-long, check-bad, check-good}
+use borrow.Author.Needs.{needs}
+use Rattle.batch.proofs.judge_row.Statement.{statement}
+use Rattle.batch.proofs.judge_row.Tie as tie
+
+returns : tie.Need-returns
+returns c = check-long _ _ (c .before .before .before .pre) (omega (arith, c .if1 .taken))
+
+check-row-requires : tie.Need-check-row-requires
+check-row-requires c κs = search needs
+
+returns-2 : tie.Need-returns-2
+returns-2 c =
+    check-good _ _ (c .before .before .before .before .before .pre) (omega (arith, c .before .before .if1 .left))
+    _ (c .before .check-row .ensures) (c .if2 .taken)
+
+returns-3 : tie.Need-returns-3
+returns-3 c =
+    check-bad _ _ (c .before .before .before .before .before .pre) (omega (arith, c .before .before .if1 .left))
+    _ (c .before .check-row .ensures) (c .if2 .left)
+
+pub judge-row-spec : {M : Type 1} → statement M
+judge-row-spec = tie.close (tie.spec returns check-row-requires returns-2 returns-3)
