@@ -92,6 +92,7 @@ static int value(const uint8_t *s, size_t at, int depth, const uint8_t *b, size_
     }
     return children(s, at + 3, depth - 1, b, len, 0, s[at + 2], 0);
 }
+int plain_fits(const uint8_t *s, const uint8_t *row, size_t len) { return value(s, 0, 8, row, len); }
 uint64_t plain_check(const uint8_t *s, size_t slen, const uint8_t *row, size_t len) {
     if (!plain_judge(s, slen)) return 1ull << 32;
     if (len > 16384) return 3ull << 32;

@@ -8,6 +8,11 @@ uint64_t plain_list(const uint8_t *schema, size_t schema_len, const uint8_t *row
 uint64_t plain_write(const uint8_t *schema, size_t schema_len, const uint8_t *listing, size_t listing_len, uint8_t *out, size_t room);
 uint64_t plain_read(const uint8_t *schema, size_t schema_len, const uint8_t *row, size_t row_len, const uint32_t *path, size_t steps, uint64_t *answer);
 uint64_t plain_set(const uint8_t *schema, size_t schema_len, uint8_t *row, size_t row_len, const uint32_t *path, size_t steps, uint32_t kind, uint64_t value, const uint8_t *bytes, size_t length);
+uint64_t plain_batch_count(const uint8_t *batch, size_t len, uint64_t *answer);
+uint64_t plain_batch_check(const uint8_t *schema, size_t schema_len, const uint8_t *batch, size_t len, uint64_t *answer);
+uint64_t plain_batch_fetch(const uint8_t *schema, size_t schema_len, const uint8_t *batch, size_t len, size_t k, uint64_t *answer);
+// whether a row of an accepted schema, at most 16,384 bytes, keeps to the layout
+int plain_fits(const uint8_t *schema, const uint8_t *row, size_t row_len);
 // a type's line in the table, its width, and the position behind it in an accepted schema
 int plain_place(const uint8_t *mark);
 int plain_width(int place);

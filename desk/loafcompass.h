@@ -1,7 +1,8 @@
 /* Loafcompass for a desk's program, in C or C++: rows of the Fory standard row format.
  *
- * A slice is a pointer and a length; a pointer to no byte may be any but NULL. Every function takes any bytes of any length and ends
- * with a result or a numbered refusal, and a refusal alters no lent byte.
+ * A slice is a pointer and a length; a pointer to no byte may be any but NULL, and what is lent to be written overlaps nothing else that
+ * is lent. Every function takes any bytes of any length and ends with a result or a numbered refusal, and a refusal alters no byte of a
+ * row, a batch or an output.
  *
  * Each answers one number: the refusal's number in the upper half, 0 there for done, and a length in the lower half. */
 #ifndef LOAFCOMPASS_H
@@ -24,7 +25,8 @@ enum loaf_refusal {
     LOAF_NULL_BEFORE = 6, /* a null stands before the path's end */
     LOAF_LAYOUT = 7,      /* the row breaks the layout */
     LOAF_UNFIT = 8,       /* the value does not fit the place */
-    LOAF_RESIZE = 9       /* the value would change the place's size, or the nullness of a string or binary */
+    LOAF_RESIZE = 9,      /* the value would change the place's size, or the nullness of a string or binary */
+    LOAF_BATCH = 10       /* the batch ends inside a size or a row */
 };
 
 static inline uint32_t loaf_number(uint64_t answer) { return (uint32_t)(answer >> 32); }
@@ -53,6 +55,31 @@ uint64_t loaf_read(const uint8_t *schema, size_t schema_length, const uint8_t *r
  * 64 bits or the float's bits, and has no say for null and bytes; the bytes have none for the other kinds. A kind that is none, a bool
  * over 1 or a float32 of more than 32 bits is refused with 8. */
 uint64_t loaf_set(const uint8_t *schema, size_t schema_length, uint8_t *row, size_t row_length, const uint32_t *path, size_t path_length, uint32_t kind, uint64_t value, const uint8_t *bytes, size_t bytes_length);
+
+/* Batches: frames back to back, each a row's size as 4 bytes, big endian, and the row. Rows count from 0, and a row's range is its own bytes,
+ * without its size. A batch may be of any length, so what could be over 32 bits stands in words lent beside the code, and the lower half of
+ * the code is 0 but where a line below says otherwise. */
+
+/* How many rows the batch has, in answer[0]: done, or 10, and 4 with the length 1 if no word is lent. */
+uint64_t loaf_batch_count(const uint8_t *batch, size_t batch_length, uint64_t *answer, size_t answer_length);
+
+/* Where row k starts in the batch, in answer[0], and its length, in answer[1]: done, or 1, 10, 5, then 3, 7 of that row, and 4 with the
+ * length 2 if fewer than two words are lent. */
+uint64_t loaf_batch_fetch(const uint8_t *schema, size_t schema_length, const uint8_t *batch, size_t batch_length, size_t k, uint64_t *answer, size_t answer_length);
+
+/* Whether every row stands for contents of the schema: done, or 1, 10, or 3, 7 of the first such row; that row's number stands in answer[0]
+ * if a word is lent. */
+uint64_t loaf_batch_check(const uint8_t *schema, size_t schema_length, const uint8_t *batch, size_t batch_length, uint64_t *answer, size_t answer_length);
+
+/* The row in its frame behind the batch that the first `used` bytes of the room are: done, or 1, 10, then 3, 7 of the row, and 4 if the room
+ * is too small. The batch's new length, or with 4 the length needed, stands in answer[0] if a word is lent. */
+uint64_t loaf_batch_append(const uint8_t *schema, size_t schema_length, uint8_t *room, size_t room_length, size_t used, const uint8_t *row, size_t row_length, uint64_t *answer, size_t answer_length);
+
+/* One place of row k: 1, 10, 5, then as loaf_read of that row. Ranges count from that row's first byte. */
+uint64_t loaf_batch_read(const uint8_t *schema, size_t schema_length, const uint8_t *batch, size_t batch_length, size_t k, const uint32_t *path, size_t path_length, uint64_t *answer, size_t answer_length);
+
+/* One leaf of row k set in the batch: 1, 10, 5, then as loaf_set of that row. No byte of another row, and no size, is written. */
+uint64_t loaf_batch_set(const uint8_t *schema, size_t schema_length, uint8_t *batch, size_t batch_length, size_t k, const uint32_t *path, size_t path_length, uint32_t kind, uint64_t value, const uint8_t *bytes, size_t bytes_length);
 
 #ifdef __cplusplus
 }

@@ -1,5 +1,5 @@
 -- The setting that a kind and a value stand for, and the refusal of one that is none. Assumes nothing.
-use mathlib.Core.Path.{_≡_, refl, ap, _∙_}
+use mathlib.Core.Path.{_≡_, refl, sym, ap, _∙_}
 use mathlib.Core.Bool.{Bool, true, false}
 use mathlib.Core.Option.{Option, none, some}
 use mathlib.Core.List.{List}
@@ -24,13 +24,16 @@ use Rattle.layout.specs.Setting.{Setting, isSome, suits, keeps, unless, _or_, r
 use Rattle.layout.specs.Entries.{verdict, isAccepted, schemaBad, rowLong, layoutBad, checkOf, readAfter, readOf, setAfter, setOf, setVerdict, rowAfter}
 use Rattle.answers.specs.declared.Path.{Path}
 use Rattle.answers.specs.declared.Outcome.{Outcome as Done}
-use Rattle.answers.specs.Meaning.{outcomeMeans}
+use Rattle.answers.specs.declared.Setting.{Setting as Value}
+use Rattle.answers.specs.Meaning.{outcomeMeans, settingOf}
 use Rattle.answers.specs.Paths.{pathOf}
 use Rattle.answers.proofs.PathLaws.{length-path}
 use Rattle.row.specs.Demand1.{ReadGives}
 use Rattle.row.specs.Demand1 as D
 use Rattle.row.proofs.Among.{not-among}
-use Rattle.desk.specs.Asked.{boolOf, float32Of, askedOf, orEight, unfitOf, setAsked, Leaves}
+use Rattle.desk.specs.declared.Asked.{Asked}
+use Rattle.desk.specs.declared.Asked.the-variants.{Nothing, Of}
+use Rattle.desk.specs.Asked.{boolOf, float32Of, askedOf, askedMeans, orEight, unfitOf, setAsked, Leaves}
 use Rattle.desk.specs.Codes.{verdictCode}
 use Rattle.desk.specs.Steps.{Taken}
 use Rattle.desk.specs.Words.{codeAfter}
@@ -83,6 +86,14 @@ module _ (kind v : ℕ) (u : List ℕ) where
   unfolding askedOf
   kind-none a b c d e f = rw (ne-eqb kind 0 a, ne-eqb kind 1 b, ne-eqb kind 2 c, ne-eqb kind 3 d, ne-eqb kind 4 e, ne-eqb kind 5 f)
 
+-- what a kind and a value were found to ask for
+module _ {a : Asked} (kind v : ℕ) (h : (u : List ℕ) → askedMeans a u ≡ askedOf kind v u) (u : List ℕ) where
+  pub asks-none : a ≡ Nothing → none ≡ askedOf kind v u
+  asks-none e = sym (ap (λ (x : Asked). askedMeans x u) e) ∙ h u
+
+  pub asks-for : {x : Value} → a ≡ Of x → some (settingOf x u) ≡ askedOf kind v u
+  asks-for e = sym (ap (λ (y : Asked). askedMeans y u) e) ∙ h u
+
 -- ---- a setting that is none
 
 no-number : (n : ℕ) → none ≡ some n → ⊥
@@ -114,7 +125,7 @@ by-row true true false d k e h = e
 by-row true false c d k e h = e
 by-row false b c d k e h = e
 
-by-place : (a b c : Bool) (d : Option ℕ) (j k : ℕ) → j ≡ row-code a b c → j ≡ 0 → k ≡ codeAfter d 4 → (k ≡ 0 → ⊥) → k ≡ orEight (first a b c d) * 2 ^ 32
+by-place : (a b c : Bool) (d : Option ℕ) (j k : ℕ) → j ≡ row-code a b c → j ≡ 0 → k ≡ codeAfter d 4 4 → (k ≡ 0 → ⊥) → k ≡ orEight (first a b c d) * 2 ^ 32
 unfolding first row-code
 by-place true true true none j k e z q h = absurd (h q)
 by-place true true true (some n) j k e z q h = q
@@ -122,7 +133,8 @@ by-place true true false d j k e z q h = absurd (omega arith)
 by-place true false c d j k e z q h = absurd (omega arith)
 by-place false b c d j k e z q h = absurd (omega arith)
 
-by-value : (a b c : Bool) (d : Option ℕ) (j k : ℕ) → j ≡ row-code a b c → j ≡ 0 → k ≡ codeAfter d 4 → k ≡ 0 → ((n : ℕ) → d ≡ some n → n ≡ 0 → ⊥) → 34359738368 ≡ orEight (first a b c d) * 2 ^ 32
+by-value : (a b c : Bool) (d : Option ℕ) (j k : ℕ) → j ≡ row-code a b c → j ≡ 0 → k ≡ codeAfter d 4 4 → k ≡ 0
+    → ((n : ℕ) → d ≡ some n → n ≡ 0 → ⊥) → 34359738368 ≡ orEight (first a b c d) * 2 ^ 32
 unfolding first row-code
 by-value true true true none j k e z q h g = refl
 by-value true true true (some n) j k e z q h g = absurd (g n refl (omega arith))
@@ -144,8 +156,8 @@ module _ (s row p : List ℕ) where
   unfolding checkOf unfitOf first row-code
   refused-row j e h = by-row accepted short lays (refusalIn (readOf s row p)) j e h
 
-  module _ (j k : ℕ) (a : Answer) (e : j ≡ verdictCode (checkOf s row)) (z : j ≡ 0) (m : a ≡ readOf s row p) (q : k ≡ codeAfter (refusalIn a) 4) where
-    told : k ≡ codeAfter (refusalIn (readOf s row p)) 4
+  module _ (j k : ℕ) (a : Answer) (e : j ≡ verdictCode (checkOf s row)) (z : j ≡ 0) (m : a ≡ readOf s row p) (q : k ≡ codeAfter (refusalIn a) 4 4) where
+    told : k ≡ codeAfter (refusalIn (readOf s row p)) 4 4
     told = rw m at q
 
     pub refused-place : (k ≡ 0 → ⊥) → k ≡ unfitOf s row p * 2 ^ 32
@@ -157,7 +169,9 @@ module _ (s row p : List ℕ) where
     refused-value g h = by-value accepted short lays (refusalIn (readOf s row p)) j k e z told h (λ n. gives-nonzero (readOf s row p) n g)
 
 -- it is refused as a setting that fits no type of its place is
-as-unfit : (a b : Bool) (d : Option Cell) (y : Answer) (k : Option ℕ) (w : List ℕ) → setAfter (unless a 1 or unless b 3) (outcome d (refusalIn y or some 8 or k) w) ≡ refuses (orEight (unless a 1 or unless b 3 or unless (isSome d) 7 or refusalIn (readAfter (unless a 1 or unless b 3) y)))
+as-unfit : (a b : Bool) (d : Option Cell) (y : Answer) (k : Option ℕ) (w : List ℕ)
+    → setAfter (unless a 1 or unless b 3) (outcome d (refusalIn y or some 8 or k) w)
+    ≡ refuses (orEight (unless a 1 or unless b 3 or unless (isSome d) 7 or refusalIn (readAfter (unless a 1 or unless b 3) y)))
 unfolding outcome
 as-unfit true true none y k w = refl
 as-unfit true true (some c) y k w = go (refusalIn y)
@@ -168,9 +182,12 @@ as-unfit true true (some c) y k w = go (refusalIn y)
 as-unfit true false d y k w = refl
 as-unfit false b d y k w = refl
 
-pub unfit-alike : (s row p : List ℕ) (t : Ty) (x : Setting) → placed p (ro (fieldsOf s)) ≡ some t → suits t x ≡ false → setOf s row p x ≡ refuses (unfitOf s row p)
+pub unfit-alike : (s row p : List ℕ) (t : Ty) (x : Setting) → placed p (ro (fieldsOf s)) ≡ some t → suits t x ≡ false
+    → setOf s row p x ≡ refuses (unfitOf s row p)
 unfolding setOf setIn unfitOf readOf judgeAt
-unfit-alike s row p t x e h = rw (e, h) (as-unfit (isAccepted (judged s)) (leb (length row) 16384) (decode (ro (fieldsOf s)) row) (readIn (fieldsOf s) row p) (unless (keeps t (readIn (fieldsOf s) row p) x) 9) (writeAt (some t) x (walk p (ro (fieldsOf s)) rootSeat 0 row) row))
+unfit-alike s row p t x e h =
+    rw (e, h) (as-unfit (isAccepted (judged s)) (leb (length row) 16384) (decode (ro (fieldsOf s)) row) (readIn (fieldsOf s) row p)
+    (unless (keeps t (readIn (fieldsOf s) row p) x) 9) (writeAt (some t) x (walk p (ro (fieldsOf s)) rootSeat 0 row) row))
 
 -- ---- a path taken from lent steps sets as they do
 
@@ -186,14 +203,15 @@ module _ (l : List ℕ) (p : Path) (t : Taken l p) (s row : List ℕ) where
       go (yes h) = ap (λ (q : List ℕ). setOf s row q x) (taken-short l p t h)
       go (no n) = long-sets s row (pathOf p) l x (rw (length-path p ∙ t .long) (above l n)) (above l n)
 
-  taken-unfit : unfitOf s row (pathOf p) ≡ unfitOf s row l
+  pub taken-unfit : unfitOf s row (pathOf p) ≡ unfitOf s row l
   unfolding unfitOf
   taken-unfit = ap (λ (a : Answer). orEight (schemaBad s or rowLong row or layoutBad s row or refusalIn a)) (taken-reads l p t s row)
 
   pub leaves-none : (o : Option Setting) (r : ℕ) → none ≡ o → r ≡ unfitOf s row (pathOf p) * 2 ^ 32 → Leaves (setAsked s row l o) row r row
   leaves-none o r e q = rw (← e) (record { answers = q ∙ ap (λ (n : ℕ). n * 2 ^ 32) taken-unfit; after = refl })
 
-  pub leaves-set : (o : Option Setting) (x : Setting) (d : Done) (r : ℕ) (row′ : List ℕ) → some x ≡ o → SetAs (setOf s row (pathOf p) x) row row′ d → r ≡ verdictCode (outcomeMeans d) → Leaves (setAsked s row l o) row r row′
+  pub leaves-set : (o : Option Setting) (x : Setting) (d : Done) (r : ℕ) (row′ : List ℕ) → some x ≡ o
+      → SetAs (setOf s row (pathOf p) x) row row′ d → r ≡ verdictCode (outcomeMeans d) → Leaves (setAsked s row l o) row r row′
   leaves-set o x d r row′ e a q =
       rw (← e) (record {
         answers = q ∙ ap verdictCode (a .answers) ∙ ap (λ (z : Outcome). verdictCode (setVerdict z)) (taken-sets x);

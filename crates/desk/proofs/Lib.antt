@@ -3,3 +3,4 @@ pub mod Words
 pub mod Steps
 pub mod Asking
 pub mod Unique
+pub mod InBatch

@@ -3,4 +3,5 @@ pub mod Codes
 pub mod Words
 pub mod Steps
 pub mod Asked
+pub mod Batch
 pub mod Unique

@@ -3,20 +3,27 @@
 use mathlib.Core.Path.{_≡_}
 use mathlib.Core.List.{List}
 use Prim.Native.Nat.{ℕ}
-use Rattle.layout.specs.Reading.{Answer}
+use mathlib.Core.Option.{Option}
 use Rattle.layout.specs.Setting.{Outcome}
 use Rattle.layout.specs.Entries.{Verdict, Sized}
 use Rattle.row.specs.Unique.{Same}
 use Rattle.desk.specs.Codes.{verdictCode, Fills}
-use Rattle.desk.specs.Words.{Tells}
+use Rattle.desk.specs.Words.{Told}
 use Rattle.desk.specs.Asked.{Leaves}
+use Rattle.desk.specs.Batch.{Beside, AppendsTo}
 
 pub record Unique : Type 0 where
   -- loaf_judge, loaf_check
   pub verdicts : (v : Verdict) (r r′ : ℕ) → r ≡ verdictCode v → r′ ≡ verdictCode v → r ≡ r′
   -- loaf_write, loaf_list
   pub fills : (z : Sized) (after : List ℕ) (r r′ : ℕ) (b b′ : List ℕ) → Fills z after r b → Fills z after r′ b′ → Same r r′ b b′
-  -- loaf_read
-  pub tells : (a : Answer) (out : List ℕ) (r r′ : ℕ) (b b′ : List ℕ) → Tells a out r b → Tells a out r′ b′ → Same r r′ b b′
-  -- loaf_set
+  -- loaf_read, loaf_batch_read, loaf_batch_count, loaf_batch_fetch
+  pub told : (n : ℕ) (refusal : Option ℕ) (words out : List ℕ) (r r′ : ℕ) (b b′ : List ℕ) → Told n refusal words out r b → Told n refusal words out r′ b′
+      → Same r r′ b b′
+  -- loaf_set, loaf_batch_set
   pub leaves : (o : Outcome) (row : List ℕ) (r r′ : ℕ) (b b′ : List ℕ) → Leaves o row r b → Leaves o row r′ b′ → Same r r′ b b′
+  -- loaf_batch_check
+  pub besides : (code : ℕ) (words out : List ℕ) (r r′ : ℕ) (b b′ : List ℕ) → Beside code words out r b → Beside code words out r′ b′ → Same r r′ b b′
+  -- loaf_batch_append: the code and the words, and the room
+  pub appends : (z : Sized) (after out : List ℕ) (r r′ : ℕ) (room room′ b b′ : List ℕ) → AppendsTo z after out r room b → AppendsTo z after out r′ room′ b′
+      → Same r r′ b b′ × (room ≡ room′)

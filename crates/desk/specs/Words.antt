@@ -1,4 +1,4 @@
--- An answer of reading in four words, behind its code. Assumes nothing: these are definitions.
+-- An answer in words, behind its code; reading's has four. Assumes nothing: these are definitions.
 use mathlib.Core.Path.{_≡_}
 use mathlib.Core.Bool.{cond}
 use mathlib.Core.Option.{Option, none, some}
@@ -24,27 +24,26 @@ wordsOf (R.bytes o n) = 5 ∷ o ∷ n ∷ 0 ∷ []
 wordsOf (R.container o n k) = 6 ∷ o ∷ n ∷ k ∷ []
 wordsOf (R.refused n) = []
 
--- fewer than 4 words are refused last, with 4 and the length 4
-abbrev pub roomCode : ℕ → ℕ
-roomCode room = cond (leb 4 room) 0 (4 * 2 ^ 32 + 4)
+-- fewer than n words are refused last, with 4 and the length n
+abbrev pub roomCode : ℕ → ℕ → ℕ
+roomCode n room = cond (leb n room) 0 (4 * 2 ^ 32 + n)
 
-abbrev pub put : List ℕ → List ℕ → List ℕ
-put words out = cond (leb 4 (length out)) (sets out 0 words) out
+abbrev pub put : ℕ → List ℕ → List ℕ → List ℕ
+put n words out = cond (leb n (length out)) (sets out 0 words) out
 
-abbrev pub codeAfter : Option ℕ → ℕ → ℕ
-codeAfter none room = roomCode room
-codeAfter (some n) room = n * 2 ^ 32
+abbrev pub codeAfter : Option ℕ → ℕ → ℕ → ℕ
+codeAfter none n room = roomCode n room
+codeAfter (some m) n room = m * 2 ^ 32
 
-abbrev pub leftAfter : Option ℕ → List ℕ → List ℕ → List ℕ
-leftAfter none words out = put words out
-leftAfter (some n) words out = out
+abbrev pub leftAfter : Option ℕ → ℕ → List ℕ → List ℕ → List ℕ
+leftAfter none n words out = put n words out
+leftAfter (some m) n words out = out
 
--- what reading answers as a, with the words out lent: its code r, and the words after
-pub record Tells (a : Answer) (out : List ℕ) (r : ℕ) (out′ : List ℕ) : Type 0 where
-  pub answers : r ≡ codeAfter (refusalIn a) (length out)
-  pub leaves : out′ ≡ leftAfter (refusalIn a) (wordsOf a) out
+-- an answer that is refused, or told in n words, with the words out lent: its code r, and the words after
+pub record Told (n : ℕ) (refusal : Option ℕ) (words out : List ℕ) (r : ℕ) (out′ : List ℕ) : Type 0 where
+  pub answers : r ≡ codeAfter refusal n (length out)
+  pub leaves : out′ ≡ leftAfter refusal n words out
 
--- four words put, whatever they are
-pub record Puts (words out : List ℕ) (r : ℕ) (out′ : List ℕ) : Type 0 where
-  pub answers : r ≡ roomCode (length out)
-  pub leaves : out′ ≡ put words out
+-- what reading answers as a
+abbrev pub Tells : Answer → List ℕ → ℕ → List ℕ → Type 0
+Tells a out r out′ = Told 4 (refusalIn a) (wordsOf a) out r out′

@@ -14,6 +14,7 @@ use answers::Outcome;
 use answers::Path;
 use answers::Setting;
 
+pub mod batches;
 mod kinds;
 mod told;
 
@@ -83,14 +84,20 @@ pub extern "C" fn loaf_check(schema: &[u8], row: &[u8]) -> u64
 
 #[no_mangle]
 pub extern "C" fn loaf_write(schema: &[u8], listing: &[u8], out: &mut [u8]) -> u64
-    ensures { λ r. ⌜ Fills (writeOf (now (schema .entry)) (now (listing .entry)) (length (now (out .entry)))) (writtenOf (now (schema .entry)) (now (listing .entry)) (now (out .entry))) r (now (out .exit)) ⌝ }
+    ensures { λ r. ⌜ Fills
+        (writeOf (now (schema .entry)) (now (listing .entry)) (length (now (out .entry))))
+        (writtenOf (now (schema .entry)) (now (listing .entry)) (now (out .entry)))
+        r (now (out .exit)) ⌝ }
 {
     length_code(row::write(schema, listing, out))
 }
 
 #[no_mangle]
 pub extern "C" fn loaf_list(schema: &[u8], row: &[u8], out: &mut [u8]) -> u64
-    ensures { λ r. ⌜ Fills (listOf (now (schema .entry)) (now (row .entry)) (length (now (out .entry)))) (listedOf (now (schema .entry)) (now (row .entry)) (now (out .entry))) r (now (out .exit)) ⌝ }
+    ensures { λ r. ⌜ Fills
+        (listOf (now (schema .entry)) (now (row .entry)) (length (now (out .entry))))
+        (listedOf (now (schema .entry)) (now (row .entry)) (now (out .entry)))
+        r (now (out .exit)) ⌝ }
 {
     length_code(row::list(schema, row, out))
 }
@@ -128,7 +135,9 @@ pub extern "C" fn loaf_set(
     value: u64,
     bytes: &[u8],
 ) -> u64
-    ensures { λ r. ⌜ Leaves (setAsked (now (schema .entry)) (now (row .entry)) (now (path .entry)) (askedOf kind value (now (bytes .entry)))) (now (row .entry)) r (now (row .exit)) ⌝ }
+    ensures { λ r. ⌜ Leaves
+        (setAsked (now (schema .entry)) (now (row .entry)) (now (path .entry)) (askedOf kind value (now (bytes .entry))))
+        (now (row .entry)) r (now (row .exit)) ⌝ }
 {
     let p = path_of(path);
     match kinds::of_kind(kind, value) {

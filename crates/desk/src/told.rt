@@ -1,15 +1,35 @@
-// An answer of reading in four words.
+// An answer in words, where they fit: a number, two, or an answer of reading in four.
 ghost use mathlib.Core.List.{[], _∷_};
-ghost use Rattle.answers.specs.Meaning.{meaning};
-ghost use Rattle.row.specs.Demand1.{ReadGives};
-ghost use Rattle.desk.specs.Words.{Tells, Puts};
+ghost use mathlib.Core.Option.{none};
+ghost use Rattle.answers.specs.Meaning.{meaning, Numbered};
+ghost use Rattle.desk.specs.Words.{Told, Tells};
 use answers::Answer;
 use answers::floats;
 use answers::refusals;
 
-// Four words at the start of the lent ones, where they fit.
+pub fn put_one(answer: &mut [u64], a: u64) -> u64
+    ensures { λ r. ⌜ Told 1 none (a ∷ []) (now (answer .entry)) r (now (answer .exit)) ⌝ }
+{
+    if answer.len() < 1 {
+        return 0x4_0000_0001;
+    }
+    answer[0] = a;
+    0
+}
+
+pub fn put_two(answer: &mut [u64], a: u64, b: u64) -> u64
+    ensures { λ r. ⌜ Told 2 none (a ∷ b ∷ []) (now (answer .entry)) r (now (answer .exit)) ⌝ }
+{
+    if answer.len() < 2 {
+        return 0x4_0000_0002;
+    }
+    answer[0] = a;
+    answer[1] = b;
+    0
+}
+
 fn put(answer: &mut [u64], kind: u64, a: u64, b: u64, c: u64) -> u64
-    ensures { λ r. ⌜ Puts (kind ∷ a ∷ b ∷ c ∷ []) (now (answer .entry)) r (now (answer .exit)) ⌝ }
+    ensures { λ r. ⌜ Told 4 none (kind ∷ a ∷ b ∷ c ∷ []) (now (answer .entry)) r (now (answer .exit)) ⌝ }
 {
     if answer.len() < 4 {
         return 0x4_0000_0004;
@@ -22,7 +42,7 @@ fn put(answer: &mut [u64], kind: u64, a: u64, b: u64, c: u64) -> u64
 }
 
 pub fn put_answer(answer: &mut [u64], x: Answer) -> u64
-    requires { ⌜ ReadGives (meaning x) ⌝ }
+    requires { ⌜ Numbered (meaning x) ⌝ }
     ensures { λ r. ⌜ Tells (meaning x) (now (answer .entry)) r (now (answer .exit)) ⌝ }
 {
     match x {

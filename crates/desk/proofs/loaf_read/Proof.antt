@@ -1,5 +1,7 @@
 -- `desk::loaf_read` meets its contract. Assumes nothing.
+use mathlib.Core.Path.{refl}
 use Rattle.row.proofs.Numbers.{read-gives}
+use Rattle.row.proofs.Unique.{numbered}
 use Rattle.desk.proofs.Steps.{taken-reads}
 use Rattle.desk.proofs.Words.{gives-as, tells-as}
 use borrow.Author.Needs.{needs}
@@ -13,13 +15,15 @@ read-requires : tie.Need-read-requires
 read-requires c κs = search needs
 
 put-answer-requires : tie.Need-put-answer-requires
-put-answer-requires c κs = gives-as (c .read .result) _ (c .read .ensures) (read-gives _ _ _)
+put-answer-requires c κs = gives-as (c .read .result) _ (c .read .ensures) (numbered _ refl refl (read-gives _ _ _))
 
 same-length : tie.Need-same-length
 same-length c = search needs
 
 returns : tie.Need-returns
-returns c = tells-as (c .before .before .before .read .result) _ _ _ _ _ (c .before .before .before .read .ensures) (taken-reads _ _ (c .before .before .before .before .path-of .ensures) _ _) (c .before .before .put-answer .ensures)
+returns c =
+    tells-as (c .before .before .before .read .result) _ _ _ _ _ (c .before .before .before .read .ensures)
+    (taken-reads _ _ (c .before .before .before .before .path-of .ensures) _ _) (c .before .before .put-answer .ensures)
 
 pub loaf-read-spec : {M : Type 1} → statement M
 loaf-read-spec =

@@ -1,9 +1,6 @@
 -- `desk::loaf_set` meets its contract. Assumes nothing.
 use borrow.Author.Needs.{needs}
-use mathlib.Core.Path.{sym, ap, _∙_}
-use Rattle.desk.specs.declared.Asked.{Asked}
-use Rattle.desk.specs.Asked.{askedMeans}
-use Rattle.desk.proofs.Asking.{leaves-none, leaves-set}
+use Rattle.desk.proofs.Asking.{asks-none, asks-for, leaves-none, leaves-set}
 use Rattle.desk.proofs.loaf_set.Statement.{statement}
 use Rattle.desk.proofs.loaf_set.Tie as tie
 
@@ -32,13 +29,21 @@ same-length : tie.Need-same-length
 same-length c = search needs
 
 returns : tie.Need-returns
-returns c = leaves-none _ _ (c .before .before .before .before .before .path-of .ensures) _ _ _ _ (sym (ap (λ (a : Asked). askedMeans a (c .before .before .before .before .before .before .before .before .before .before .args .bytes .now)) (c .before .before .enum-told .given .1)) ∙ c .before .before .before .before .of-kind .ensures (c .before .before .before .before .before .before .before .before .before .before .args .bytes .now)) (c .refuse .ensures)
+returns c =
+    let t = c .before .before .before .before in
+    let u = t .before in
+    leaves-none _ _ (u .path-of .ensures) _ _ _ _ (asks-none _ _ (t .of-kind .ensures) _ (c .before .before .enum-told .given .1)) (c .refuse .ensures)
 
 same-length-2 : tie.Need-same-length-2
 same-length-2 c = search needs
 
 returns-2 : tie.Need-returns-2
-returns-2 c = leaves-set _ _ (c .before .before .before .before .before .before .before .before .before .path-of .ensures) _ _ _ _ (c .before .before .before .set .result) _ _ (sym (ap (λ (a : Asked). askedMeans a (c .before .before .before .before .before .before .before .before .before .before .before .before .before .before .args .bytes .now)) (c .before .before .before .before .before .before .x .given .1)) ∙ c .before .before .before .before .before .before .before .before .of-kind .ensures (c .before .before .before .before .before .before .before .before .before .before .before .before .before .before .args .bytes .now)) (c .before .before .before .set .ensures) (c .outcome-code .ensures)
+returns-2 c =
+    let t = c .before .before .before in
+    let u = t .before .before .before in
+    let v = u .before .before in
+    leaves-set _ _ (v .before .path-of .ensures) _ _ _ _ (t .set .result) _ _ (asks-for _ _ (v .of-kind .ensures) _ (u .x .given .1))
+    (t .set .ensures) (c .outcome-code .ensures)
 
 pub loaf-set-spec : {M : Type 1} → statement M
 loaf-set-spec =

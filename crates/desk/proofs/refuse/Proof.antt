@@ -1,7 +1,8 @@
 -- `desk::refuse` meets its contract. Assumes nothing.
 use borrow.Author.Needs.{needs}
-use mathlib.Core.Path.{ap, _∙_}
+use mathlib.Core.Path.{refl, ap, _∙_}
 use Rattle.row.proofs.Numbers.{read-gives}
+use Rattle.row.proofs.Unique.{numbered}
 use Rattle.desk.specs.Codes.{verdictCode}
 use Rattle.desk.proofs.Words.{gives-as}
 use Rattle.desk.proofs.Asking.{refused-row, refused-place, refused-value}
@@ -24,13 +25,21 @@ read-requires : tie.Need-read-requires
 read-requires c κs = search needs
 
 put-answer-requires : tie.Need-put-answer-requires
-put-answer-requires c κs = gives-as (c .read .result) _ (c .read .ensures) (read-gives _ _ _)
+put-answer-requires c κs = gives-as (c .read .result) _ (c .read .ensures) (numbered _ refl refl (read-gives _ _ _))
 
 returns-2 : tie.Need-returns-2
-returns-2 c = refused-place _ _ _ _ _ _ (c .before .before .before .before .before .before .outcome-code .ensures ∙ ap verdictCode (c .before .before .before .before .before .before .before .check .ensures)) (c .before .before .before .before .before .if1 .left) (c .before .before .before .read .ensures) (c .before .before .put-answer .ensures .answers) (c .if2 .taken)
+returns-2 c =
+    let t = c .before .before .before .before .before in
+    let judged = t .before .outcome-code .ensures ∙ ap verdictCode (t .before .before .check .ensures) in
+    refused-place _ _ _ _ _ _ judged (t .if1 .left) (c .before .before .before .read .ensures) (c .before .before .put-answer .ensures .answers)
+    (c .if2 .taken)
 
 returns-3 : tie.Need-returns-3
-returns-3 c = refused-value _ _ _ _ _ _ (c .before .before .before .before .before .before .outcome-code .ensures ∙ ap verdictCode (c .before .before .before .before .before .before .before .check .ensures)) (c .before .before .before .before .before .if1 .left) (c .before .before .before .read .ensures) (c .before .before .put-answer .ensures .answers) (read-gives _ _ _) (c .if2 .left)
+returns-3 c =
+    let t = c .before .before .before .before .before in
+    let judged = t .before .outcome-code .ensures ∙ ap verdictCode (t .before .before .check .ensures) in
+    refused-value _ _ _ _ _ _ judged (t .if1 .left) (c .before .before .before .read .ensures) (c .before .before .put-answer .ensures .answers)
+    (read-gives _ _ _) (c .if2 .left)
 
 pub refuse-spec : {M : Type 1} → statement M
 refuse-spec =

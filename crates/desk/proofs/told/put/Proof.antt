@@ -1,4 +1,5 @@
 -- `desk::told::put` meets its contract. Assumes nothing.
+use mathlib.Core.Path.{refl}
 use native.Mathlib.Omega.{arith}
 use lib.ListN.{length-set}
 use Rattle.desk.proofs.Words.{put-short, put-done}
@@ -7,7 +8,7 @@ use Rattle.desk.proofs.told.put.Statement.{statement}
 use Rattle.desk.proofs.told.put.Tie as tie
 
 returns : tie.Need-returns
-returns c = put-short _ _ (c .if1 .taken)
+returns c = put-short (c .if1 .taken) refl
 
 slice-write-answer : tie.Need-slice-write-answer
 slice-write-answer c = search needs
@@ -25,7 +26,7 @@ same-length : tie.Need-same-length
 same-length c = search needs
 
 returns-2 : tie.Need-returns-2
-returns-2 c = put-done _ _ _ _ _ (omega (arith, c .if1 .left))
+returns-2 c = put-done (omega (arith, c .if1 .left)) refl
 
 pub put-spec : {M : Type 1} → statement M
 put-spec =

@@ -1,0 +1,148 @@
+-- What the entries of a batch tell a C program, by the cases of their answers. Assumes nothing.
+use mathlib.Core.Path.{_≡_, refl, sym, ap, _∙_}
+use mathlib.Core.Option.{Option, none, some}
+use mathlib.Core.List.{List, [], _∷_}
+use Prim.Native.Nat.{ℕ, _+_, _-_, _*_, _^_}
+use native.Mathlib.Omega.{arith}
+use lib.ListN.{length, set}
+use borrow.Author.Tests.{eq-eqb, ne-eqb}
+use Rattle.words.specs.Bytes.{Bytes, part}
+use Rattle.layout.specs.Setting.{Setting, Outcome, refusalIn, _or_}
+use Rattle.layout.specs.Entries.{Sized, takes, refusedWith, schemaBad, rowLong, layoutBad, readAfter, setAfter, readOf as rowRead, setVerdict, rowAfter}
+use Rattle.answers.specs.declared.Refusal.{Refusal}
+use Rattle.answers.specs.declared.Path.{Path}
+use Rattle.answers.specs.declared.Outcome.{Outcome as Done}
+use Rattle.answers.specs.declared.Length.{Length}
+use Rattle.answers.specs.declared.Length.the-variants as L
+use Rattle.answers.specs.Meaning.{numberOf, lengthOf, outcomeMeans}
+use Rattle.answers.specs.Paths.{pathOf}
+use Rattle.setting.specs.Writes.{SetAs}
+use Rattle.batch.specs.Frames.{framed}
+use Rattle.batch.specs.Entries as B
+use Rattle.batch.specs.Entries.{rowOf, startOf, batchBad, rowMissing, noRow, rowBad, Fetching, Checking, range, fetchOf}
+use Rattle.batch.specs.Entries.{appendOf, appendedOf, readOf, within, setOf}
+use Rattle.batch.specs.Meaning.{Appends}
+use Rattle.batch.proofs.Taken.{or-none, fetch-of}
+use Rattle.batch.proofs.Settings.{fetches}
+use Rattle.desk.specs.Asked.{unfitOf, Leaves}
+use Rattle.desk.specs.Batch.{countRefusal, countWords, fetchRefusal, fetchWords, checkCode, checkWords, appendCode, appendWords, Beside, AppendsTo}
+use Rattle.desk.specs.Batch.{orElse, unfitIn, setAskedIn}
+use Rattle.desk.specs.Codes.{verdictCode}
+use Rattle.desk.specs.Steps.{Taken}
+use Rattle.desk.specs.Words.{Told}
+use Rattle.desk.proofs.Steps.{taken-reads}
+use Rattle.desk.proofs.Asking.{taken-sets, taken-unfit}
+
+-- ---- counting, fetching, checking
+
+module _ {out : List ℕ} where
+  pub count-told : {n r : ℕ} {out′ : List ℕ} (z : Sized) → takes n ≡ z → Told 1 none (n ∷ []) out r out′ → Told 1 (countRefusal z) (countWords z) out r out′
+  count-told z e p = rw (← e) p
+
+  pub count-refused : {m k code : ℕ} (z : Sized) → refusedWith m k ≡ z → code ≡ m * 2 ^ 32 → Told 1 (countRefusal z) (countWords z) out code out
+  count-refused z e c = rw (← e) (record { answers = c; leaves = refl })
+
+  pub fetch-told : {start len r : ℕ} {out′ : List ℕ} (z : Fetching) → range start len ≡ z → Told 2 none (start ∷ len ∷ []) out r out′
+      → Told 2 (fetchRefusal z) (fetchWords z) out r out′
+  fetch-told z e p = rw (← e) p
+
+  pub fetch-refused : {m code : ℕ} (z : Fetching) → B.refused m ≡ z → code ≡ m * 2 ^ 32 → Told 2 (fetchRefusal z) (fetchWords z) out code out
+  fetch-refused z e c = rw (← e) (record { answers = c; leaves = refl })
+
+  pub check-done : (z : Checking) → B.done ≡ z → Beside (checkCode z) (checkWords z) out 0 out
+  check-done z e = rw (← e) (record { answers = refl; leaves = refl })
+
+  pub check-refused : {m code : ℕ} (z : Checking) → B.refused m ≡ z → code ≡ m * 2 ^ 32 → Beside (checkCode z) (checkWords z) out code out
+  check-refused z e c = rw (← e) (record { answers = c; leaves = refl })
+
+  pub check-told : {k m code : ℕ} {out′ : List ℕ} (z : Checking) → B.refusedRow k m ≡ z → code ≡ m * 2 ^ 32 → out′ ≡ set out 0 k
+      → Beside (checkCode z) (checkWords z) out code out′
+  check-told z e c w = rw (← e) (record { answers = c; leaves = w })
+
+  -- ---- appending
+
+  pub refusal-alone : (m k : ℕ) {code : ℕ} → (m ≡ 4 → ⊥) → code ≡ m * 2 ^ 32
+      → Beside (appendCode (refusedWith m k)) (appendWords (refusedWith m k)) out code out
+  refusal-alone m k h c = record { answers = c; leaves = rw (ne-eqb m 4 h) }
+
+  pub refusal-told : (m k : ℕ) {code : ℕ} {out′ : List ℕ} → m ≡ 4 → code ≡ m * 2 ^ 32 → {i : ℕ} → i ≡ k → out′ ≡ set out 0 i
+      → Beside (appendCode (refusedWith m k)) (appendWords (refusedWith m k)) out code out′
+  refusal-told m k h c q w = record { answers = c; leaves = rw (eq-eqb m 4 h, ← q) w }
+
+  module _ {s room : List ℕ} {used : ℕ} {row : List ℕ} {l : Length} {room′ : List ℕ} (a : Appends s room used row l room′) where
+    pub append-told : {n : ℕ} {out′ : List ℕ} → l ≡ L.Done n → out′ ≡ set out 0 n
+        → AppendsTo (appendOf s room used row) (appendedOf s room used row) out 0 room′ out′
+    append-told e w =
+        let z : takes _ ≡ appendOf s room used row = rw e at (a .answers) in
+        record { tells = rw (← z) (record { answers = refl; leaves = w }); leaves = a .leaves }
+
+    pub append-refused : {r : Refusal} {code : ℕ} {out′ : List ℕ} → l ≡ L.Refused r
+        → Beside (appendCode (refusedWith (numberOf r) (lengthOf r))) (appendWords (refusedWith (numberOf r) (lengthOf r))) out code out′
+        → AppendsTo (appendOf s room used row) (appendedOf s room used row) out code room′ out′
+    append-refused {r} e w =
+        let z : refusedWith (numberOf r) (lengthOf r) ≡ appendOf s room used row = rw e at (a .answers) in
+        record { tells = rw (← z) w; leaves = a .leaves }
+
+-- ---- reading and setting by lent steps
+
+module _ (l : List ℕ) (p : Path) (t : Taken l p) (s b : List ℕ) (k : ℕ) where
+  pub reads-in : readOf s b k (pathOf p) ≡ readOf s b k l
+  unfolding readOf
+  reads-in = ap (readAfter (noRow s b k)) (taken-reads l p t s (rowOf b k))
+
+  sets-in : (x : Setting) → setOf s b k (pathOf p) x ≡ setOf s b k l x
+  unfolding setOf
+  sets-in x = ap (λ (o : Outcome). setAfter (noRow s b k) (within b (startOf b k) o)) (taken-sets l p t s (rowOf b k) x)
+
+  none-in : unfitIn s b k (pathOf p) ≡ unfitIn s b k l
+  unfolding unfitIn
+  none-in = ap (orElse (noRow s b k)) (taken-unfit l p t s (rowOf b k))
+
+  pub leaves-none-in : (o : Option Setting) (r : ℕ) → none ≡ o → r ≡ unfitIn s b k (pathOf p) * 2 ^ 32 → Leaves (setAskedIn s b k l o) b r b
+  leaves-none-in o r e q = rw (← e) (record { answers = q ∙ ap (λ (n : ℕ). n * 2 ^ 32) none-in; after = refl })
+
+  pub leaves-set-in : (o : Option Setting) (x : Setting) (d : Done) (r : ℕ) (b′ : List ℕ) → some x ≡ o → SetAs (setOf s b k (pathOf p) x) b b′ d
+      → r ≡ verdictCode (outcomeMeans d) → Leaves (setAskedIn s b k l o) b r b′
+  leaves-set-in o x d r b′ e a q =
+      rw (← e) (record {
+        answers = q ∙ ap verdictCode (a .answers) ∙ ap (λ (z : Outcome). verdictCode (setVerdict z)) (sets-in x);
+        after = a .after ∙ ap (λ (z : Outcome). rowAfter z b) (sets-in x);
+      })
+
+-- ---- a kind or a value that is none: what a fetch of the row shows
+
+or-front : (a b c : Option ℕ) (n : ℕ) → (a or b) ≡ some n → (a or b or c) ≡ some n
+or-front (some m) b c n e = e
+or-front none (some m) c n e = e
+or-front none none c n e = let z : _≡_ {A = ℕ} 0 1 = cc in absurd (omega arith)
+
+module _ (s b : List ℕ) (k : ℕ) (p : List ℕ) where
+  unfit-there : noRow s b k ≡ none → unfitIn s b k p ≡ unfitOf s (rowOf b k) p
+  unfolding unfitIn
+  unfit-there e = rw e
+
+  pub unfit-refused : (m : ℕ) → B.refused m ≡ fetchOf s b k → m ≡ unfitIn s b k p
+  unfolding fetchOf unfitIn unfitOf
+  unfit-refused m e = go (noRow s b k) refl (rowBad s (rowOf b k)) refl
+    where
+      go : (x : Option ℕ) → noRow s b k ≡ x → (y : Option ℕ) → rowBad s (rowOf b k) ≡ y → m ≡ unfitIn s b k p
+      go (some n) q y h = let z : _≡_ {A = Fetching} (B.refused m) (B.refused n) = rw q at e in let i : m ≡ n = cc in rw q i
+      go none q (some n) h =
+          let z : _≡_ {A = Fetching} (B.refused m) (B.refused n) = rw (q, h) at e in
+          let i : m ≡ n = cc in
+          let own = or-front (rowLong (rowOf b k)) (layoutBad s (rowOf b k)) (refusalIn (rowRead s (rowOf b k) p)) n h in
+          let none-before = or-none (schemaBad s) (batchBad (framed b) or rowMissing b k) q .0 in
+          rw q (rw (none-before, own) i)
+      go none q none h =
+          let z : _≡_ {A = Fetching} (B.refused m) (range (startOf b k) (length (rowOf b k))) = rw (q, h) at e in
+          let o : _≡_ {A = ℕ} 0 1 = cc in absurd (omega arith)
+
+  pub unfit-row : {start len : ℕ} → Bytes b → range start len ≡ fetchOf s b k → unfitOf s (part b start (start + len - start)) p ≡ unfitIn s b k p
+  unfolding fetchOf
+  unfit-row {start} {len} hb e =
+      let z : start + len - start ≡ len = omega arith in
+      let f = fetches s b k start len hb (sym e) in
+      let q = fetch-of (noRow s b k or rowBad s (rowOf b k)) (startOf b k) (length (rowOf b k)) start len (sym e) .0 in
+      ap (λ (i : ℕ). unfitOf s (part b start i) p) z
+      ∙ ap (λ (u : List ℕ). unfitOf s u p) (f .row)
+      ∙ sym (unfit-there (or-none (noRow s b k) (rowBad s (rowOf b k)) q .0))

@@ -1,0 +1,49 @@
+-- `desk::batches::loaf_batch_fetch` meets its contract. Assumes nothing.
+use mathlib.Core.Path.{sym, ap, _∙_}
+use Rattle.batch.specs.Meaning.{fetchMeans}
+use Rattle.desk.proofs.InBatch.{fetch-told, fetch-refused}
+use borrow.Author.Needs.{needs}
+use Rattle.desk.proofs.batches.loaf_batch_fetch.Statement.{statement}
+use Rattle.desk.proofs.batches.loaf_batch_fetch.Tie as tie
+
+fetch-requires : tie.Need-fetch-requires
+fetch-requires c κs = search needs
+
+enum-known-start : tie.Need-enum-known-start
+enum-known-start c = search needs
+
+put-two-requires : tie.Need-put-two-requires
+put-two-requires c κs = search needs
+
+enum-known-r : tie.Need-enum-known-r
+enum-known-r c = search needs
+
+refusal-code-requires : tie.Need-refusal-code-requires
+refusal-code-requires c κs = search needs
+
+same-length : tie.Need-same-length
+same-length c = search needs
+
+returns : tie.Need-returns
+returns c =
+    let t = c .before .before .before .before .before in
+    let u = t .before .before in
+    fetch-told _ (sym (ap fetchMeans (t .start .given .1)) ∙ u .fetch .ensures) (c .before .before .put-two .ensures)
+
+returns-2 : tie.Need-returns-2
+returns-2 c =
+    let t = c .before .before .before .before in
+    fetch-refused _ (sym (ap fetchMeans (c .before .before .r .given .1)) ∙ t .fetch .ensures) (c .refusal-code .ensures)
+
+pub loaf-batch-fetch-spec : {M : Type 1} → statement M
+loaf-batch-fetch-spec =
+    tie.close
+    (tie.spec
+    fetch-requires
+    enum-known-start
+    put-two-requires
+    enum-known-r
+    refusal-code-requires
+    same-length
+    returns
+    returns-2)
