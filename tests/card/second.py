@@ -55,7 +55,7 @@ def card(data):
 def checked_rows(seed, count):
     number = 0
     while True:
-        for request in requests.batch(seed, number):
+        for request in requests.portion(seed, number):
             if request.op == 'c':
                 if count == 0:
                     return

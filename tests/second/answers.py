@@ -3,11 +3,23 @@
 import struct
 from collections import namedtuple
 
+import batches
 import rows
 from schemas import Refused, judge
 
-# A request: `second` is the listing or the row, `third` the stand-in or the
-# setting's bytes, `room` the length of the lent output.
+# Every op of the driver with the numbers that the document lets it refuse with,
+# in their order; text falls back on its stand-in and refuses nothing.
+NUMBERS = {
+    'j': (1,), 'c': (1, 3, 7), 'w': (1, 2, 3, 4), 'l': (1, 3, 7, 4), 's': (1, 3, 7, 5, 6, 8, 9),
+    'r': (1, 3, 5, 7, 6), 'o': (1, 3, 5, 7, 6), 't': (),
+    'n': (10,), 'f': (1, 10, 5, 3, 7), 'k': (1, 10, 3, 7), 'A': (1, 10, 3, 7, 4),
+    'g': (1, 10, 5, 3, 7, 6), 'z': (1, 10, 5, 3, 7, 6, 8, 9),
+}
+OPS = ''.join(NUMBERS)
+
+# A request: `second` is the listing, the row or the batch, `third` the stand-in,
+# the setting's bytes or the row to append, `room` the length of the lent output
+# or, where the op asks for one row of a batch, that row's number.
 Request = namedtuple('Request', 'op schema second steps room third kind value')
 
 HEAD = struct.Struct('<c5IBQ')
@@ -89,6 +101,26 @@ def output_line(call, req):
     return 'done %d %s' % (len(result), hex_or_dash(result + out[len(result):]))
 
 
+def append_line(req):
+    """The lent room has the batch at its start; of a longer batch it has what fits, and `used` says all."""
+    room = req.second[:req.room]
+    room += bytes([FILL]) * (req.room - len(room))
+    try:
+        after, length = batches.append(req.schema, room, len(req.second), req.third)
+    except Refused as r:
+        return '%s %s' % (refusal(r), hex_or_dash(room))
+    return 'done %d %s' % (length, hex_or_dash(after))
+
+
+def set_line(call, req, *where):
+    """The row or the batch is shown whole after the call, a refused one as it was."""
+    setting = setting_of(req.kind, req.value, req.third)
+    try:
+        return 'done ' + hex_or_dash(call(req.schema, req.second, *where, req.steps, setting))
+    except Refused as r:
+        return '%s %s' % (refusal(r), hex_or_dash(req.second))
+
+
 def value_line(value):
     name = value[0]
     if name == 'float32':
@@ -99,28 +131,39 @@ def value_line(value):
 
 
 def answer(req):
-    op = req.op
+    op, schema, second = req.op, req.schema, req.second
     if op == 'w':
         return output_line(rows.write, req)
     if op == 'l':
         return output_line(rows.list_back, req)
     if op == 't':
-        return hex_or_dash(rows.text_or(req.schema, req.second, req.steps, req.third))
-    row = req.second
+        return hex_or_dash(rows.text_or(schema, second, req.steps, req.third))
+    if op == 's':
+        return set_line(rows.set_leaf, req)
+    if op == 'z':
+        return set_line(batches.set_leaf, req, req.room)
+    if op == 'A':
+        return append_line(req)
     try:
         if op == 'j':
-            judge(req.schema)
+            judge(schema)
             return 'done'
         if op == 'c':
-            rows.check(req.schema, row)
+            rows.check(schema, second)
             return 'done'
-        if op == 's':
-            setting = setting_of(req.kind, req.value, req.third)
-            return 'done ' + hex_or_dash(rows.set_leaf(req.schema, row, req.steps, setting))
         if op in ('r', 'o'):
-            return value_line(rows.read(req.schema, row, req.steps))
+            return value_line(rows.read(schema, second, req.steps))
+        if op == 'n':
+            return 'count %d' % batches.count(second)
+        if op == 'f':
+            return 'bytes %d %d' % batches.fetch(schema, second, req.room)
+        if op == 'k':
+            batches.check(schema, second)
+            return 'done'
+        if op == 'g':
+            return value_line(batches.read(schema, second, req.room, req.steps))
+    except batches.RowRefused as r:
+        return '%s row %d' % (refusal(r), r.row)
     except Refused as r:
-        if op == 's':
-            return '%s %s' % (refusal(r), hex_or_dash(row))
         return refusal(r)
     raise ValueError('no such op: %r' % op)

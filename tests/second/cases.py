@@ -1,4 +1,4 @@
-"""The document's table A to N and its further cases, as requests with answers.
+"""The document's table A to N, its further cases and those of batches, as requests with answers.
 
 Where the document states bytes, sizes or numbers they are written out by hand
 and not computed; the rest is answered by the second reading.  Making the cases
@@ -7,6 +7,8 @@ asserts the one against the other.
 
 import answers
 from answers import request
+from batch_cases import THREE, framing_cases
+from batch_orders import order_cases
 from further import further_cases
 from table import A_ROW, A_SCHEMA, C_ROW, C_SCHEMA, ZEROS, fill, table_cases
 
@@ -55,19 +57,23 @@ def requests_and_answers():
     cases = Cases()
     table_cases(cases)
     further_cases(cases)
+    framing_cases(cases)
+    order_cases(cases)
     assert all(answers.within_rooms(req) for _, req, _ in cases.made)
     return cases.made
 
 
-def runs():
-    """Whole inputs that end a run: name, input, lines."""
+def runs(ops=answers.OPS):
+    """Whole inputs that end a run, of these ops: name, input, lines."""
     good = answers.encode(request('c', A_SCHEMA, A_ROW))
-    full = answers.encode(request('s', C_SCHEMA, C_ROW, (0,), kind=5, third=b'TPH'))
     made = [('nothing', b'', []), ('two', good + good, ['done', 'done']),
             ('unknown op', good + b'x' + good[1:], ['done', 'end']),
             ('op zero', b'\0' + good[1:], ['end'])]
-    for n in range(1, len(full)):
-        made.append(('cut after %d' % n, good + full[:n], ['done', 'end']))
+    for req in (request('s', C_SCHEMA, C_ROW, (0,), kind=5, third=b'TPH'),
+                request('A', C_SCHEMA, THREE, room=92, third=C_ROW)):
+        full = answers.encode(req)
+        for n in range(1, len(full)):
+            made.append(('cut of %s after %d' % (req.op, n), good + full[:n], ['done', 'end']))
     head = answers.HEAD
     for at, room in enumerate((answers.SCHEMA_ROOM, answers.SECOND_ROOM, answers.STEPS_ROOM,
                                answers.OUT_ROOM, answers.THIRD_ROOM)):
@@ -82,6 +88,12 @@ def runs():
                 made.append(('length %d at its limit' % at, data + schema + rest + good, [line, 'done']))
             else:
                 made.append(('length %d over its limit' % at, data + bytes(80000), [line]))
+    # A row's number has the limit of the room, whose field it stands in; where the op has no use for it, too.
+    for op in filter(ops.__contains__, 'nfkAgz'):
+        at_limit = request(op, C_SCHEMA, THREE, room=answers.OUT_ROOM, third=C_ROW)
+        made.append(('room of %s at its limit' % op, answers.encode(at_limit) + good, [answers.answer(at_limit), 'done']))
+        for room in (answers.OUT_ROOM + 1, 0xFFFFFFFF):
+            made.append(('room of %s over its limit' % op, good + answers.encode(at_limit._replace(room=room)), ['done', 'end']))
     return made
 
 

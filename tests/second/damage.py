@@ -1,6 +1,7 @@
 """Wrong schemas, listings and rows, and the survey of a sound row that shows where its rules stand."""
 
 import layouts
+import rows
 import schemas
 from making import long_tree, mark_bytes, tower_tree, wide_tree
 from schemas import BOOL, BYTES, MAP, STRUCT
@@ -100,6 +101,11 @@ def cut(choose, data):
 def grow(choose, data):
     size = choose.one((1, 2, 7, 8, 8, 9, 16))
     return data + (bytes(size) if choose.chance(0.6) else choose.junk(size))
+
+
+def lengthened(choose, row):
+    """A row with zeros behind it, up to its limit or just over."""
+    return row + bytes(max(0, rows.ROW_LIMIT + choose.one((-8, 0, 1, 8)) - len(row)))
 
 
 # --- Schemas and listings ----------------------------------------------------

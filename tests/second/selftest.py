@@ -8,16 +8,20 @@ that this one is right, so that a difference is worth following.
 """
 
 import argparse
+import struct
 
 import answers
+import batches
 import cases
 import layouts
 import requests
 import rows
 import schemas
 import sequences
+from batch_requests import bad_frames, batch_scene
 from damage import bad_listing, bad_row
 from making import Chooser, root_cell, sound_schema
+from scenes import Scene, path_for, setting_for
 from schemas import BYTES, LIST, MAP, Null
 from trees import plain, replaced, tree_values
 
@@ -123,10 +127,10 @@ def check_set(choose, scene, cells, values):
     schema, root, row = scene.schema, scene.root, scene.row
 
     def any_setting():
-        path = requests.path_for(choose, scene)
+        path = path_for(choose, scene)
         if choose.chance(0.6):
             path = choose.one(list(values))
-        kind, value, third = requests.setting_for(choose, scene, path)
+        kind, value, third = setting_for(choose, scene, path)
         return path, answers.setting_of(kind, value, third)
 
     path, setting = any_setting()
@@ -146,7 +150,7 @@ def check_set(choose, scene, cells, values):
     expected[path] = setting
     assert all_values(schema, after, values) == expected
     # The last of two settings of one place alone counts.
-    kind, value, third = requests.setting_for(choose, scene, path)
+    kind, value, third = setting_for(choose, scene, path)
     other = answers.setting_of(kind, value, third)
     if refusal(rows.set_leaf, schema, row, path, other) is None:
         assert (rows.set_leaf(schema, after, path, other)
@@ -166,7 +170,7 @@ def check_scene(choose, tally):
     schema = sound_schema(choose)
     root = schemas.judge(schema)
     cells = root_cell(choose, root, 20 + choose.below(60))
-    scene = requests.Scene(schema, root, cells)
+    scene = Scene(schema, root, cells)
     if len(scene.row) > rows.ROW_LIMIT:
         assert refusal(rows.write, schema, scene.listing, 70000) == 3
         assert refusal(rows.check, schema, scene.row) == 3
@@ -195,6 +199,109 @@ def check_scene(choose, tally):
         assert answers.within_rooms(req)
 
 
+# --- Batches -----------------------------------------------------------------
+
+def whole_rows(batch):
+    """The rows of a batch, None where it ends inside a size or a row; frames are taken off its front."""
+    found = []
+    while batch:
+        if len(batch) < 4:
+            return None
+        size, = struct.unpack('>I', batch[:4])
+        if size > len(batch) - 4:
+            return None
+        found.append(batch[4:4 + size])
+        batch = batch[4 + size:]
+    return found
+
+
+def line_by_rows(req):
+    """The line of a request about a batch, from the lines of requests about single rows."""
+    op, schema, k = req.op, req.schema, req.room
+    lent = ''
+    if op == 'z':
+        lent = ' ' + answers.hex_or_dash(req.second)
+    if op == 'A':
+        room = (req.second + b'\xaa' * req.room)[:req.room]
+        lent = ' ' + answers.hex_or_dash(room)
+    if op != 'n' and refusal(schemas.judge, schema) is not None:
+        return 'refused 1 0' + lent
+    found = whole_rows(req.second)
+    if found is None or op == 'A' and len(req.second) > req.room:
+        return 'refused 10 0' + lent
+    if op == 'n':
+        return 'count %d' % len(found)
+
+    def checked(row):
+        return answers.answer(answers.request('c', schema, row))
+
+    if op == 'k':
+        return next(('%s row %d' % (checked(row), i) for i, row in enumerate(found) if checked(row) != 'done'), 'done')
+    if op == 'A':
+        after = req.second + struct.pack('>I', len(req.third)) + req.third
+        if checked(req.third) != 'done':
+            return checked(req.third) + lent
+        if len(after) > req.room:
+            return 'refused 4 %d%s' % (len(after), lent)
+        return 'done %d %s' % (len(after), (after + room[len(after):]).hex())
+    if k >= len(found):
+        return 'refused 5 0' + lent
+    row, start = found[k], sum(len(earlier) + 4 for earlier in found[:k]) + 4
+    if op == 'f':
+        return 'bytes %d %d' % (start, len(row)) if checked(row) == 'done' else checked(row)
+    if op == 'g':
+        return answers.answer(req._replace(op='r', second=row))
+    line = answers.answer(req._replace(op='s', second=row))
+    if line.startswith('refused'):
+        return ' '.join(line.split(' ')[:3]) + lent
+    return 'done %s%s%s' % (req.second[:start].hex(), line.split(' ')[1], req.second[start + len(row):].hex())
+
+
+def check_batch(choose, tally):
+    """The framing and its inverse, every op against the rows by themselves, and taking apart."""
+    made = batch_scene(choose, None)
+    for req in made:
+        line = answers.answer(req)
+        assert line == line_by_rows(req), req
+        tally['requests about batches'] += 1
+        rows_there = whole_rows(req.second)
+        assert refusal(batches.ranges, req.second) == (10 if rows_there is None else None)
+        if rows_there is None:
+            continue
+        assert batches.framed(req.second) == rows_there
+        assert batches.framing(rows_there) == req.second
+        if req.op == 'k' and line == 'done':
+            tally['batches taken apart'] += 1
+            check_again(req.schema, req.second)
+    # No frames but those of the rows themselves give their bytes.
+    parts = [choose.junk(choose.below(12)) for _ in range(choose.below(5))]
+    batch = batches.framing(parts)
+    assert batches.framed(batch) == parts
+    changed = bad_frames(choose, parts, batch)
+    if changed != batch and whole_rows(changed) is not None:
+        assert batches.framed(changed) != parts
+
+
+def check_again(schema, batch):
+    """An accepted batch, fetched row by row and appended again, in a room that has other bytes."""
+    room, used = b'\x55' * len(batch), 0
+    for k in range(batches.count(batch)):
+        start, size = batches.fetch(schema, batch, k)
+        room, used = batches.append(schema, room, used, batch[start:start + size])
+        assert room == batch[:used] + b'\x55' * (len(batch) - used)
+        assert batches.count(room[:used]) == k + 1
+    assert room == batch
+
+
+def check_numbers(req):
+    """A refusal has one of its op's numbers, a length only with 4, a row's number only of a check of all."""
+    words = answers.answer(req).split(' ')
+    if words[0] == 'refused' and req.op != 't':
+        assert int(words[1]) in answers.NUMBERS[req.op], req
+        assert words[2] == '0' or words[1] == '4', req
+        assert ('row' in words) == (req.op == 'k' and words[1] in '37'), req
+
+
 def check_junk(rng):
     """Any bytes at all: an answer or a refusal, never anything else."""
     schema = rng.choice((b'ro\x02stli', b'ro\x01st', b'ro\x01mastst', b'ro\x01liro\x01bo',
@@ -207,8 +314,13 @@ def check_junk(rng):
     refusal(rows.list_back, schema, data, 100)
     refusal(rows.read, schema, data, path)
     rows.text_or(schema, data, path, b'')
+    refusal(batches.fetch, schema, data, 0)
+    refusal(batches.check, schema, data)
+    refusal(batches.append, schema, data, rng.randrange(70), rng.randbytes(8))
+    refusal(batches.read, schema, bytes(3) + bytes([len(data)]) + data, 0, path)
     for setting in (None, ('null',), ('bool', 1), ('number', 5), ('float32', 1), ('bytes', b'x')):
         refusal(rows.set_leaf, schema, data, path, setting)
+        refusal(batches.set_leaf, schema, bytes(3) + bytes([len(data)]) + data, 0, path, setting)
 
 
 def main():
@@ -219,18 +331,22 @@ def main():
     print('%d cases hold' % len(cases.requests_and_answers()))
     choose = Chooser('selftest/%d' % args.seed)
     tally = dict.fromkeys(('places', 'damaged rows', 'of them sound', 'settings', 'of them done',
-                           'damaged listings', 'of them taken'), 0)
-    for _ in range(args.scenes):
+                           'damaged listings', 'of them taken', 'requests about batches', 'batches taken apart'), 0)
+    for number in range(args.scenes):
         check_scene(choose, tally)
         check_junk(choose)
+        if number % 4 == 0:
+            check_batch(choose, tally)
     for number in range(3):
-        for req in requests.batch(args.seed, number):
+        for req in requests.portion(args.seed, number):
             assert answers.within_rooms(req)
             assert answers.decode(answers.encode(req)) == req
+            check_numbers(req)
     # Settings of the tree and of the bytes, and readings of both, many in a row.
     for number in range(30):
         for req, line in sequences.sequence(args.seed, number):
             assert answers.answer(req) == line
+            assert answers.within_rooms(req)
             assert answers.decode(answers.encode(req)) == req
     print(', '.join('%s %d' % item for item in tally.items()))
     print('%d scenes hold' % args.scenes)

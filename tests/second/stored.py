@@ -14,6 +14,13 @@ from answers import request
 
 DRIVE = pathlib.Path(__file__).resolve().parents[2] / 'crates' / 'drive'
 
+# A batch of two rows of one int8 each.
+SMALL = b'ro\x01i1'
+FIVE, SIX = table.ZEROS + table.u(5, 8), table.ZEROS + table.u(6, 8)
+ONE_ROW = bytes.fromhex('00000010') + FIVE
+TWO_ROWS = ONE_ROW + bytes.fromhex('00000010') + SIX
+CUT = TWO_ROWS[:-1]
+
 REQUESTS = (
     request('j', table.F_SCHEMA),
     request('c', table.H_SCHEMA, table.H_ROW),
@@ -26,6 +33,27 @@ REQUESTS = (
     request('r', table.E_SCHEMA, table.E_ROW, (0,) * 17),
     request('o', table.G_SCHEMA, table.G_ROW, (0, 1)),
     request('t', table.C_SCHEMA, table.C_ROW, (0,), third=b'none'),
+    request('n'),
+    request('n', second=TWO_ROWS),
+    request('n', second=CUT),
+    request('n', second=b'\xff' * 4 + FIVE),
+    request('n', second=bytes(4)),
+    request('f', SMALL, TWO_ROWS, room=1),
+    request('f', SMALL, TWO_ROWS, room=2),
+    request('f', b'x', CUT, room=2),
+    request('f', SMALL, CUT),
+    request('k', SMALL, TWO_ROWS),
+    request('k', SMALL, ONE_ROW + bytes(4)),
+    request('A', SMALL, ONE_ROW, room=len(TWO_ROWS) + 1, third=SIX),
+    request('A', SMALL, ONE_ROW, room=len(TWO_ROWS) - 1, third=SIX),
+    request('A', SMALL, ONE_ROW, room=10, third=SIX),
+    request('A', SMALL, room=20, third=SIX),
+    request('g', SMALL, TWO_ROWS, (0,), room=1),
+    request('g', SMALL, TWO_ROWS, (0,), room=2),
+    request('g', SMALL, TWO_ROWS, (1,), room=1),
+    request('z', SMALL, TWO_ROWS, (0,), room=1, kind=2, value=7),
+    request('z', SMALL, TWO_ROWS, (0,), room=2, kind=9),
+    request('z', SMALL, TWO_ROWS, (0,), room=1, kind=9),
 )
 
 

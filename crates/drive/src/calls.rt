@@ -48,32 +48,70 @@ fn list(line: &mut [u8], schema: &[u8], row: &[u8], out: &mut [u8]) -> usize {
     tells::tell_output(line, code, out)
 }
 
-// The row is set in a copy: its request lies in one piece, which the schema and the third are lent from too.
+fn at_most(n: usize, most: usize) -> usize
+    ensures { λ r. ⌜ (r ≤ n) × (r ≤ most) ⌝ }
+{
+    if n < most { n } else { most }
+}
+
+// The batch laid over the start of a room, and the row appended there. A batch longer than the room is cut, and says how long it is.
+fn append(line: &mut [u8], schema: &[u8], bytes: &[u8], row: &[u8], out: &mut [u8]) -> usize {
+    fill(out);
+    let used = bytes.len();
+    let n = at_most(used, out.len());
+    words::copies::copy(out, 0, bytes, 0, n);
+    let l = batch::append(schema, out, used, row);
+    tells::tell_length(line, l, out)
+}
+
+fn set_row(
+    h: Head,
+    schema: &[u8],
+    row: &mut [u8],
+    path: &[u32],
+    third: &[u8],
+    line: &mut [u8],
+) -> usize {
+    let code = desk::loaf_set(schema, row, path, h.kind as u32, h.value, third);
+    tells::tell_bytes(line, code, row)
+}
+
+// The field `room` is the row's number.
+fn set_in_batch(
+    h: Head,
+    schema: &[u8],
+    bytes: &mut [u8],
+    path: &[u32],
+    third: &[u8],
+    line: &mut [u8],
+) -> usize {
+    let k = h.room;
+    let code = desk::batches::loaf_batch_set(schema, bytes, k, path, h.kind as u32, h.value, third);
+    tells::tell_bytes(line, code, bytes)
+}
+
+// Set in a copy: the request lies in one piece, which the schema and the third are lent from too.
 fn set(
     h: Head,
     schema: &[u8],
-    row: &[u8],
+    bytes: &[u8],
     steps: &[u8],
     third: &[u8],
     out: &mut [u8],
     line: &mut [u8],
 ) -> usize {
-    let n = row.len();
+    let n = bytes.len();
     if out.len() < n {
         return 0;
     }
-    words::copies::copy(out, 0, row, 0, n);
+    words::copies::copy(out, 0, bytes, 0, n);
     let mut path = [0u32; 64];
     let k = take_steps(steps, &mut path);
-    let code = desk::loaf_set(
-        schema,
-        &mut out[0..n],
-        &path[0..k],
-        h.kind as u32,
-        h.value,
-        third,
-    );
-    tells::tell_bytes(line, code, &out[0..n])
+    let op = h.op;
+    if op == b'z' {
+        return set_in_batch(h, schema, &mut out[0..n], &path[0..k], third, line);
+    }
+    set_row(h, schema, &mut out[0..n], &path[0..k], third, line)
 }
 
 // 0 also where the room is more than there is to lend.
@@ -96,10 +134,15 @@ pub fn answer<'a>(
         b'c' => tells::tell_verdict(line, desk::loaf_check(schema, second)),
         b'w' => write(line, schema, second, &mut out[0..room]),
         b'l' => list(line, schema, second, &mut out[0..room]),
-        b's' => set(h, schema, second, steps, third, out, line),
+        b's' | b'z' => set(h, schema, second, steps, third, out, line),
         b'r' => tells::tell_answer(line, row::read(schema, second, path_of(steps))),
         b'o' => tells::tell_answer(line, row::ask_once(schema, second, path_of(steps))),
         b't' => lines::put_bytes(line, 0, row::text_or(schema, second, path_of(steps), third)),
+        b'n' => tells::tell_count(line, batch::count(second)),
+        b'f' => tells::tell_fetched(line, batch::fetch(schema, second, room)),
+        b'k' => tells::tell_checked(line, batch::check(schema, second)),
+        b'A' => append(line, schema, second, third, &mut out[0..room]),
+        b'g' => tells::tell_answer(line, batch::read(schema, second, room, path_of(steps))),
         _ => 0,
     }
 }

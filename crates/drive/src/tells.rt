@@ -1,8 +1,18 @@
 // What a call answered, as text at the start of a line.
 use crate::lines;
 use answers::Answer;
+use answers::Length;
+use answers::Refusal;
 use answers::floats;
 use answers::refusals;
+use batch::Checked;
+use batch::Counted;
+use batch::Fetched;
+
+// A refusal's number and its length.
+fn tell_refusal(line: &mut [u8], r: Refusal) -> usize {
+    tell_refused(line, refusals::number(r) as u64, refusals::length(r) as u64)
+}
 
 fn tell_refused(line: &mut [u8], number: u64, length: u64) -> usize {
     let end = lines::put_text(line, 0, b"refused");
@@ -68,8 +78,53 @@ pub fn tell_answer(line: &mut [u8], answer: Answer) -> usize {
             let end = tell_range(line, b"container", start, len);
             lines::put_number(line, end, count as u64)
         }
-        Answer::Refused(r) => {
-            tell_refused(line, refusals::number(r) as u64, refusals::length(r) as u64)
+        Answer::Refused(r) => tell_refusal(line, r),
+    }
+}
+
+pub fn tell_count(line: &mut [u8], c: Counted) -> usize {
+    match c {
+        Counted::Rows(n) => {
+            let end = lines::put_text(line, 0, b"count");
+            lines::put_number(line, end, n as u64)
+        }
+        Counted::Refused(r) => tell_refusal(line, r),
+    }
+}
+
+pub fn tell_fetched(line: &mut [u8], f: Fetched) -> usize {
+    match f {
+        Fetched::Row { start, len } => tell_range(line, b"bytes", start, len),
+        Fetched::Refused(r) => tell_refusal(line, r),
+    }
+}
+
+// A refusal of one row, with that row's number.
+pub fn tell_checked(line: &mut [u8], c: Checked) -> usize {
+    match c {
+        Checked::Done => lines::put_text(line, 0, b"done"),
+        Checked::Refused(r) => tell_refusal(line, r),
+        Checked::RefusedRow { row, refusal } => {
+            let end = tell_refusal(line, refusal);
+            let end = lines::put_text(line, end, b" row");
+            lines::put_number(line, end, row as u64)
+        }
+    }
+}
+
+// A length or a refusal, with all of the lent bytes after the call.
+pub fn tell_length(line: &mut [u8], l: Length, out: &[u8]) -> usize {
+    match l {
+        Length::Done(n) => {
+            let end = lines::put_text(line, 0, b"done");
+            let end = lines::put_number(line, end, n as u64);
+            let end = lines::put_byte(line, end, b' ');
+            lines::put_bytes(line, end, out)
+        }
+        Length::Refused(r) => {
+            let end = tell_refusal(line, r);
+            let end = lines::put_byte(line, end, b' ');
+            lines::put_bytes(line, end, out)
         }
     }
 }
