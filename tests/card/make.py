@@ -1,5 +1,6 @@
 #!/usr/bin/env python3
-"""Makes the stored runs, NAME.in and NAME.out, and the rows of examples/.
+"""Makes the stored runs, NAME.in and NAME.out, or NAME.batch, NAME.out and
+NAME.err where something is said, and the rows of examples/.
 
 Inputs come from the second program's writer. The expected lines are typed
 here, from the document; the second program's card must say the same.
@@ -151,6 +152,48 @@ run('case_h', whole(b'ro\x02stst', TWO_TEXTS[:16] + n(24 << 32 | 3, 8) + TWO_TEX
 # The first field is sound, and no line of it is printed before the second is found broken.
 run('late_fault', whole(b'ro\x02i8st', bytes(8) + n(1, 8) + n(24 << 32 | 3, 8) + b'STK\0\0\0\0\x01'), 'refused 7')
 
+# --- Batches ----------------------------------------------------------------------
+
+def batch(folder, name, data, *lines, said=''):
+    want = ''.join(line + '\n' for line in lines)
+    assert second.cards(data) == (want, said), name
+    write(folder, name + '.batch', data)
+    return want
+
+
+def batch_run(name, schema, frames, *lines, said=''):
+    want = batch(HERE, name, whole(schema, frames), *lines, said=said)
+    write(HERE, name + '.out', want.encode())
+    if said:
+        write(HERE, name + '.err', said.encode())
+
+
+PAIR = b'ro\x02i4i8'
+FIRST = row_of(PAIR, [i4(-2), Null(bytes(8))])
+OTHER = row_of(PAIR, [i4(7), n(1, 8)])
+BROKEN = FIRST[:8] + b'\xFF' * 8 + FIRST[16:]
+frame = second.frame
+
+batch_run('batch_no_rows', PAIR, b'')
+batch_run('batch_one_row', PAIR, frame(FIRST), 'row 0', '0 i4 -2', '1 i8 null')
+batch_run('batch_three_rows', PAIR, frame(FIRST) + frame(OTHER) + frame(FIRST),
+          'row 0', '0 i4 -2', '1 i8 null',
+          'row 1', '0 i4 7', '1 i8 1',
+          'row 2', '0 i4 -2', '1 i8 null')
+batch_run('batch_row_of_no_lines', b'ro\x01list', frame(row_of(b'ro\x01list', [[]])) * 2, 'row 0', 'row 1')
+batch_run('batch_refused_row', PAIR, frame(FIRST) + frame(BROKEN) + frame(FIRST), 'refused 7', said='row 1 of the batch is refused\n')
+
+# 10 is the whole batch's, and comes before a row's own refusal.
+batch_run('batch_ends_in_a_row', PAIR, frame(BROKEN) + frame(FIRST)[:-1], 'refused 10')
+batch_run('batch_ends_in_a_size', PAIR, frame(FIRST) + b'\0\0\0', 'refused 10')
+batch_run('batch_size_little_endian', PAIR, n(24, 4) + FIRST, 'refused 10')
+batch_run('batch_size_all_ones', PAIR, b'\xFF' * 4 + FIRST, 'refused 10')
+batch_run('batch_row_of_no_bytes', PAIR, bytes(4), 'refused 7', said='row 0 of the batch is refused\n')
+batch_run('batch_bad_schema', b'ro\x02i4', frame(BROKEN)[:-1], 'refused 1')
+
+for name, data in (('batch_no_input', b''), ('batch_one_byte', b'\x07'), ('batch_short_of_schema', b'\x07\x00ro\x02i4i')):
+    write(HERE, name + '.out', batch(HERE, name, data, 'refused 1').encode())
+
 # --- The rows of the examples ------------------------------------------------------
 
 STROKES = b'ro\x02' + b'ro\x02i4i4' * 2
@@ -159,3 +202,11 @@ store(EXAMPLES, 'sound.card', whole(STROKES, SOUND), ['0.0 i4 1000', '0.1 i4 5',
 
 # The March accident: both slots point at the one stroke that there is.
 store(EXAMPLES, 'march.card', whole(STROKES, SOUND[:16] + SOUND[8:16] + SOUND[24:48]), ['refused 7'])
+
+# Three rows of the stroke log, in one batch.
+SECOND = row_of(STROKES, [[i4(1250), i4(18)], Null(bytes(8))])
+THIRD = row_of(STROKES, [[i4(1400), i4(3)], [i4(1402), i4(96)]])
+batch(EXAMPLES, 'strokes', whole(STROKES, frame(SOUND) + frame(SECOND) + frame(THIRD)),
+      'row 0', '0.0 i4 1000', '0.1 i4 5', '1.0 i4 1001', '1.1 i4 7',
+      'row 1', '0.0 i4 1250', '0.1 i4 18', '1 ro null',
+      'row 2', '0.0 i4 1400', '0.1 i4 3', '1.0 i4 1402', '1.1 i4 96')

@@ -1,9 +1,10 @@
 #!/usr/bin/env python3
-"""The card by the second reading of the document, and the tool against it.
+"""The card by the second reading of the documents, and the tool against it.
 
-    second.py [--seed S] [--count N] PROGRAM [WORDS..]
+    second.py [--seed S] [--count N] [--batches M] PROGRAM [WORDS..]
 
-Runs the tool on the rows of N random check requests, sound and damaged ones.
+Runs the tool on the rows of N random check requests and on M random batches,
+sound and damaged ones.
 """
 
 import argparse
@@ -12,9 +13,13 @@ import subprocess
 import sys
 
 sys.path.insert(0, os.path.join(os.path.dirname(__file__), '..', 'second'))
+import batches
 import requests
 import rows
+from damage import bad_row, bad_schema
 from layouts import decode
+from making import Chooser, root_cell, sound_schema
+from scenes import Scene
 from schemas import BOOL, BYTES, FLOAT, INT, LIST, Null, Refused, judge
 
 
@@ -36,20 +41,64 @@ def lines(t, cell, path, found):
         lines(t.parts[0] if t.kind == LIST else t.parts[i], part, path + (i,), found)
 
 
-def card(data):
-    """What the tool prints for this input."""
+def parts(data):
+    """The schema and what stands behind it."""
     size = int.from_bytes(data[:2], 'little')
     if len(data) < 2 + size:
-        return 'refused 1\n'
-    schema, row = data[2:2 + size], data[2 + size:]
-    try:
-        rows.check(schema, row)
-    except Refused as refused:
-        return 'refused %d\n' % refused.number
+        raise Refused(1)
+    return data[2:2 + size], data[2 + size:]
+
+
+def row_text(schema, row):
     root = judge(schema)
     found = []
     lines(root, decode(root, row, 0, len(row)), (), found)
     return ''.join(found)
+
+
+def card(data):
+    """What the tool prints for this input."""
+    try:
+        schema, row = parts(data)
+        rows.check(schema, row)
+    except Refused as refused:
+        return 'refused %d\n' % refused.number
+    return row_text(schema, row)
+
+
+# --- Batches --------------------------------------------------------------------
+
+def cards(data):
+    """What the tool prints for this input under --batch, and what it says of a refused row."""
+    try:
+        schema, batch = parts(data)
+        batches.check(schema, batch)
+    except batches.RowRefused as refused:
+        return 'refused %d\n' % refused.number, 'row %d of the batch is refused\n' % refused.row
+    except Refused as refused:
+        return 'refused %d\n' % refused.number, ''
+    return ''.join('row %d\n%s' % (k, row_text(schema, row)) for k, row in enumerate(batches.framed(batch))), ''
+
+
+def random_batch(choose):
+    """Up to four rows of one schema; in most batches one of them, the frames or the schema are damaged."""
+    schema = sound_schema(choose)
+    root = judge(schema)
+    scenes = [Scene(schema, root, root_cell(choose, root, 20)) for _ in range(choose.below(5))]
+    found = [scene.row for scene in scenes]
+    for _ in range(choose.below(3)):
+        if scenes:
+            k = choose.below(len(scenes))
+            found[k] = bad_row(choose, scenes[k])[0] if choose.chance(0.8) else b''
+    batch = batches.framing(found)
+    p = choose.random()
+    if p < 0.10:
+        batch = batch[:choose.below(len(batch) + 1)]
+    elif p < 0.15:
+        batch += choose.junk(choose.below(9))
+    elif p < 0.20:
+        schema = bad_schema(choose, schema)
+    return len(schema).to_bytes(2, 'little') + schema + batch
 
 
 def checked_rows(seed, count):
@@ -64,21 +113,39 @@ def checked_rows(seed, count):
         number += 1
 
 
+def random_batches(seed, count):
+    for number in range(count):
+        yield random_batch(Chooser('batches %d/%d' % (seed, number)))
+
+
+def compare(name, inputs, program, expected):
+    """Runs the program on each input, and answers how many of them it accepted; None where it prints something else."""
+    accepted = 0
+    for number, data in enumerate(inputs):
+        want = expected(data)
+        run = subprocess.run(program, input=data, stdout=subprocess.PIPE, stderr=subprocess.PIPE)
+        got = run.stdout.decode('latin-1'), run.stderr.decode('latin-1')
+        if got != want:
+            print('DIFFERENT: %s %d\nexpected:\n%s%sprinted:\n%s%sinput: %s' % ((name, number) + want + got + (data.hex(),)))
+            return None
+        accepted += not want[0].startswith('refused')
+    return accepted
+
+
 def main():
     parser = argparse.ArgumentParser()
     parser.add_argument('--seed', type=int, default=1)
     parser.add_argument('--count', type=int, default=1000)
+    parser.add_argument('--batches', type=int, default=500)
     parser.add_argument('program', nargs='+')
     options = parser.parse_args()
-    accepted = 0
-    for number, data in enumerate(checked_rows(options.seed, options.count)):
-        want = card(data)
-        got = subprocess.run(options.program, input=data, stdout=subprocess.PIPE).stdout.decode('latin-1')
-        if got != want:
-            print('DIFFERENT: seed %d, row %d\nexpected:\n%sprinted:\n%sinput: %s' % (options.seed, number, want, got, data.hex()))
+    for name, inputs, count, program, expected in (
+            ('row', checked_rows(options.seed, options.count), options.count, options.program, lambda data: (card(data), '')),
+            ('batch', random_batches(options.seed, options.batches), options.batches, options.program + ['--batch'], cards)):
+        accepted = compare('seed %d, %s' % (options.seed, name), inputs, program, expected)
+        if accepted is None:
             return 1
-        accepted += not want.startswith('refused')
-    print('card: %d random rows agree, %d of them accepted' % (options.count, accepted))
+        print('card: %d random inputs of a %s agree, %d of them accepted' % (count, name, accepted))
     return 0
 
 

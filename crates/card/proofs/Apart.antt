@@ -12,7 +12,7 @@ use Rattle.words.specs.Reads.{Reads}
 use Rattle.schema.specs.Kinds.{pick}
 use Rattle.card.specs.Input.{announced, splitOf}
 use Rattle.card.specs.Lines.{refusal}
-use Rattle.card.specs.Output.{judgedText, bySplit, outputOf}
+use Rattle.card.specs.Output.{bySplit}
 use Rattle.card.specs.declared.input.Split.{Split}
 use Rattle.card.specs.declared.input.Split.the-variants.{Short, Parts}
 
@@ -51,12 +51,11 @@ inside s = go (ltb (length s) 2) (ltb (length s - 2) (announced s)) refl refl
 pub ends-inside : (s : List ℕ) (r : Split) (e : ℕ) → r ≡ splitOf s → r ≡ Parts e → (2 ≤ e) × (e ≤ length s)
 ends-inside s r e p q = subst (λ (x : Split). Inside x s) (sym p ∙ q) (inside s)
 
--- ---- the output by where the input is taken apart
+-- ---- what is written, by where the input is taken apart
 
-pub output-short : (s : List ℕ) (r : Split) → r ≡ splitOf s → r ≡ Short → refusal 1 ≡ outputOf s
-unfolding outputOf
-output-short s r p q = ap (λ (x : Split). bySplit x s) (sym q ∙ p)
+module _ (f : List ℕ → List ℕ → List ℕ) (s : List ℕ) (r : Split) (p : r ≡ splitOf s) where
+  pub split-short : r ≡ Short → refusal 1 ≡ bySplit f (splitOf s) s
+  split-short q = ap (λ (x : Split). bySplit f x s) (sym q ∙ p)
 
-pub output-parts : (s : List ℕ) (r : Split) (e : ℕ) → r ≡ splitOf s → r ≡ Parts e → judgedText (part s 2 (e - 2)) (part s e (length s - e)) ≡ outputOf s
-unfolding outputOf
-output-parts s r e p q = ap (λ (x : Split). bySplit x s) (sym q ∙ p)
+  pub split-parts : (e : ℕ) → r ≡ Parts e → f (part s 2 (e - 2)) (part s e (length s - e)) ≡ bySplit f (splitOf s) s
+  split-parts e q = ap (λ (x : Split). bySplit f x s) (sym q ∙ p)

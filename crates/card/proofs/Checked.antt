@@ -33,9 +33,12 @@ module _ (s row : List ℕ) where
   opens Accepted e false f x d = absurd (not-done 3 d)
   opens Accepted e true f x d = record { schema = e; short = leb-true (length row) 16384 f }
 
-  pub checked : (r : Outcome) → outcomeMeans r ≡ checkOf s row → r ≡ O.Done → Open s row
+  pub accepted-opens : done ≡ checkOf s row → Open s row
   unfolding checkOf
-  checked r m e = opens (judged s) refl (leb (length row) 16384) refl (layoutBad s row) (ap outcomeMeans (sym e) ∙ m)
+  accepted-opens e = opens (judged s) refl (leb (length row) 16384) refl (layoutBad s row) e
+
+  pub checked : (r : Outcome) → outcomeMeans r ≡ checkOf s row → r ≡ O.Done → Open s row
+  checked r m e = accepted-opens (ap outcomeMeans (sym e) ∙ m)
 
   pub text-done : (r : Outcome) → outcomeMeans r ≡ checkOf s row → r ≡ O.Done → cardOf s row ≡ judgedText s row
   unfolding judgedText

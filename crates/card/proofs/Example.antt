@@ -1,4 +1,5 @@
--- The example of document 01, computed: what the tool writes for the schema and the row of case B. Assumes nothing.
+-- The example of document 01, computed: what the tool writes for the schema and the row of case B; and for a batch of two such rows.
+-- Assumes nothing.
 use mathlib.Core.Path.{_≡_, refl}
 use mathlib.Core.List.{List, [], _∷_, _++_}
 use Prim.Native.Nat.{ℕ}
@@ -16,25 +17,45 @@ use Rattle.layout.specs.Layout.{number, string, inside, outside, kidOf, slotOf,
 use Rattle.layout.specs.Walk.{must, mustStep, own, bySlot, byFlag, child, stepIn, goOn, walk}
 use Rattle.layout.specs.Reading.{typeAt, placed, valueOf, answerOf, found, readIn}
 use Rattle.layout.specs.Entries.{checkOf, readOf}
+use Rattle.batch.specs.Frames.{big, first, frames, framesIn, framed}
+use Rattle.batch.specs.Entries.{checkRows, checkOf as batchCheck}
 use Rattle.card.specs.Input.{announced, splitOf}
-use Rattle.card.specs.Lines.{hex, decimalIn, decimal, signed, hexes, bytes, dotted, path, contents, line, refusal}
+use Rattle.card.specs.Lines.{hex, decimalIn, decimal, signed, hexes, bytes, dotted, path, contents, line, numbered}
 use Rattle.card.specs.Places.{hasLine, below, markIn, textAt as lineAt}
 use Rattle.card.specs.Whole.{inOrder, cardFrom, cardOf}
 use Rattle.card.specs.Output.{judgedText, outputOf}
+use Rattle.card.specs.Rows.{heading, rowsText, batchText, batchOutputOf}
 
 -- `07 00`, the schema `ro` 2 `i4` `i8`, and the row of case B
-abbrev input : List ℕ
-input = (7 ∷ 0 ∷ []) ++ (0x72 ∷ 0x6f ∷ 2 ∷ 0x69 ∷ 0x34 ∷ 0x69 ∷ 0x38 ∷ []) ++ (2 ∷ zeros 7) ++ (0xfe ∷ 0xff ∷ 0xff ∷ 0xff ∷ zeros 4) ++ zeros 8
+abbrev schema : List ℕ
+schema = (7 ∷ 0 ∷ []) ++ (0x72 ∷ 0x6f ∷ 2 ∷ 0x69 ∷ 0x34 ∷ 0x69 ∷ 0x38 ∷ [])
+
+abbrev row : List ℕ
+row = (2 ∷ zeros 7) ++ (0xfe ∷ 0xff ∷ 0xff ∷ 0xff ∷ zeros 4) ++ zeros 8
 
 -- `0 i4 -2` and `1 i8 null`
 abbrev output : List ℕ
 output = (48 ∷ 32 ∷ 105 ∷ 52 ∷ 32 ∷ 45 ∷ 50 ∷ 10 ∷ []) ++ (49 ∷ 32 ∷ 105 ∷ 56 ∷ 32 ∷ 110 ∷ 117 ∷ 108 ∷ 108 ∷ 10 ∷ [])
 
-pub example : outputOf input ≡ output
+-- `row 0`, the card, `row 1`, the card
+abbrev two : List ℕ
+two = (114 ∷ 111 ∷ 119 ∷ 32 ∷ 48 ∷ 10 ∷ []) ++ output ++ (114 ∷ 111 ∷ 119 ∷ 32 ∷ 49 ∷ 10 ∷ []) ++ output
+
+-- to unfold this is to unfold the definitions
+computes : Unit {0}
 unfolding le num fill types markAt find placeOf kindOf placedKind headKind kindAt fixedPlace textPlace fixedAt textAt place width mark count field
     parseAll parseRo parseKind parseTy judged tyAt fieldsOf assert cut total both? change? stands? fromCells toCells onNull cellBytes parts
     number string inside outside kidOf slotOf kidGet flags slots tails reads bodyPut bodyGet struct array pair limit codec
     must mustStep own bySlot byFlag child stepIn goOn walk typeAt placed valueOf answerOf found readIn checkOf readOf
-    announced splitOf hex decimalIn decimal signed hexes bytes dotted path contents line refusal hasLine below markIn lineAt inOrder cardFrom cardOf judgedText outputOf
+    announced splitOf hex decimalIn decimal signed hexes bytes dotted path contents line numbered hasLine below markIn lineAt inOrder cardFrom cardOf
+    judgedText outputOf big first frames framesIn framed checkRows batchCheck heading rowsText batchText batchOutputOf
     decLe decLt ℕ-discrete
+computes = tt
+
+pub example : outputOf (schema ++ row) ≡ output
+unfolding computes
 example = refl
+
+pub batch-example : batchOutputOf (schema ++ (0 ∷ 0 ∷ 0 ∷ 24 ∷ row) ++ (0 ∷ 0 ∷ 0 ∷ 24 ∷ row)) ≡ two
+unfolding computes
+batch-example = refl

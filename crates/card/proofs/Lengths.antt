@@ -17,7 +17,8 @@ use Rattle.answers.specs.declared.Path.{Path}
 use Rattle.answers.specs.Paths.{pathOf}
 use Rattle.answers.proofs.PathLaws.{length-path}
 use Rattle.reading.specs.Texts.{InRow}
-use Rattle.card.specs.Lines.{hex, decimalIn, decimal, signed, hexes, bytes, dotted, path, contents, line, refusal}
+use Rattle.card.specs.Lines.{hex, decimalIn, decimal, signed, hexes, bytes, dotted, path, contents, line, numbered, refusal}
+use Rattle.card.specs.Rows.{heading}
 
 pub hex-length : (k n : ℕ) → length (hex k n) ≡ k
 unfolding hex
@@ -87,6 +88,14 @@ line-most p k row a h s w =
     let m = length-append (markAt k) ((32 ∷ []) ++ (contents row a ++ (10 ∷ []))) in
     rw (length-append (path (pathOf p))) (omega (arith, path-sixteen p h, mark-two k, contents-most row a s w))
 
+pub numbered-most : (word : List ℕ) (n : ℕ) → length (numbered word n) ≤ length word + 21
+unfolding numbered
+numbered-most word n = omega (arith, length-append word (decimal n ++ (10 ∷ [])), length-append (decimal n) (10 ∷ []), decimal-twenty n)
+
 pub refusal-most : (n : ℕ) → length (refusal n) ≤ 29
 unfolding refusal
-refusal-most n = omega (arith, length-append (decimal n) (10 ∷ []), decimal-twenty n)
+refusal-most n = numbered-most _ n
+
+pub heading-most : (k : ℕ) → length (heading k) ≤ 25
+unfolding heading
+heading-most k = numbered-most _ k

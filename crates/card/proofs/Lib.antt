@@ -6,4 +6,5 @@ mod Told
 mod Placing
 mod Checked
 mod Walking
+mod Turns
 mod Example

@@ -14,8 +14,8 @@ use Rattle.io.specs.Digits.{glyph}
 use Rattle.words.specs.Bytes.{part}
 use Rattle.words.specs.Signed.{isNegative}
 use Rattle.words.proofs.Runs.{sets-then}
-use Rattle.words.proofs.Parts.{length-part, part-snoc}
-use Rattle.card.specs.Lines.{hex, decimalIn, decimal, signed, hexes, bytes, dotted, path, refusal, Puts}
+use Rattle.words.proofs.Parts.{length-part, part-snoc, part-whole}
+use Rattle.card.specs.Lines.{hex, decimalIn, decimal, signed, hexes, bytes, dotted, path, numbered, Puts}
 
 -- ---- pieces
 
@@ -178,10 +178,11 @@ path-all p k i z h e q s =
     ∙ by-steps p z)
     (puts-then q s)
 
--- ---- a refusal
+-- ---- a word and a number
 
-pub refusal-puts : {a b c d : List ℕ} {m r : ℕ} (n : ℕ) → b ≡ sets a 0 (114 ∷ 101 ∷ 102 ∷ 117 ∷ 115 ∷ 101 ∷ 100 ∷ 32 ∷ []) → Puts b 8 (decimal n) m c → Puts c m (10 ∷ []) r d → Puts a 0 (refusal n) r d
-unfolding refusal
-refusal-puts {a} {b} n e p q =
-    let word : Puts a 0 (114 ∷ 101 ∷ 102 ∷ 117 ∷ 115 ∷ 101 ∷ 100 ∷ 32 ∷ []) 8 b = record { bytes = e; next = refl } in
-    puts-then word (puts-then p q)
+pub numbered-puts : {a b c d : List ℕ} {at m r : ℕ} (word : List ℕ) (n : ℕ) → b ≡ sets a at (part word 0 (length word))
+    → Puts b (at + length word) (decimal n) m c → Puts c m (10 ∷ []) r d → Puts a at (numbered word n) r d
+unfolding numbered
+numbered-puts {a} {b} {at = at} word n e p q =
+    let w : Puts a at word (at + length word) b = record { bytes = e ∙ ap (sets a at) (part-whole word); next = refl } in
+    puts-then w (puts-then p q)

@@ -54,7 +54,7 @@ module _ (f : List ℕ → List ℕ) (p : List ℕ) where
 
 -- ---- the walk
 
-at-used : {out out′ text : List ℕ} {used at r : ℕ} → Spilt used at → used ≤ 229000 → Puts out at text r out′ → Puts out used text r out′
+pub at-used : {out out′ text : List ℕ} {used at r : ℕ} → Spilt used at → used ≤ 229000 → Puts out at text r out′ → Puts out used text r out′
 at-used S l q = rw (S .held l) at q
 
 module _ (s row : List ℕ) where
@@ -107,7 +107,7 @@ module _ (s row : List ℕ) where
             puts-as whole (puts-then T (puts-as (ap (inOrder f P) k) (before (omega (arith, T .next)))));
       }
 
-  pub walked-root : {out out′ : List ℕ} {r : ℕ} (p : Path) → p .len ≡ 0 → length (p .steps) ≡ 16 → Walked (cardAt s row p) out 0 r out′ → Walked (cardOf s row) out 0 r out′
+  pub walked-root : {out out′ : List ℕ} {used r : ℕ} (p : Path) → p .len ≡ 0 → length (p .steps) ≡ 16 → Walked (cardAt s row p) out used r out′ → Walked (cardOf s row) out used r out′
   unfolding cardOf
   walked-root p z e W =
       let t : cardAt s row p ≡ cardFrom 16 s row [] = ap₂ (λ (k : ℕ) (x : List ℕ). cardFrom k s row x) (ap (λ (n : ℕ). 16 - n) z) (path-of p (omega arith) e ∙ ap (λ (n : ℕ). take n (p .steps)) z) in

@@ -1,4 +1,4 @@
--- The input of the card: a length of two bytes, the schema, the row. Assumes nothing: these are definitions.
+-- The input of the card: a length of two bytes, the schema, the row or the batch. Assumes nothing: these are definitions.
 use Prim.Native.Nat.{ℕ, _+_, _-_}
 use mathlib.Core.List.{List}
 use lib.Dec.{ltb}

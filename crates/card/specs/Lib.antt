@@ -5,3 +5,4 @@ pub mod Room
 pub mod Places
 pub mod Whole
 pub mod Output
+pub mod Rows

@@ -71,9 +71,13 @@ contents row (R.refused n) = []
 unfoldable pub line : List ℕ → List ℕ → List ℕ → Answer → List ℕ
 line p mark row a = path p ++ ((32 ∷ []) ++ (mark ++ ((32 ∷ []) ++ (contents row a ++ (10 ∷ [])))))
 
--- `refused`, space, the refusal's number, and the line's end
+-- a word, a number, and the line's end
+unfoldable pub numbered : List ℕ → ℕ → List ℕ
+numbered word n = word ++ (decimal n ++ (10 ∷ []))
+
+-- `refused`, space, the refusal's number
 unfoldable pub refusal : ℕ → List ℕ
-refusal n = (114 ∷ 101 ∷ 102 ∷ 117 ∷ 115 ∷ 101 ∷ 100 ∷ 32 ∷ []) ++ (decimal n ++ (10 ∷ []))
+refusal n = numbered (114 ∷ 101 ∷ 102 ∷ 117 ∷ 115 ∷ 101 ∷ 100 ∷ 32 ∷ []) n
 
 -- ---- putting text
 

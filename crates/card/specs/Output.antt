@@ -18,10 +18,12 @@ byVerdict (refused n) card = refusal n
 unfoldable pub judgedText : List ℕ → List ℕ → List ℕ
 judgedText s row = byVerdict (checkOf s row) (cardOf s row)
 
--- an input under two bytes, or shorter than announced, is refused with 1; else the schema ends at e, and the rest is the row
-abbrev pub bySplit : Split → List ℕ → List ℕ
-bySplit Short input = refusal 1
-bySplit (Parts e) input = judgedText (part input 2 (e - 2)) (part input e (length input - e))
+-- an input under two bytes, or shorter than announced, is refused with 1; else the schema ends at e, and f says what is written for it
+-- and the rest
+abbrev pub bySplit : (List ℕ → List ℕ → List ℕ) → Split → List ℕ → List ℕ
+bySplit f Short input = refusal 1
+bySplit f (Parts e) input = f (part input 2 (e - 2)) (part input e (length input - e))
 
+-- the rest is the row
 unfoldable pub outputOf : List ℕ → List ℕ
-outputOf input = bySplit (splitOf input) input
+outputOf input = bySplit judgedText (splitOf input) input

@@ -5,7 +5,7 @@ ghost use lib.ListN.{length};
 ghost use Rattle.schema.specs.Marks.{markAt};
 ghost use Rattle.answers.specs.Meaning.{meaning};
 ghost use Rattle.answers.specs.Paths.{pathOf};
-ghost use Rattle.card.specs.Lines.{decimal, path as pathText, contents as contentsOf, line as lineOf, Puts};
+ghost use Rattle.card.specs.Lines.{decimal, path as pathText, contents as contentsOf, line as lineOf, numbered as numberedOf, Puts};
 ghost use Rattle.card.specs.Room.{PathRoom, Room, LineRoom};
 use crate::text;
 use answers::Answer;
@@ -89,5 +89,16 @@ pub fn line(out: &mut [u8], at: usize, path: Path, k: usize, row: &[u8], x: Answ
     let s = mark(out, m, k);
     let c = text::byte(out, s, b' ');
     let end = contents(out, c, row, x);
+    text::byte(out, end, b'\n')
+}
+
+// A word, a number and the line's end.
+pub fn numbered(out: &mut [u8], at: usize, word: &[u8], n: u64) -> usize
+    requires { ⌜ at + length (now word) + 21 ≤ length (now out) ⌝ }
+    ensures { λ r. ⌜ Puts (now (out .entry)) at (numberedOf (now (word .entry)) n) r (now (out .exit)) ⌝ }
+{
+    let k = word.len();
+    words::copies::copy(out, at, word, 0, k);
+    let end = text::decimal(out, at + k, n);
     text::byte(out, end, b'\n')
 }

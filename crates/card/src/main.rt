@@ -1,13 +1,15 @@
-// The card tool: a row on standard input, its leaves as lines of text on standard output.
+// The card tool: a row or a batch on standard input, the leaves as lines of text on standard output.
 ghost use mathlib.Core.Path.{_≡_};
 ghost use lib.ListN.{length};
 ghost use Rattle.card.specs.Lines.{refusal, Puts};
 ghost use Rattle.card.specs.Output.{judgedText, outputOf};
 ghost use Rattle.card.specs.Whole.{Walked};
 use answers::Outcome;
+use libc::STDERR_FILENO;
 use libc::STDIN_FILENO;
 use libc::STDOUT_FILENO;
 
+mod batches;
 mod input;
 mod lines;
 mod text;
@@ -18,9 +20,7 @@ fn refused(out: &mut [u8], n: u8) -> usize
     requires { ⌜ length (now out) ≡ 262144 ⌝ }
     ensures { λ r. ⌜ Puts (now (out .entry)) 0 (refusal n) r (now (out .exit)) ⌝ }
 {
-    words::copies::copy(out, 0, b"refused ", 0, 8);
-    let end = text::decimal(out, 8, n as u64);
-    text::byte(out, end, b'\n')
+    lines::numbered(out, 0, b"refused ", n as u64)
 }
 
 // The whole row is checked before its first line is made.
@@ -29,7 +29,7 @@ fn row_text(schema: &[u8], row: &[u8], out: &mut [u8]) -> usize
     ensures { λ r. ⌜ Walked (judgedText (now (schema .entry)) (now (row .entry))) (now (out .entry)) 0 r (now (out .exit)) ⌝ }
 {
     match row::check(schema, row) {
-        Outcome::Done => walk::whole(schema, row, out),
+        Outcome::Done => walk::whole(schema, row, out, 0),
         Outcome::Refused(r) => refused(out, answers::refusals::number(r)),
     }
 }
@@ -53,10 +53,53 @@ fn room() -> [u8; 262144]
 }
 
 // 2 bytes, the longest schema that they announce and a byte more than the longest row: a longer input is refused as this much of it is.
-fn main() {
+fn print_card() {
     let mut buf = [0u8; 81922];
     let n = io::read_full(STDIN_FILENO, &mut buf);
     let mut out = room();
     let k = card(&buf[..n], &mut out);
     io::write_all(STDOUT_FILENO, &out[..k]);
+}
+
+// A batch is judged whole before its first line, so it is held whole: up to 4 MiB, half of the stack that programs commonly have, and a
+// byte by which a longer one shows.
+fn batch_room() -> [u8; 4194305]
+    ensures { λ r. ⌜ 4194305 ≡ length r ⌝ }
+{
+    [0; 4194305]
+}
+
+fn print_cards() {
+    let mut buf = batch_room();
+    let n = io::read_full(STDIN_FILENO, &mut buf);
+    if 4194304 < n {
+        io::write_all(STDERR_FILENO, b"the input is longer than 4194304 bytes\n");
+        return;
+    }
+    let mut out = room();
+    let k = batches::cards(&buf[..n], &mut out);
+    io::write_all(STDOUT_FILENO, &out[..k]);
+}
+
+// A row without an argument, a batch with `--batch` or its short name `-b`. A function that is called from two places keeps a frame of its
+// own, so that the card of a row takes none of the batch's memory.
+fn main() {
+    let count = os::arg_count();
+    if count < 2 {
+        print_card();
+        return;
+    }
+    let mut word = [0u8; 8];
+    let n = os::arg(1, &mut word);
+    if count == 2 {
+        if check::same(&word[..n], b"--batch") {
+            print_cards();
+            return;
+        }
+        if check::same(&word[..n], b"-b") {
+            print_cards();
+            return;
+        }
+    }
+    io::write_all(STDERR_FILENO, b"usage: card [-b | --batch]\n");
 }

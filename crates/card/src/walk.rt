@@ -100,7 +100,7 @@ fn show(s: &[u8], row: &[u8], path: Path, out: &mut [u8], at: usize) -> Shown
 }
 
 // Prints the text so far where another line might not find room behind it, and answers where that line goes.
-fn spill(out: &[u8], used: usize) -> usize
+pub fn spill(out: &[u8], used: usize) -> usize
     requires { ⌜ used ≤ length (now out) ⌝ }
     ensures { λ r. ⌜ Spilt used r ⌝ }
 {
@@ -135,14 +135,14 @@ fn place(s: &[u8], row: &[u8], path: Path, out: &mut [u8], used: usize) -> usize
     next
 }
 
-// The card of an accepted row: its text in the lent bytes, but for what was printed on the way.
-pub fn whole(s: &[u8], row: &[u8], out: &mut [u8]) -> usize
-    requires { ⌜ Open (now s) (now row) × (length (now out) ≡ 262144) ⌝ }
-    ensures { λ r. ⌜ Walked (cardOf (now (s .entry)) (now (row .entry))) (now (out .entry)) 0 r (now (out .exit)) ⌝ }
+// The card of an accepted row: its text in the lent bytes behind the used ones, but for what was printed on the way.
+pub fn whole(s: &[u8], row: &[u8], out: &mut [u8], used: usize) -> usize
+    requires { ⌜ Open (now s) (now row) × (length (now out) ≡ 262144) × (used ≤ 262144) ⌝ }
+    ensures { λ r. ⌜ Walked (cardOf (now (s .entry)) (now (row .entry))) (now (out .entry)) used r (now (out .exit)) ⌝ }
 {
     let root = Path {
         steps: [0; 16],
         len: 0,
     };
-    place(s, row, root, out, 0)
+    place(s, row, root, out, used)
 }

@@ -1,4 +1,5 @@
 -- `card::row_text` meets its contract: what is walked was accepted. Assumes nothing.
+use native.Mathlib.Omega.{arith}
 use Rattle.card.proofs.Checked.{checked, text-done, text-refused, walked-as, refusal-walked}
 use borrow.Author.Needs.{needs}
 use Rattle.card.proofs.row_text.Statement.{statement}
@@ -11,7 +12,7 @@ enum-told : tie.Need-enum-told
 enum-told c = search needs
 
 whole-requires : tie.Need-whole-requires
-whole-requires c κs = (checked _ _ _ (c .before .before .before .check .ensures) (c .before .enum-told .given .1), c .before .before .before .before .before .before .before .pre)
+whole-requires c κs = (checked _ _ _ (c .before .before .before .check .ensures) (c .before .enum-told .given .1), c .before .before .before .before .before .before .before .pre, omega arith)
 
 enum-known-r : tie.Need-enum-known-r
 enum-known-r c = search needs

@@ -1,9 +1,9 @@
--- `card::main` is safe and ends. Assumes nothing.
+-- `card::print_card` is safe and ends. Assumes nothing.
 use native.Mathlib.Omega.{arith}
 use lib.ListN.{length-take}
 use borrow.Author.Needs.{needs}
-use Rattle.card.proofs.main.Statement.{statement}
-use Rattle.card.proofs.main.Tie as tie
+use Rattle.card.proofs.print_card.Statement.{statement}
+use Rattle.card.proofs.print_card.Tie as tie
 
 slice-aggregate-read-full : tie.Need-slice-aggregate-read-full
 slice-aggregate-read-full c = search needs
@@ -38,8 +38,8 @@ write-all-requires c κs = search needs
 returns : tie.Need-returns
 returns c = search needs
 
-pub main-spec : {M : Type 1} → statement M
-main-spec =
+pub print-card-spec : {M : Type 1} → statement M
+print-card-spec =
     tie.close
     (tie.spec
     slice-aggregate-read-full
