@@ -1,5 +1,5 @@
 // Batches: frames back to back, each a row's size as 4 bytes, big endian, and the row. Each entry takes any bytes of any length and
-// ends with a result or a numbered refusal. Rows count from 0. Every entry judges the schema once.
+// ends with a result or a numbered refusal. Rows count from 0. An entry that takes a schema judges it once.
 ghost use mathlib.Core.Path.{_≡_};
 ghost use Prim.Native.Nat.{_+_};
 ghost use Rattle.schema.specs.Reading.{judged};

@@ -1,5 +1,6 @@
 -- What the entries of a batch tell a C program, by the cases of their answers. Assumes nothing.
 use mathlib.Core.Path.{_≡_, refl, sym, ap, _∙_}
+use mathlib.Core.Bool.{false}
 use mathlib.Core.Option.{Option, none, some}
 use mathlib.Core.List.{List, [], _∷_}
 use Prim.Native.Nat.{ℕ, _+_, _-_, _*_, _^_}
@@ -7,7 +8,10 @@ use native.Mathlib.Omega.{arith}
 use lib.ListN.{length, set}
 use borrow.Author.Tests.{eq-eqb, ne-eqb}
 use Rattle.words.specs.Bytes.{Bytes, part}
-use Rattle.layout.specs.Setting.{Setting, Outcome, refusalIn, _or_}
+use Rattle.schema.specs.Types.{Ty, ro}
+use Rattle.schema.specs.Walk.{fieldsOf}
+use Rattle.layout.specs.Reading.{placed}
+use Rattle.layout.specs.Setting.{Setting, Outcome, refuses, suits, refusalIn, _or_}
 use Rattle.layout.specs.Entries.{Sized, takes, refusedWith, schemaBad, rowLong, layoutBad, readAfter, setAfter, readOf as rowRead, setVerdict, rowAfter}
 use Rattle.answers.specs.declared.Refusal.{Refusal}
 use Rattle.answers.specs.declared.Path.{Path}
@@ -31,7 +35,7 @@ use Rattle.desk.specs.Codes.{verdictCode}
 use Rattle.desk.specs.Steps.{Taken}
 use Rattle.desk.specs.Words.{Told}
 use Rattle.desk.proofs.Steps.{taken-reads}
-use Rattle.desk.proofs.Asking.{taken-sets, taken-unfit}
+use Rattle.desk.proofs.Asking.{unfit-alike, taken-sets, taken-unfit}
 
 -- ---- counting, fetching, checking
 
@@ -120,6 +124,15 @@ module _ (s b : List ℕ) (k : ℕ) (p : List ℕ) where
   unfit-there : noRow s b k ≡ none → unfitIn s b k p ≡ unfitOf s (rowOf b k) p
   unfolding unfitIn
   unfit-there e = rw e
+
+  -- it is refused as a setting that fits no type of its place is
+  pub unfit-alike-in : (t : Ty) (x : Setting) → placed p (ro (fieldsOf s)) ≡ some t → suits t x ≡ false → setOf s b k p x ≡ refuses (unfitIn s b k p)
+  unfolding setOf unfitIn
+  unfit-alike-in t x e h = rw (unfit-alike s (rowOf b k) p t x e h) (go (noRow s b k))
+    where
+      go : (m : Option ℕ) → setAfter m (refuses (unfitOf s (rowOf b k) p)) ≡ refuses (orElse m (unfitOf s (rowOf b k) p))
+      go none = refl
+      go (some n) = refl
 
   pub unfit-refused : (m : ℕ) → B.refused m ≡ fetchOf s b k → m ≡ unfitIn s b k p
   unfolding fetchOf unfitIn unfitOf
