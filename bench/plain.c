@@ -51,12 +51,39 @@ static int value(const uint8_t *s, size_t at, int depth, const uint8_t *b, size_
 
 static int zero(const uint8_t *p, size_t n) { for (size_t i = 0; i < n; i++) if (p[i]) return 0; return 1; }
 
-// Children from their types: next is 0 for a list, whose type stays.
+// Whether the present values stand one after another in some order: each unit of 8 bytes belongs to one of them, and no empty one stands
+// inside another. They all are placed before one is looked into, so that no byte is looked at under two of them.
+static int tiled(const uint8_t *s, size_t at, const uint8_t *b, size_t len, size_t head, size_t n, int list, size_t fixed) {
+    enum { FREE, FIRST, LATER } unit[2048];
+    size_t units = (len - fixed) / 8, used = 0;
+    if (len % 8) return 0;
+    memset(unit, 0, (units + 1) * sizeof *unit);
+    for (int empty = 0; empty < 2; empty++) {
+        size_t type = at;
+        for (size_t i = 0; i < n; i++) {
+            uint64_t x = get(b + head + bitmap(n) + i * 8, 8), off = x >> 32, size = x & 0xFFFFFFFF;
+            int varies = place(s + type) > 6 && !(b[head + i / 8] >> (i % 8) & 1);
+            if (!list) type = skip(s, 1024, type, 9);
+            if (!varies || (size == 0) != empty) continue;
+            if (off < fixed || off % 8 || off + pad(size) > len) return 0;
+            size_t u = (off - fixed) / 8, end = u + pad(size) / 8;
+            if (empty && unit[u] == LATER) return 0;
+            used += end - u;
+            for (size_t v = u; v < end; v++) {
+                if (unit[v] != FREE) return 0;
+                unit[v] = v == u ? FIRST : LATER;
+            }
+        }
+    }
+    return used == units;
+}
+// Children from their types: next is 0 for a list, whose type stays. Values are taken to stand in field order up to the first that does not.
 static int children(const uint8_t *s, size_t at, int depth, const uint8_t *b, size_t len, size_t head, size_t n, int list) {
     int k0 = place(s + at);
-    size_t w = list ? (k0 < 7 ? (size_t)widths[k0] : 8) : 8;
+    size_t types = at, w = list ? (k0 < 7 ? (size_t)widths[k0] : 8) : 8;
     if (n > len) return 0;
-    size_t slots = head + bitmap(n), end = slots + n * w, cur = head + bitmap(n) + pad(n * w);
+    size_t slots = head + bitmap(n), end = slots + n * w, fixed = slots + pad(n * w), cur = fixed;
+    int placed = 0;
     if (cur > len) return 0;
     for (size_t i = n; i < bitmap(n) * 8; i++) if (b[head + i / 8] >> (i % 8) & 1) return 0;
     for (size_t i = 0; i < n; i++) {
@@ -68,7 +95,11 @@ static int children(const uint8_t *s, size_t at, int depth, const uint8_t *b, si
                 if (!zero(p + widths[k], w - (size_t)widths[k])) return 0;
             } else {
                 uint64_t x = get(p, 8), size = x & 0xFFFFFFFF;
-                if (x >> 32 != cur || cur + pad(size) > len) return 0;
+                if (x >> 32 != cur) {
+                    if (!placed && !(placed = tiled(s, types, b, len, head, n, list, fixed))) return 0;
+                    cur = x >> 32;
+                }
+                if (cur + pad(size) > len) return 0;
                 if (k > 8 && !value(s, at, depth, b + cur, size)) return 0;
                 if (!zero(b + cur + size, pad(size) - size)) return 0;
                 cur += pad(size);
@@ -76,7 +107,7 @@ static int children(const uint8_t *s, size_t at, int depth, const uint8_t *b, si
         }
         if (!list) at = skip(s, 1024, at, 9);
     }
-    return zero(b + end, pad(n * w) - n * w) && cur == len;
+    return zero(b + end, pad(n * w) - n * w) && (placed || cur == len);
 }
 static int list_of(const uint8_t *s, size_t at, int depth, const uint8_t *b, size_t len) {
     return len >= 8 && children(s, at, depth, b, len, 8, get(b, 8), 1);

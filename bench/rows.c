@@ -21,11 +21,16 @@ static size_t one_list(struct sample *s, unsigned n, size_t w, size_t data) {
 int make_sample(struct sample *s, const char *kind, unsigned n) {
     memset(s, 0, sizeof *s);
     s->children = n;
+    int back = !strncmp(kind, "reversed ", 9);   // the last value stands first
+    if (back) kind += 9;
     if (!strcmp(kind, "strings")) {            // a list of n three-byte strings
         root(s, 1); mark(s, "li"); mark(s, "st");
         if (16 + 8 + bitmap(n) + 16 * (size_t)n > sizeof s->row) return 0;
-        size_t at = one_list(s, n, 8, 8 * (size_t)n), slots = at + 8 + bitmap(n), cur = 8 + bitmap(n) + 8 * (size_t)n;
-        for (unsigned i = 0; i < n; i++, cur += 8) { slot(s->row + slots + 8 * i, cur, 3); memcpy(s->row + at + cur, "STK", 3); }
+        size_t at = one_list(s, n, 8, 8 * (size_t)n), slots = at + 8 + bitmap(n), data = 8 + bitmap(n) + 8 * (size_t)n;
+        for (unsigned i = 0; i < n; i++) {
+            size_t cur = data + 8 * (back ? n - 1 - i : i);
+            slot(s->row + slots + 8 * i, cur, 3); memcpy(s->row + at + cur, "STK", 3);
+        }
     } else if (!strcmp(kind, "numbers")) {     // a list of n int64
         root(s, 1); mark(s, "li"); mark(s, "i8");
         if (16 + 8 + bitmap(n) + 8 * (size_t)n > sizeof s->row) return 0;
@@ -40,8 +45,9 @@ int make_sample(struct sample *s, const char *kind, unsigned n) {
         root(s, 1); mark(s, "li"); root(s, 2); mark(s, "i8"); mark(s, "st");
         size_t each = 8 + 16 + 8;
         if (16 + 8 + bitmap(n) + (8 + each) * (size_t)n > sizeof s->row) return 0;
-        size_t at = one_list(s, n, 8, each * n), slots = at + 8 + bitmap(n), cur = 8 + bitmap(n) + 8 * (size_t)n;
-        for (unsigned i = 0; i < n; i++, cur += each) {
+        size_t at = one_list(s, n, 8, each * n), slots = at + 8 + bitmap(n), data = 8 + bitmap(n) + 8 * (size_t)n;
+        for (unsigned i = 0; i < n; i++) {
+            size_t cur = data + each * (back ? n - 1 - i : i);
             uint8_t *p = s->row + at + cur;
             slot(s->row + slots + 8 * i, cur, each);
             put(p + 8, i, 8); slot(p + 16, 24, 3); memcpy(p + 24, "STK", 3);

@@ -9,6 +9,7 @@ here, from the document; the second program's card must say the same.
 import os
 
 import second
+from batches import framing
 from layouts import content
 from schemas import Null, judge
 
@@ -135,6 +136,32 @@ row('nulls_inside', b'ro\x02li' b'lii1' b'ma' b'bo' b'ro\x02i2st',
     '0.0 li null', '0.1.0 i1 9', '0.1.1 i1 null', '0.2.0 i1 null',
     '1.0.0 bo null', '1.0.1 bo 1', '1.1.0 ro null', '1.1.1.0 i2 null', '1.1.1.1 st 78')
 
+# --- Values in any order ----------------------------------------------------------
+
+# The second string stands first, the empty one between the two; the lines keep field order.
+run('texts_reversed', whole(b'ro\x03ststst',
+                            bytes(8) + n(40 << 32 | 3, 8) + n(40 << 32, 8) + n(32 << 32 | 3, 8)
+                            + b'PWR' + bytes(5) + b'STK' + bytes(5)),
+    '0 st 53544b',
+    '1 st -',
+    '2 st 505752')
+
+# A list of structs, a map and a string, each level in reversed order.
+run('every_level_reversed',
+    whole(b'ro\x03' b'liro\x02stst' b'mastst' b'st',
+          content(judge(b'ro\x03' b'liro\x02stst' b'mastst' b'st'),
+                  [[[b'A', b'BC'], [b'D', b'']], [[b'k', b'', b'kk'], [b'v', Null(JUNK), b'']], b'STKPWRTPH'],
+                  (), lambda path: -path[-1])),
+    '0.0.0 st 41', '0.0.1 st 4243', '0.1.0 st 44', '0.1.1 st -',
+    '1.0.0 st 6b', '1.0.1 st -', '1.0.2 st 6b6b',
+    '1.1.0 st 76', '1.1.1 st null', '1.1.2 st -',
+    '2 st 53544b505752545048')
+
+# The second string, of nine bytes, stands first; the other leaves eight bytes free behind it, or stands in its last eight.
+for name, first_at, behind in (('reversed_with_a_gap', 48, bytes(8) + b'STK' + bytes(5)), ('reversed_and_crossed', 32, b'')):
+    run(name, whole(b'ro\x02stst', bytes(8) + n(first_at << 32 | 3, 8) + n(24 << 32 | 9, 8)
+                    + b'PWRPWRPWR' + bytes(7) + behind), 'refused 7')
+
 # --- Refusals -------------------------------------------------------------------
 
 run('no_input', b'', 'refused 1')
@@ -172,7 +199,11 @@ PAIR = b'ro\x02i4i8'
 FIRST = row_of(PAIR, [i4(-2), Null(bytes(8))])
 OTHER = row_of(PAIR, [i4(7), n(1, 8)])
 BROKEN = FIRST[:8] + b'\xFF' * 8 + FIRST[16:]
-frame = second.frame
+
+
+def frame(a_row):
+    return framing([a_row])
+
 
 batch_run('batch_no_rows', PAIR, b'')
 batch_run('batch_one_row', PAIR, frame(FIRST), 'row 0', '0 i4 -2', '1 i8 null')

@@ -18,8 +18,8 @@ import requests
 import rows
 from damage import bad_row, bad_schema
 from layouts import decode
-from making import Chooser, root_cell, sound_schema
-from scenes import Scene
+from making import Chooser, sound_schema
+from scenes import some_scene
 from schemas import BOOL, BYTES, FLOAT, INT, LIST, Null, Refused, judge
 
 
@@ -83,8 +83,7 @@ def cards(data):
 def random_batch(choose):
     """Up to four rows of one schema; in most batches one of them, the frames or the schema are damaged."""
     schema = sound_schema(choose)
-    root = judge(schema)
-    scenes = [Scene(schema, root, root_cell(choose, root, 20)) for _ in range(choose.below(5))]
+    scenes = [some_scene(choose, schema, 20) for _ in range(choose.below(5))]
     found = [scene.row for scene in scenes]
     for _ in range(choose.below(3)):
         if scenes:

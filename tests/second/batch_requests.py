@@ -5,10 +5,9 @@ A scene is some rows of one schema, 0 to 6 of them, and one more to append.
 
 import answers
 import batches
-import schemas
 from damage import bad_row, bad_schema, cut, flip, grow, lengthened
-from making import root_cell, sound_schema
-from scenes import Scene, full_scene, mostly_leaf, path_for, room_for, setting_for
+from making import sound_schema
+from scenes import full_scene, mostly_leaf, path_for, room_for, setting_for, some_scene
 
 # A batch beyond this would crowd out the others in the driver's room.
 LONGEST = 60000
@@ -29,8 +28,7 @@ def batch_scene(choose, before):
 
 
 def small_scene(choose, schema):
-    root = schemas.judge(schema)
-    return Scene(schema, root, root_cell(choose, root, 5 + choose.below(30)))
+    return some_scene(choose, schema, 5 + choose.below(30))
 
 
 def batch_request(choose, scenes, new, before):

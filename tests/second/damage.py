@@ -209,10 +209,10 @@ def loose_row(choose, size):
 
 
 def relaid_row(choose, scene):
-    """The root's values in another order, with gaps, or one in another's place.
+    """The root's values in another order, and there with gaps, or one in another's place.
 
     Each value is sound by itself and lies within the row, so that only the
-    rule about the order of variable data can tell.
+    rule about the places of variable data can tell.
     """
     row, n = scene.row, len(scene.root.parts)
     fixed = schemas.bitmap_size(n) + 8 * n
@@ -222,9 +222,8 @@ def relaid_row(choose, scene):
         slot = schemas.number_at(row, at, 8)
         offset, size = slot >> 32, slot & 0xFFFFFFFF
         blocks.append((at, size, row[offset:offset + schemas.pad(size)]))
+    choose.shuffle(blocks)
     p = choose.below(3)
-    if p == 0:
-        choose.shuffle(blocks)
     changed = bytearray(row[:fixed])
     for at, size, block in blocks:
         if p == 1 and choose.chance(0.5):
@@ -258,7 +257,7 @@ def uneven_row(choose, scene):
             half.pop()
         return halves
 
-    return layouts.content(scene.root, without(scene.cells, path)), path
+    return layouts.content(scene.root, without(scene.cells, path), (), scene.rank), path
 
 
 def wrapping_count(choose, room):
@@ -338,15 +337,18 @@ def bad_slot(choose, changed, spot, slots):
     offset, size = slot >> 32, slot & 0xFFFFFFFF
     other = choose.one(slots)
     p = choose.below(9)
-    if p == 0:
+    if size == 0 and choose.chance(0.5):
+        # Sound on the bounds of other values, and nowhere else.
+        offset = max(0, offset + 8 * (choose.below(9) - 4))
+    elif p == 0:
         changed[at:at + 8], changed[other.at:other.at + 8] = (
             changed[other.at:other.at + 8], changed[at:at + 8])
         return
-    if p == 1:
+    elif p == 1:
         # Two fields that share one value: what each holds is sound by itself.
         changed[at:at + 8] = changed[other.at:other.at + 8]
         return
-    if p == 2:
+    elif p == 2:
         offset = schemas.number_at(changed, other.at, 8) >> 32
     elif p == 3:
         offset += choose.one((8, -8, 1, 4, -4, 16, 64))

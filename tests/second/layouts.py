@@ -106,13 +106,22 @@ def join_slot(offset, size):
     return (offset << 32 | size).to_bytes(8, 'little')
 
 
-def container_bytes(head, types, room, cells):
-    """A struct or an array: head, bitmap, slots up to Pad, variable data."""
+def container_bytes(head, types, room, cells, path, rank):
+    """A struct or an array: head, bitmap, slots up to Pad, variable data.
+
+    Values stand in field order, or in the order of their ranks by their paths.
+    """
     n = len(cells)
     fixed = len(head) + bitmap_size(n) + pad(n * room)
     bits = 0
     slots = bytearray()
     data = bytearray()
+    bodies = {i: content(types(i), cell, path + (i,), rank) for i, cell in enumerate(cells)
+              if not isinstance(cell, Null) and types(i).varying}
+    offsets = {}
+    for i in sorted(bodies, key=(lambda i: rank(path + (i,))) if rank else None):
+        offsets[i] = fixed + len(data)
+        data += padded(bodies[i])
     for i, cell in enumerate(cells):
         if isinstance(cell, Null):
             bits |= 1 << i
@@ -120,27 +129,25 @@ def container_bytes(head, types, room, cells):
             continue
         t = types(i)
         if t.varying:
-            body = content(t, cell)
-            slots += join_slot(fixed + len(data), len(body))
-            data += padded(body)
+            slots += join_slot(offsets[i], len(bodies[i]))
         else:
             slots += cell
             slots += bytes(room - len(cell))
     return b''.join((head, bits.to_bytes(bitmap_size(n), 'little'), padded(slots), data))
 
 
-def content(t, cell):
-    """The bytes of a varying value that is there."""
+def content(t, cell, path=(), rank=None):
+    """The bytes of a varying value that is there, in field order or by ranks."""
     if t.kind == BYTES:
         return cell
     if t.kind == STRUCT:
-        return container_bytes(b'', t.parts.__getitem__, 8, cell)
+        return container_bytes(b'', t.parts.__getitem__, 8, cell, path, rank)
     if t.kind == LIST:
         element = t.parts[0]
         count = len(cell).to_bytes(8, 'little')
-        return container_bytes(count, lambda i: element, element.room, cell)
-    keys = content(t.parts[0], cell[0])
-    values = content(t.parts[1], cell[1])
+        return container_bytes(count, lambda i: element, element.room, cell, path, rank)
+    keys = content(t.parts[0], cell[0], path + (0,), rank)
+    values = content(t.parts[1], cell[1], path + (1,), rank)
     return len(keys).to_bytes(8, 'little') + keys + values
 
 
@@ -172,29 +179,36 @@ def decode_container(row, start, end, head, types, n, room):
     bitmap = start + head
     slots = bitmap + bitmap_size(n)
     slots_end = slots + n * room
-    next_free = slots + pad(n * room)
-    if next_free > end:
+    fixed_end = slots + pad(n * room)
+    if fixed_end > end:
         raise Refused(7)
     bits = number_at(row, bitmap, slots - bitmap)
     if bits >> n:
         raise Refused(7)
+    if any(row[slots_end:fixed_end]):
+        raise Refused(7)
+    places = [slots + i * room for i in range(n)]
+    extents = {at: extent(row, start, at) for i, at in enumerate(places)
+               if types(i).varying and not bits >> i & 1}
+    # Values stand in some order one after another without gaps: sorted, with an
+    # empty one before the value that starts where it stands, each begins where
+    # the one before it ends.  What stands there is looked at when this holds:
+    # then no byte is looked at under two values, however deep they go.
+    free = fixed_end
+    for first, last in sorted(extents.values()):
+        if first != free:
+            raise Refused(7)
+        free = first + pad(last - first)
+    if free != end:
+        raise Refused(7)
     cells = []
-    at = slots
-    for i in range(n):
+    for i, at in enumerate(places):
+        t = types(i)
         if bits and bits >> i & 1:
             cells.append(Null(row[at:at + room]))
-            at += room
-            continue
-        t = types(i)
-        if t.varying:
-            slot = number_at(row, at, 8)
-            first = start + (slot >> 32)
-            last = first + (slot & 0xFFFFFFFF)
-            # Values stand in order without gaps, each one padded with zeros.
-            if first != next_free:
-                raise Refused(7)
-            next_free = first + pad(last - first)
-            if next_free > end or any(row[last:next_free]):
+        elif t.varying:
+            first, last = extents[at]
+            if any(row[last:first + pad(last - first)]):
                 raise Refused(7)
             cells.append(decode(t, row, first, last))
         else:
@@ -202,7 +216,11 @@ def decode_container(row, start, end, head, types, n, room):
             if t.kind == BOOL and cell[0] > 1 or any(row[at + t.width:at + room]):
                 raise Refused(7)
             cells.append(cell)
-        at += room
-    if any(row[slots_end:slots + pad(n * room)]) or next_free != end:
-        raise Refused(7)
     return cells
+
+
+def extent(row, start, at):
+    """Where the value of a slot starts and ends, without its padding."""
+    slot = number_at(row, at, 8)
+    first = start + (slot >> 32)
+    return first, first + (slot & 0xFFFFFFFF)

@@ -1,5 +1,6 @@
 """Seeded random schemas that keep their rules, and contents for them."""
 
+import collections
 import random
 
 import schemas
@@ -154,8 +155,9 @@ class Contents:
         if not t.varying:
             return number_bytes(choose, t.width)
         if kind == BYTES:
-            size = choose.one((0, 1, 3, 7, 8, 9, 15, 16, 17)) if choose.chance(0.6) else choose.below(30)
-            return choose.junk(size)
+            # Empty ones most often: in any order they have a rule of their own.
+            sizes = (0, 0, 0, 1, 3, 7, 8, 9, 15, 16, 17)
+            return choose.junk(choose.one(sizes) if choose.chance(0.6) else choose.below(30))
         if kind == STRUCT:
             return self.fields(t)
         if kind == LIST:
@@ -183,3 +185,8 @@ class Contents:
 
 def root_cell(choose, root, budget):
     return Contents(choose, budget, choose.one((0, 0.1, 0.1, 0.25, 0.5))).fields(root)
+
+
+def any_order(choose):
+    """Ranks of values by their paths, each drawn when it is first asked for, and kept."""
+    return collections.defaultdict(choose.random).__getitem__

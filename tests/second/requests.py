@@ -1,9 +1,10 @@
 """Seeded random requests for the driver, sound ones and damaged ones.
 
 Requests come in scenes.  A scene has one schema, contents for it, their
-listing, and their row with junk under the nulls; its requests use these as they
-are or damage them.  A damaged row is asked about near the damage, because a
-random change at one place and a random question at another seldom meet.
+listing, and their row in field order or in some other, with junk under the
+nulls; its requests use these as they are or damage them.  A damaged row is
+asked about near the damage, because a random change at one place and a random
+question at another seldom meet.
 """
 
 import answers
@@ -13,7 +14,7 @@ import schemas
 from batch_requests import batch_scene
 from damage import bad_listing, bad_row, bad_schema, lengthened
 from making import Chooser, Contents, mark_bytes, root_cell, sound_schema, struct_tree
-from scenes import Scene, full_scene, mostly_leaf, path_for, room_for, setting_for
+from scenes import Scene, full_scene, mostly_leaf, path_for, room_for, setting_for, some_scene
 from schemas import BYTES, Null
 
 PORTION = 1000
@@ -50,10 +51,7 @@ class Maker:
         p = choose.random()
         if p < 0.06:
             return self.limit_scene()
-        schema = sound_schema(choose)
-        root = schemas.judge(schema)
-        budget = 20 + choose.below(60) if p < 0.95 else 400
-        scene = Scene(schema, root, root_cell(choose, root, budget))
+        scene = some_scene(choose, sound_schema(choose), 20 + choose.below(60) if p < 0.95 else 400)
         # Long rows cost more than they show: fewer questions about each.
         made = self.requests(scene, 16 if len(scene.row) < 600 else 6)
         self.before = scene

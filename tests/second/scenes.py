@@ -5,17 +5,20 @@ import layouts
 import rows
 import schemas
 from damage import survey
-from making import FLOATS32, FLOATS64, mark_bytes, root_cell, struct_tree
+from making import FLOATS32, FLOATS64, any_order, mark_bytes, root_cell, struct_tree
 from schemas import BOOL, FLOAT, INT, LIST, MAP, STRUCT
 
 
 class Scene:
-    def __init__(self, schema, root, cells):
+    """The row has its values in field order, or by their ranks where there are some."""
+
+    def __init__(self, schema, root, cells, rank=None):
         self.schema = schema
         self.root = root
         self.cells = cells
+        self.rank = rank
         self.listing = layouts.listing_of(root, cells)
-        self.row = layouts.content(root, cells)
+        self.row = layouts.content(root, cells, (), rank)
         self.places, self.spots = survey(root, self.row)
 
     def size_at(self, path):
@@ -27,6 +30,16 @@ class Scene:
         return value[2] if value[0] == 'bytes' else None
 
 
+def some_rank(choose):
+    """Field order, or as often some other."""
+    return any_order(choose) if choose.chance(0.5) else None
+
+
+def some_scene(choose, schema, budget):
+    root = schemas.judge(schema)
+    return Scene(schema, root, root_cell(choose, root, budget), some_rank(choose))
+
+
 def full_scene(choose):
     """Any small row, and a last string that fills it up to the limit or just over."""
     tree = struct_tree(choose, 1, 4, 3) + ((choose.one((b'st', b'bi')),),)
@@ -36,7 +49,7 @@ def full_scene(choose):
     cells[-1] = b''
     short = len(layouts.content(root, cells))
     cells[-1] = choose.junk(rows.ROW_LIMIT - short - choose.one((0, 1, 7, 8, 0, -1, -8)))
-    return Scene(schema, root, cells)
+    return Scene(schema, root, cells, some_rank(choose))
 
 
 # --- Paths, settings and rooms -----------------------------------------------

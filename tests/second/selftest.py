@@ -10,6 +10,7 @@ that this one is right, so that a difference is worth following.
 import argparse
 import struct
 
+import all_orders
 import answers
 import batches
 import cases
@@ -20,8 +21,8 @@ import schemas
 import sequences
 from batch_requests import bad_frames, batch_scene
 from damage import bad_listing, bad_row
-from making import Chooser, root_cell, sound_schema
-from scenes import Scene, path_for, setting_for
+from making import Chooser, any_order, sound_schema
+from scenes import path_for, setting_for, some_scene
 from schemas import BYTES, LIST, MAP, Null
 from trees import plain, replaced, tree_values
 
@@ -48,9 +49,12 @@ def rebuilt(root, row):
     """The row that the contents found by reading alone would give, or None.
 
     A row is sound exactly if this is the row itself: reading finds the contents
-    of a sound row, and the layout has one row for them.  So the strict judge is
-    held against the walk and the writer, which follow other rules.
+    of a sound row and where they stand, and the layout has one row for them in
+    that order.  So the strict judge is held against the walk and the writer,
+    which follow other rules.
     """
+    ranks = {}
+
     # A sound row has fewer places than bytes; an unsound one may lead to
     # endlessly many.
     left = [2 * len(row) + 16]
@@ -60,6 +64,9 @@ def rebuilt(root, row):
         if left[0] < 0:
             raise TooMany
         place = rows.walk(root, row, path)
+        if not place.null and place.type.varying:
+            # Of two that start at one byte the empty one comes first.
+            ranks[path] = (place.start, place.size > 0)
         if place.null:
             return Null(row[place.slot:place.slot + place.room])
         if place.type.kind == BYTES:
@@ -82,7 +89,7 @@ def rebuilt(root, row):
         tree = cell(())
     except (schemas.Refused, TooMany):
         return None
-    return layouts.content(root, tree) if equal_counts(root, tree) else None
+    return layouts.content(root, tree, (), ranks.get) if equal_counts(root, tree) else None
 
 
 def check_contents(root, schema, cells, row, listing):
@@ -106,14 +113,19 @@ def check_contents(root, schema, cells, row, listing):
     return values
 
 
-def check_row(root, schema, row):
-    """Any row: accepted exactly if it is the row of its own contents."""
+def check_row(root, schema, row, tally):
+    """Any row: accepted exactly if it is the row of its own contents, as trying all orders says."""
     number = refusal(rows.check, schema, row)
     if len(row) > rows.ROW_LIMIT:
         assert number == 3
         return False
     again = rebuilt(root, row)
     assert number == (None if again == row else 7), (schema, row, number)
+    try:
+        assert all_orders.accepted(root, row) == (number is None), (schema, row, number)
+        tally['rows of which all orders were tried'] += 1
+    except all_orders.TooMany:
+        pass
     if number is not None:
         assert refusal(rows.list_back, schema, row, 70000) == 7
         return False
@@ -136,7 +148,7 @@ def check_set(choose, scene, cells, values):
     path, setting = any_setting()
     try:
         rows.type_at(root, path)
-        by_tree = layouts.content(root, replaced(root, cells, path, setting))
+        by_tree = layouts.content(root, replaced(root, cells, path, setting), (), scene.rank)
     except schemas.Refused as r:
         by_tree = r.number
     try:
@@ -169,18 +181,23 @@ def check_set(choose, scene, cells, values):
 def check_scene(choose, tally):
     schema = sound_schema(choose)
     root = schemas.judge(schema)
-    cells = root_cell(choose, root, 20 + choose.below(60))
-    scene = Scene(schema, root, cells)
+    scene = some_scene(choose, schema, 20 + choose.below(60))
+    cells = scene.cells
     if len(scene.row) > rows.ROW_LIMIT:
         assert refusal(rows.write, schema, scene.listing, 70000) == 3
         assert refusal(rows.check, schema, scene.row) == 3
         return
     values = check_contents(root, schema, cells, scene.row, scene.listing)
+    assert check_row(root, schema, scene.row, tally)
+    # The same contents in another order: as long, and read alike.
+    other = layouts.content(root, cells, (), any_order(choose))
+    assert len(other) == len(scene.row)
+    assert check_contents(root, schema, cells, other, scene.listing) == values
     tally['places'] += len(values)
     for _ in range(8):
         row, _ = bad_row(choose, scene)
         tally['damaged rows'] += 1
-        tally['of them sound'] += check_row(root, schema, row)
+        tally['of them sound'] += check_row(root, schema, row, tally)
     for _ in range(8):
         tally['settings'] += 1
         tally['of them done'] += check_set(choose, scene, cells, values) is not None
@@ -330,7 +347,8 @@ def main():
     args = parser.parse_args()
     print('%d cases hold' % len(cases.requests_and_answers()))
     choose = Chooser('selftest/%d' % args.seed)
-    tally = dict.fromkeys(('places', 'damaged rows', 'of them sound', 'settings', 'of them done',
+    tally = dict.fromkeys(('places', 'damaged rows', 'of them sound',
+                           'rows of which all orders were tried', 'settings', 'of them done',
                            'damaged listings', 'of them taken', 'requests about batches', 'batches taken apart'), 0)
     for number in range(args.scenes):
         check_scene(choose, tally)

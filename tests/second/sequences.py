@@ -1,16 +1,16 @@
 """Seeded runs of settings of one row or one batch, each after a setting checked and read.
 
 The contents are kept as trees and the settings made there: a row is always the
-one that its tree lays out, a batch holds the rows of its trees, and a place
-reads as the tree holds it.
+one that its tree lays out, in the order that it began with, a batch holds the
+rows of its trees, and a place reads as the tree holds it.
 """
 
 import answers
 import batches
 import rows
-from making import Chooser, root_cell, sound_schema
-from scenes import Scene, path_for, setting_for
-from schemas import Refused, judge
+from making import Chooser, sound_schema
+from scenes import Scene, path_for, setting_for, some_scene
+from schemas import Refused
 from trees import plain, replaced, tree_values
 
 SETTINGS = 30
@@ -44,7 +44,7 @@ def batch_sequence(choose):
     first = first_scene(choose)
     schema = first.schema
     # Four rows at their limit still fit into the driver's room.
-    scenes = [first] + [scene_of(choose, schema) for _ in range(1 + choose.below(3))]
+    scenes = [first] + [some_scene(choose, schema, budget(choose)) for _ in range(1 + choose.below(3))]
     # Of the first it is known that it is accepted and has a leaf to set.
     scenes = [scene for scene in scenes if len(scene.row) <= rows.ROW_LIMIT and leaves(scene)]
     choose.shuffle(scenes)
@@ -69,15 +69,14 @@ def batch_sequence(choose):
     return made
 
 
-def scene_of(choose, schema):
-    root = judge(schema)
-    return Scene(schema, root, root_cell(choose, root, 20 + choose.below(60)))
+def budget(choose):
+    return 20 + choose.below(60)
 
 
 def first_scene(choose):
     """An accepted row with a leaf to set."""
     while True:
-        scene = scene_of(choose, sound_schema(choose))
+        scene = some_scene(choose, sound_schema(choose), budget(choose))
         if len(scene.row) <= rows.ROW_LIMIT and leaves(scene):
             return scene
 
@@ -99,7 +98,7 @@ def after_setting(scene, path, setting):
         cells = replaced(scene.root, scene.cells, path, setting)
     except Refused as r:
         return scene, answers.refusal(r)
-    return Scene(scene.schema, scene.root, cells), None
+    return Scene(scene.schema, scene.root, cells, scene.rank), None
 
 
 def reads(choose, scene, path, others):

@@ -11,7 +11,7 @@ use Rattle.schema.specs.Types.{fixedPlace, textPlace, fixedAt, textAt, place, w
 use Rattle.schema.specs.Reading.{parseAll, parseRo, parseKind, parse as parseTy, judged}
 use Rattle.schema.specs.Walk.{typeAt as tyAt, fieldsOf}
 use Rattle.layout.specs.Reader.{assert, cut}
-use Rattle.layout.specs.Tiles.{total, both?, change?, stands?}
+use Rattle.layout.specs.Tiles.{total, both?, either?, change?, aparts?, stands?}
 use Rattle.layout.specs.Cells.{fromCells, toCells, onNull, bytes as cellBytes, parts}
 use Rattle.layout.specs.Layout.{number, string, inside, outside, kidOf, slotOf, kidGet, flags, slots, tails, reads, bodyPut, bodyGet, struct, array, pair, limit, codec}
 use Rattle.layout.specs.Walk.{must, mustStep, own, bySlot, byFlag, child, stepIn, goOn, walk}
@@ -44,7 +44,7 @@ two = (114 ∷ 111 ∷ 119 ∷ 32 ∷ 48 ∷ 10 ∷ []) ++ output ++ (114 ∷ 11
 -- to unfold this is to unfold the definitions
 computes : Unit {0}
 unfolding le num fill types markAt find placeOf kindOf placedKind headKind kindAt fixedPlace textPlace fixedAt textAt place width mark count field
-    parseAll parseRo parseKind parseTy judged tyAt fieldsOf assert cut total both? change? stands? fromCells toCells onNull cellBytes parts
+    parseAll parseRo parseKind parseTy judged tyAt fieldsOf assert cut total both? either? change? aparts? stands? fromCells toCells onNull cellBytes parts
     number string inside outside kidOf slotOf kidGet flags slots tails reads bodyPut bodyGet struct array pair limit codec
     must mustStep own bySlot byFlag child stepIn goOn walk typeAt placed valueOf answerOf found readIn checkOf readOf
     announced splitOf hex decimalIn decimal signed hexes bytes dotted path contents line numbered hasLine below markIn lineAt inOrder cardFrom cardOf

@@ -23,14 +23,8 @@ use Rattle.layout.specs.Layout.{Codec, Kid, inside, outside, kidGet, reads, fro
 use Rattle.layout.specs.Setting.{isSome}
 use Rattle.layout.proofs.Reader.{assert-yes}
 use Rattle.layout.proofs.Steps.{kidAt, reads-step, reads-end}
-use Rattle.layout.proofs.Cursor.{AllBlind, Alike, reads-blind}
 use Rattle.checking.specs.Sound.{endsAt, goodFrom, both}
-use Rattle.checking.proofs.Tests.{assert-no, cut-some, ends-more, ends-alike, value-ends, both-false}
-
-drop-blind : (i : ℕ) (ks : List Kid) → AllBlind ks → AllBlind (drop i ks)
-drop-blind zero ks b = b
-drop-blind (suc i) [] b = tt
-drop-blind (suc i) (k ∷ ks) b = drop-blind i ks (b .1)
+use Rattle.checking.proofs.Tests.{assert-no, cut-some, ends-more, value-ends, both-false}
 
 -- a bit that is set is 1, and one that is not is 0
 bit-one : (m i : ℕ) → bitOf m i ≡ true → m / 2 ^ i % 2 ≡ 1
@@ -52,7 +46,7 @@ outside-ends N n at d rs o c next r h k f =
     let e = drop (o - at) d in
     rw (cut-some n e h, cut-some (pad n - n) (drop n e) k) (value-ends N (c .get (take n e)) (num (take (pad n - n) (drop n e))) (λ x. (x, range o (pad n) ∷ rs)) next r f)
 
-module _ (h w : ℕ) (ks : List Kid) (b : List ℕ) (fits : front h w (length ks) ≤ length b) (bl : AllBlind ks) (hb : Bytes b) where
+module _ (h w : ℕ) (ks : List Kid) (b : List ℕ) (fits : front h w (length ks) ≤ length b) (hb : Bytes b) where
   abbrev n : ℕ
   n = length ks
 
@@ -75,19 +69,17 @@ module _ (h w : ℕ) (ks : List Kid) (b : List ℕ) (fits : front h w (length ks
   abbrev left : ℕ → List Range → Option (List Cell × List Range)
   left i rs = reads w at (drop at b) (drop i ks) (M / 2 ^ i) (drop (i * w) S) rs
 
-  abbrev one : ℕ → List Range
-  one cur = range at (cur - at) ∷ []
+  -- the data ends with the container
+  stop-is : at + length (drop at b) ≡ length b
+  stop-is = omega (arith, length-drop at b, fits)
 
-  left-alike : (i : ℕ) (rs qs : List Range) → total rs ≡ total qs → endsAt N (left i rs) ≡ endsAt N (left i qs)
-  left-alike i rs qs e = ends-alike N (reads-blind w at (drop at b) (drop i ks) (M / 2 ^ i) (drop (i * w) S) rs qs (drop-blind i ks bl) e)
-
-  pub good-end : (i cur : ℕ) → i ≡ n → at ≤ cur → goodFrom h w ks b i cur ≡ eqb cur (length b)
-  unfolding goodFrom total
-  good-end i cur e l = rw (reads-end w at i (M / 2 ^ i) (drop at b) ks (drop (i * w) S) (one cur) (sym e)) (go (ℕ-discrete cur (length b)))
+  pub good-end : (i : ℕ) (rs : List Range) (cur : ℕ) → i ≡ n → at + total rs ≡ cur → goodFrom h w ks b i rs ≡ eqb cur (length b)
+  unfolding goodFrom
+  good-end i rs cur e l = rw (reads-end w at i (M / 2 ^ i) (drop at b) ks (drop (i * w) S) rs (sym e)) (go (ℕ-discrete cur (length b)))
     where
-      go : Dec (cur ≡ length b) → eqb (cur - at + 0) (length b - at) ≡ eqb cur (length b)
-      go (yes q) = eq-eqb (cur - at + 0) (length b - at) (omega arith) ∙ sym (eq-eqb cur (length b) q)
-      go (no q) = ne-eqb (cur - at + 0) (length b - at) (λ z. q (omega arith)) ∙ sym (ne-eqb cur (length b) q)
+      go : Dec (cur ≡ length b) → eqb (total rs) (length b - at) ≡ eqb cur (length b)
+      go (yes q) = eq-eqb (total rs) (length b - at) (omega arith) ∙ sym (eq-eqb cur (length b) q)
+      go (no q) = ne-eqb (total rs) (length b - at) (λ z. q (omega arith)) ∙ sym (ne-eqb cur (length b) q)
 
   module _ (i : ℕ) (k : i < n) where
     -- where its slot starts
@@ -106,53 +98,47 @@ module _ (h w : ℕ) (ks : List Kid) (b : List ℕ) (fits : front h w (length ks
     flag : (v : Bool) → bit b h i ≡ v → bitOf M i ≡ v
     flag v e = bit-num h (bitmap n) i hb (omega arith) ∙ e
 
-    pub good-null : (cur : ℕ) → bit b h i ≡ true → goodFrom h w ks b i cur ≡ goodFrom h w ks b (i + 1) cur
+    pub good-null : (rs : List Range) → bit b h i ≡ true → goodFrom h w ks b i rs ≡ goodFrom h w ks b (i + 1) rs
     unfolding goodFrom kidGet
-    good-null cur e = rw (add-one i, step (one cur), bit-one M i (flag true e)) (ends-more N (null (part b p w)) (left (suc i) (one cur)))
+    good-null rs e = rw (add-one i, step rs, bit-one M i (flag true e)) (ends-more N (null (part b p w)) (left (suc i) rs))
 
     -- a fixed width: v bytes that the codec reads, and zeros behind them
-    pub good-inside : (cur v : ℕ) (c : Codec) → kidAt ks i ≡ inside w v c → v ≤ w → bit b h i ≡ false
-        → goodFrom h w ks b i cur ≡ both (isSome (c .get (part b p v))) (both (eqb (num (part b (p + v) (w - v))) 0) (goodFrom h w ks b (i + 1) cur))
+    pub good-inside : (rs : List Range) (v : ℕ) (c : Codec) → kidAt ks i ≡ inside w v c → v ≤ w → bit b h i ≡ false
+        → goodFrom h w ks b i rs ≡ both (isSome (c .get (part b p v))) (both (eqb (num (part b (p + v) (w - v))) 0) (goodFrom h w ks b (i + 1) rs))
     unfolding goodFrom kidGet inside
-    good-inside cur v c e l f =
+    good-inside rs v c e l f =
         let s = part b p w in
         let long : length s ≡ w = length-part b p w (omega (arith, fit)) in
         let u : take v s ≡ part b p v = take-take v w (drop p b) l in
         let z : drop v s ≡ part b (p + v) (w - v) = drop-take v w (drop p b) ∙ ap (take (w - v)) (drop-drop v p b) in
-        rw (add-one i, step (one cur), e, bit-zero M i (flag false f), cut-some v s (omega arith), u, z)
-        (value-ends N (c .get (part b p v)) (num (part b (p + v) (w - v))) (λ x. (x, one cur)) (λ (x : Cell × List Range). left (suc i) (x .1) >>= λ (q : List Cell × List Range). some (x .0 ∷ q .0, q .1))
-        (endsAt N (left (suc i) (one cur))) (λ x. ends-more N x (left (suc i) (one cur))))
+        rw (add-one i, step rs, e, bit-zero M i (flag false f), cut-some v s (omega arith), u, z)
+        (value-ends N (c .get (part b p v)) (num (part b (p + v) (w - v))) (λ x. (x, rs)) (λ (x : Cell × List Range). left (suc i) (x .1) >>= λ (q : List Cell × List Range). some (x .0 ∷ q .0, q .1))
+        (endsAt N (left (suc i) rs)) (λ x. ends-more N x (left (suc i) rs)))
 
     -- a value elsewhere: the slot is the number x
-    module _ (cur : ℕ) (c : Codec) (e : kidAt ks i ≡ outside c) (w8 : w ≡ 8) (f : bit b h i ≡ false) (low : at ≤ cur) (eight : cur % 8 ≡ 0) (x : ℕ) (ex : x ≡ num (part b p 8)) where
+    module _ (rs : List Range) (c : Codec) (e : kidAt ks i ≡ outside c) (w8 : w ≡ 8) (f : bit b h i ≡ false) (x : ℕ) (ex : x ≡ num (part b p 8)) where
       slot-8 : num (part b p w) ≡ x
       slot-8 = ap (λ (k : ℕ). num (part b p k)) w8 ∙ sym ex
 
-      -- it is not where the next value stands, or does not fit
-      pub good-off : (x / 2 ^ 32 ≡ cur → ⊥) → goodFrom h w ks b i cur ≡ false
-      unfolding goodFrom kidGet outside total
+      -- it may not stand where the slot says
+      pub good-off : (Stands at (length b) rs (range (x / 2 ^ 32) (pad (x % 2 ^ 32))) → ⊥) → goodFrom h w ks b i rs ≡ false
+      unfolding goodFrom kidGet outside
       good-off ne =
-          rw (step (one cur), e, bit-zero M i (flag false f), slot-8, assert-no (stands? at (at + length (drop at b)) (one cur) (range (x / 2 ^ 32) (pad (x % 2 ^ 32)))) _ (λ s. ne (omega (arith, s .next))))
-
-      pub good-long : x / 2 ^ 32 ≡ cur → length b < cur + pad (x % 2 ^ 32) → goodFrom h w ks b i cur ≡ false
-      unfolding goodFrom kidGet outside total
-      good-long o l =
-          rw (step (one cur), e, bit-zero M i (flag false f), slot-8, assert-no (stands? at (at + length (drop at b)) (one cur) (range (x / 2 ^ 32) (pad (x % 2 ^ 32)))) _ (λ s. omega (arith, s .high, length-drop at b)))
+          rw (step rs, e, bit-zero M i (flag false f), slot-8, stop-is, assert-no (stands? at (length b) rs (range (x / 2 ^ 32) (pad (x % 2 ^ 32)))) _ ne)
 
       -- its contents, and its padding
-      pub good-outside : (size next : ℕ) → x / 2 ^ 32 ≡ cur → size ≡ x % 2 ^ 32 → next ≡ cur + pad size → next ≤ length b
-          → goodFrom h w ks b i cur ≡ both (isSome (c .get (part b cur size))) (both (eqb (num (part b (cur + size) (next - (cur + size)))) 0) (goodFrom h w ks b (i + 1) next))
-      unfolding goodFrom kidGet outside total
-      good-outside size next o es en l =
+      pub good-outside : (o size next : ℕ) → x / 2 ^ 32 ≡ o → size ≡ x % 2 ^ 32 → next ≡ o + pad size → Stands at (length b) rs (range o (pad size))
+          → goodFrom h w ks b i rs ≡ both (isSome (c .get (part b o size))) (both (eqb (num (part b (o + size) (next - (o + size)))) 0) (goodFrom h w ks b (i + 1) (range o (pad size) ∷ rs)))
+      unfolding goodFrom kidGet outside
+      good-outside o size next eo es en st =
           let d = drop at b in
-          let ld = length-drop at b in
-          let st : Stands at (at + length d) (one cur) (range cur (pad size)) = record { next = omega arith; high = omega arith; eight = eight } in
-          let ca : at + (cur - at) ≡ cur = omega arith in
-          let dd : drop (cur - at) d ≡ drop cur b = drop-drop (cur - at) at b ∙ ap (λ (j : ℕ). drop j b) ca in
-          let dz : drop size (drop cur b) ≡ drop (cur + size) b = drop-drop size cur b in
-          let z : pad size - size ≡ next - (cur + size) = omega arith in
-          let t : total (range cur (pad size) ∷ one cur) ≡ total (one next) = omega arith in
-          let m = outside-ends N size at d (one cur) cur c (λ (x : Cell × List Range). left (suc i) (x .1) >>= λ (q : List Cell × List Range). some (x .0 ∷ q .0, q .1))
-          (endsAt N (left (suc i) (one next))) (rw (dd, length-drop) (omega arith)) (rw (dd, dz, length-drop) (omega arith))
-          (λ x. ends-more N x (left (suc i) (range cur (pad size) ∷ one cur)) ∙ left-alike (suc i) (range cur (pad size) ∷ one cur) (one next) t) in
-          rw (add-one i, step (one cur), e, bit-zero M i (flag false f), slot-8, o, ← es, assert-yes (stands? at (at + length d) (one cur) (range cur (pad size))) st, m, dd, dz, z)
+          let hi = st .high in
+          let lo = st .low in
+          let ca : at + (o - at) ≡ o = omega arith in
+          let dd : drop (o - at) d ≡ drop o b = drop-drop (o - at) at b ∙ ap (λ (j : ℕ). drop j b) ca in
+          let dz : drop size (drop o b) ≡ drop (o + size) b = drop-drop size o b in
+          let z : pad size - size ≡ next - (o + size) = omega arith in
+          let m = outside-ends N size at d rs o c (λ (x : Cell × List Range). left (suc i) (x .1) >>= λ (q : List Cell × List Range). some (x .0 ∷ q .0, q .1))
+          (endsAt N (left (suc i) (range o (pad size) ∷ rs))) (rw (dd, length-drop) (omega arith)) (rw (dd, dz, length-drop) (omega arith))
+          (λ x. ends-more N x (left (suc i) (range o (pad size) ∷ rs))) in
+          rw (add-one i, step rs, e, bit-zero M i (flag false f), slot-8, eo, ← es, stop-is, assert-yes (stands? at (length b) rs (range o (pad size))) st, m, dd, dz, z)

@@ -14,16 +14,15 @@ use Rattle.words.specs.Bytes.{Bytes, num, pad, bitmap, part}
 use Rattle.words.proofs.Numbers.{bytes-take, bytes-drop}
 use Rattle.schema.specs.Types.{Ty, fix, text, li, ma, ro, Tys}
 use Rattle.layout.specs.Reader.{_>>=_, _>>_, assert, cut}
-use Rattle.layout.specs.Tiles.{Range, range, total}
+use Rattle.layout.specs.Tiles.{Range, total}
 use Rattle.layout.specs.Cells.{Cell, node, parts}
 use Rattle.layout.specs.Layout.{Codec, Kid, kid, kidOf, slotOf, reads, front, bodyGet, struct, array, pair, list, codec, kids, decode}
 use Rattle.layout.specs.Setting.{isSome}
 use Rattle.layout.proofs.Reader.{when-some}
 use Rattle.layout.proofs.Containers.{lays-decode}
-use Rattle.layout.proofs.Cursor.{AllBlind, reads-blind, kid-blind, repeat-blind, kids-blind}
 use Rattle.layout.proofs.Walked.{list-says}
 use Rattle.checking.specs.Sound.{sound, endsAt, goodFrom, both}
-use Rattle.checking.proofs.Tests.{assert-no, equal-some, less-some, cut-some, cut-none, ends-alike, ends-some}
+use Rattle.checking.proofs.Tests.{assert-no, equal-some, less-some, cut-some, cut-none, ends-some}
 
 some-map : {A B : Type 0} (m : Option A) (f : A → B) → isSome (m >>= λ x. some (f x)) ≡ isSome m
 some-map none f = refl
@@ -51,11 +50,11 @@ body-none : (h w : ℕ) (ks : List Kid) (b : List ℕ) → h ≤ length b → le
 unfolding bodyGet
 body-none h w ks b l k = cuts-none (bitmap (length ks)) (length ks * w) (pad (length ks * w) - length ks * w) (drop h b) _ (rw length-drop (omega arith))
 
-body-some : (h w : ℕ) (ks : List Kid) (b : List ℕ) → AllBlind ks → front h w (length ks) ≤ length b
+body-some : (h w : ℕ) (ks : List Kid) (b : List ℕ) → front h w (length ks) ≤ length b
     → isSome (bodyGet h w ks (drop h b)) ≡ both (ltb (num (part b h (bitmap (length ks)))) (2 ^ length ks))
-    (both (eqb (num (part b (h + bitmap (length ks) + length ks * w) (pad (length ks * w) - length ks * w))) 0) (goodFrom h w ks b 0 (front h w (length ks))))
-unfolding bodyGet goodFrom total
-body-some h w ks b bl fits =
+    (both (eqb (num (part b (h + bitmap (length ks) + length ks * w) (pad (length ks * w) - length ks * w))) 0) (goodFrom h w ks b 0 []))
+unfolding bodyGet goodFrom
+body-some h w ks b fits =
     let n = length ks in
     let at = front h w n in
     let r = drop h b in
@@ -70,7 +69,6 @@ body-some h w ks b bl fits =
     let d = drop at b in
     let one : num m / 2 ^ 0 ≡ num m = omega arith in
     let o : 0 * w ≡ 0 = omega arith in
-    let t : total [] ≡ total (range at (at - at) ∷ []) = omega arith in
     rw (
       cut-some (bitmap n) r (omega arith),
       d₁,
@@ -82,8 +80,7 @@ body-some h w ks b bl fits =
       ends-some (length d) z (reads w at d ks (num m) s []),
       one,
       o,
-    ) (ap (both (ltb (num m) (2 ^ n))) (ap (both (eqb (num z) 0)) (ap (λ (k : ℕ). endsAt k (reads w at d ks (num m) s [])) (length-drop at b)
-    ∙ ends-alike (length b - at) (reads-blind w at d ks (num m) s [] (range at (at - at) ∷ []) bl t))))
+    ) (ap (both (ltb (num m) (2 ^ n))) (ap (both (eqb (num z) 0)) (ap (λ (k : ℕ). endsAt k (reads w at d ks (num m) s [])) (length-drop at b))))
 
 -- ---- a struct of n fields
 
@@ -96,19 +93,18 @@ module _ (ts : Tys) (n : ℕ) (b : List ℕ) (en : length (kids ts) ≡ n) where
     room : front 0 8 (length (kids ts)) ≤ length b
     room = rw en (omega arith)
 
-    struct-is : sound (ro ts) b ≡ both (ltb (num (part b 0 (bitmap n))) (2 ^ n)) (goodFrom 0 8 (kids ts) b 0 (bitmap n + 8 * n))
+    struct-is : sound (ro ts) b ≡ both (ltb (num (part b 0 (bitmap n))) (2 ^ n)) (goodFrom 0 8 (kids ts) b 0 [])
     unfolding sound codec struct num
     struct-is =
         let k = length (kids ts) in
         let z : pad (k * 8) - k * 8 ≡ 0 = omega arith in
-        let f : front 0 8 k ≡ bitmap n + 8 * n = rw en (omega arith) in
-        some-map (bodyGet 0 8 (kids ts) b) node ∙ body-some 0 8 (kids ts) b (kids-blind ts) room
-        ∙ rw (z, f) (ap (λ (j : ℕ). both (ltb (num (part b 0 (bitmap j))) (2 ^ j)) (goodFrom 0 8 (kids ts) b 0 (bitmap n + 8 * n))) en)
+        some-map (bodyGet 0 8 (kids ts) b) node ∙ body-some 0 8 (kids ts) b room
+        ∙ rw z (ap (λ (j : ℕ). both (ltb (num (part b 0 (bitmap j))) (2 ^ j)) (goodFrom 0 8 (kids ts) b 0 [])) en)
 
     pub struct-past : ltb (num (part b 0 (bitmap n))) (2 ^ n) ≡ false → sound (ro ts) b ≡ false
     struct-past e = struct-is ∙ rw e
 
-    pub struct-good : ltb (num (part b 0 (bitmap n))) (2 ^ n) ≡ true → sound (ro ts) b ≡ goodFrom 0 8 (kids ts) b 0 (bitmap n + 8 * n)
+    pub struct-good : ltb (num (part b 0 (bitmap n))) (2 ^ n) ≡ true → sound (ro ts) b ≡ goodFrom 0 8 (kids ts) b 0 []
     struct-good e = struct-is ∙ rw e
 
 -- ---- a list of n elements of w bytes
@@ -137,11 +133,11 @@ module _ (t : Ty) (b : List ℕ) where
     list-unfit l = list-body ∙ ap isSome (body-none 8 w (elements n) b h (rw length-replicate l))
 
     module _ (l : front 8 w n ≤ length b) where
-      list-is : sound (li t) b ≡ both (ltb (num (part b 8 (bitmap n))) (2 ^ n)) (both (eqb (num (part b (8 + bitmap n + n * w) (pad (n * w) - n * w))) 0) (goodFrom 8 w (elements n) b 0 (front 8 w n)))
+      list-is : sound (li t) b ≡ both (ltb (num (part b 8 (bitmap n))) (2 ^ n)) (both (eqb (num (part b (8 + bitmap n + n * w) (pad (n * w) - n * w))) 0) (goodFrom 8 w (elements n) b 0 []))
       list-is =
           let q : length (elements n) ≡ n = length-replicate n k in
-          list-body ∙ body-some 8 w (elements n) b (repeat-blind n k (kid-blind w (codec t .wide) (codec t))) (rw q l)
-          ∙ ap (λ (j : ℕ). both (ltb (num (part b 8 (bitmap j))) (2 ^ j)) (both (eqb (num (part b (8 + bitmap j + j * w) (pad (j * w) - j * w))) 0) (goodFrom 8 w (elements n) b 0 (front 8 w j)))) q
+          list-body ∙ body-some 8 w (elements n) b (rw q l)
+          ∙ ap (λ (j : ℕ). both (ltb (num (part b 8 (bitmap j))) (2 ^ j)) (both (eqb (num (part b (8 + bitmap j + j * w) (pad (j * w) - j * w))) 0) (goodFrom 8 w (elements n) b 0 []))) q
 
       pub list-past : ltb (num (part b 8 (bitmap n))) (2 ^ n) ≡ false → sound (li t) b ≡ false
       list-past e = list-is ∙ rw e
@@ -156,8 +152,8 @@ module _ (t : Ty) (b : List ℕ) where
         pub list-filled : eqb (num (part b stop (start - stop))) 0 ≡ false → sound (li t) b ≡ false
         list-filled e = list-is ∙ rw (p, ← zeros-at, e)
 
-        pub list-good : eqb (num (part b stop (start - stop))) 0 ≡ true → sound (li t) b ≡ goodFrom 8 w (elements n) b 0 start
-        list-good e = list-is ∙ rw (p, ← zeros-at, e, et)
+        pub list-good : eqb (num (part b stop (start - stop))) 0 ≡ true → sound (li t) b ≡ goodFrom 8 w (elements n) b 0 []
+        list-good e = list-is ∙ rw (p, ← zeros-at, e)
 
 -- ---- a map
 

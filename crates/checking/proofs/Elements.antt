@@ -2,7 +2,7 @@
 use mathlib.Core.Path.{_≡_, sym, ap, _∙_, subst}
 use mathlib.Core.Bool.{Bool, true, false}
 use mathlib.Core.Option.{some}
-use mathlib.Core.List.{List}
+use mathlib.Core.List.{List, []}
 use Prim.Native.Nat.{ℕ, _+_, _*_, _-_, _^_, _≤_, _<_}
 use native.Mathlib.Nat.{mul-le-mul-left, mul-one}
 use native.Mathlib.Omega.{arith}
@@ -20,7 +20,6 @@ use Rattle.schema.proofs.Table.{width-pos, place-fixed}
 use Rattle.schema.proofs.Places.{typed-place, fixed-of, text-of}
 use Rattle.layout.specs.Layout.{number, string, inside, kidOf, slotOf, front, limit, codec}
 use Rattle.layout.specs.Setting.{isSome}
-use Rattle.layout.proofs.Cursor.{Blind, kid-blind, repeat-blind}
 use Rattle.checking.specs.Sound.{sound, goodFrom}
 use Rattle.checking.specs.Room.{ListRoom, Items, Holding, texts, bools, elements}
 use Rattle.checking.proofs.Containers.{list-unfit, list-past, list-filled, list-good}
@@ -31,17 +30,13 @@ use Rattle.layout.proofs.Widths.{element-wide, slot-small, slot-some, limit-fre
 fixed-fine : (f : Fixed) → (fixedPlace f ≡ 0 → ⊥) → (u : List ℕ) → Bytes u → length u ≡ width f → isSome (number (width f) (limit f) .get u) ≡ true
 fixed-fine f h u hu e = number-judged (width f) (limit f) u e ∙ lt-ltb (num u) (limit f) (rw (limit-free f h) (subst (λ (k : ℕ). num u < 256 ^ k) e (num-lt hu)))
 
-fixed-blind : (f : Fixed) → Blind (inside (width f) (width f) (number (width f) (limit f)))
-unfolding kidOf
-fixed-blind f = kid-blind (width f) (some (width f)) (number (width f) (limit f))
-
 fixed-end : (f : Fixed) (n : ℕ) (b : List ℕ) (start : ℕ) → (fixedPlace f ≡ 0 → ⊥) → Bytes b → start ≡ front 8 (slotOf (codec (fix f) .wide)) n → start ≤ length b
-    → goodFrom 8 (slotOf (codec (fix f) .wide)) (elements (fix f) n) b 0 start ≡ eqb start (length b)
+    → goodFrom 8 (slotOf (codec (fix f) .wide)) (elements (fix f) n) b 0 [] ≡ eqb start (length b)
 unfolding slotOf kidOf codec number
 fixed-end f n b start h hb e room =
     let w = width f in
     let c = number w (limit f) in
-    numbers-from w n b start c (width-pos f) (repeat-blind n (inside w w c) (fixed-blind f)) hb e room (fixed-fine f h) n 0 (omega arith)
+    numbers-from w n b start c (width-pos f) hb e room (fixed-fine f h) n 0 (omega arith)
 
 -- ---- a list whose positions are worked out: n elements of w bytes from slots to stop, data from start
 
@@ -97,11 +92,11 @@ module _ (s : List ℕ) (at d : ℕ) (b : List ℕ) (hd : Holding s at d b) (hb 
           list-gap e = sym (list-filled t b n (rn .is) l8 fits stop start stop-is start-is (sym past ∙ yes-p) (sym ez ∙ e))
 
           module _ (yes-z : z ≡ true) where
-            good : sound (li t) b ≡ goodFrom 8 v (elements t n) b 0 start
+            good : sound (li t) b ≡ goodFrom 8 v (elements t n) b 0 []
             good = list-good t b n (rn .is) l8 fits stop start stop-is start-is (sym past ∙ yes-p) (sym ez ∙ yes-z)
 
-            as-type : (u : Ty) → t ≡ u → goodFrom 8 (slotOf (codec u .wide)) (elements u n) b 0 start ≡ sound (li t) b
-            as-type u e = sym (good ∙ ap (λ (x : Ty). goodFrom 8 (slotOf (codec x .wide)) (elements x n) b 0 start) e)
+            as-type : (u : Ty) → t ≡ u → goodFrom 8 (slotOf (codec u .wide)) (elements u n) b 0 [] ≡ sound (li t) b
+            as-type u e = sym (good ∙ ap (λ (x : Ty). goodFrom 8 (slotOf (codec x .wide)) (elements x n) b 0 []) e)
 
             -- bools
             is-bool : k ≡ 0 → t ≡ fix bo
@@ -115,7 +110,7 @@ module _ (s : List ℕ) (at d : ℕ) (b : List ℕ) (hd : Holding s at d b) (hb 
                 let q : start ≡ slots + pad (n * v) = omega (arith, start-is) in
                 record { small = hd .small; map = es; elements = rw one at q; room = room }
 
-            pub list-bools : k ≡ 0 → (r : Bool) → r ≡ goodFrom 8 1 (bools n) b 0 start → r ≡ sound (li t) b
+            pub list-bools : k ≡ 0 → (r : Bool) → r ≡ goodFrom 8 1 (bools n) b 0 [] → r ≡ sound (li t) b
             unfolding slotOf kidOf codec number width types fixedPlace limit
             list-bools e r er = er ∙ as-type (fix bo) (is-bool e)
 
@@ -136,7 +131,7 @@ module _ (s : List ℕ) (at d : ℕ) (b : List ℕ) (hd : Holding s at d b) (hb 
                 let q : start ≡ slots + pad (n * v) = omega (arith, start-is) in
                 record { small = hd .small; map = es; elements = rw eight at q; room = room }
 
-            pub list-texts : 7 ≤ k → k < 9 → (r : Bool) → r ≡ goodFrom 8 8 (texts n) b 0 start → r ≡ sound (li t) b
+            pub list-texts : 7 ≤ k → k < 9 → (r : Bool) → r ≡ goodFrom 8 8 (texts n) b 0 [] → r ≡ sound (li t) b
             unfolding slotOf kidOf codec string
             list-texts l h r er = er ∙ as-type (text (textAt k)) (is-text l h)
 
@@ -151,9 +146,7 @@ module _ (s : List ℕ) (at d : ℕ) (b : List ℕ) (hd : Holding s at d b) (hb 
                 let q : start ≡ 8 + bitmap n + pad (n * 8) = rw e at start-is in
                 record { typed = hd .typed; place = ek; holds = h; small = hd .small; room = omega arith }
 
-            pub list-items : 9 ≤ k → (r : Bool) → r ≡ goodFrom 8 8 (elements t n) b 0 (8 + bitmap n + 8 * n) → r ≡ sound (li t) b
+            pub list-items : 9 ≤ k → (r : Bool) → r ≡ goodFrom 8 8 (elements t n) b 0 [] → r ≡ sound (li t) b
             list-items h r er =
                 let e = eight-wide h in
-                let q : start ≡ 8 + bitmap n + pad (n * 8) = rw e at start-is in
-                let z : 8 + bitmap n + 8 * n ≡ start = omega arith in
-                er ∙ ap (goodFrom 8 8 (elements t n) b 0) z ∙ sym (good ∙ ap (λ (j : ℕ). goodFrom 8 j (elements t n) b 0 start) e)
+                er ∙ sym (good ∙ ap (λ (j : ℕ). goodFrom 8 j (elements t n) b 0 []) e)

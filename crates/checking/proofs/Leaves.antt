@@ -22,7 +22,7 @@ use Rattle.layout.specs.Setting.{isSome}
 use Rattle.layout.specs.Reader.{assert, _>>_}
 use Rattle.layout.proofs.Reader.{assert-yes}
 use Rattle.layout.proofs.Steps.{nobody, kidAt}
-use Rattle.layout.proofs.Cursor.{AllBlind, Blind, kid-blind, repeat-blind}
+use Rattle.layout.specs.Tiles.{total}
 use Rattle.checking.specs.Sound.{goodFrom, both}
 use Rattle.checking.specs.Room.{ListRoom, NoNulls, texts, bools}
 use Rattle.checking.proofs.Tests.{less-some, equal-some}
@@ -31,13 +31,9 @@ use Rattle.checking.proofs.Loops.{Slots}
 
 -- ---- strings
 
-text-blind : Blind (outside string)
-unfolding kidOf
-text-blind = kid-blind 8 none string
-
 pub texts-slots : (b : List ℕ) (n slots start : ℕ) → ListRoom b 8 n slots start → Bytes b → Slots 8 (texts n) b n slots start
 texts-slots b n slots start r hb =
-    record { count = length-replicate n (outside string); head = refl; map = r .map; data₀ = omega (arith, r .elements); room = r .room; small = r .small; blind = repeat-blind n (outside string) text-blind; bytes = hb }
+    record { count = length-replicate n (outside string); head = refl; map = r .map; data₀ = omega (arith, r .elements); room = r .room; small = r .small; bytes = hb }
 
 pub text-kid : (n i : ℕ) → i < n → kidAt (texts n) i ≡ outside string
 text-kid n i h = getD-replicate n i (outside string) nobody h
@@ -87,14 +83,10 @@ number-judged w m u k =
 
 -- ---- bools
 
-bool-blind : Blind (inside 1 1 (number 1 2))
-unfolding kidOf
-bool-blind = kid-blind 1 (some 1) (number 1 2)
-
 -- before element i: what is left leads to the same end
 pub record BoolsAt (b : List ℕ) (n start i : ℕ) : Type 0 where
   pub most : i ≤ n
-  pub same : goodFrom 8 1 (bools n) b i start ≡ goodFrom 8 1 (bools n) b 0 start
+  pub same : goodFrom 8 1 (bools n) b i [] ≡ goodFrom 8 1 (bools n) b 0 []
 
 module _ (b : List ℕ) (n slots start : ℕ) (r : ListRoom b 1 n slots start) (hb : Bytes b) where
   count : length (bools n) ≡ n
@@ -106,25 +98,23 @@ module _ (b : List ℕ) (n slots start : ℕ) (r : ListRoom b 1 n slots start) (
   front-is : front 8 1 (length (bools n)) ≡ start
   front-is = rw count (omega (arith, r .map, r .elements))
 
-  blind : AllBlind (bools n)
-  blind = repeat-blind n (inside 1 1 (number 1 2)) bool-blind
-
   pub bools-start : BoolsAt b n start 0
   bools-start = record { most = omega arith; same = refl }
 
   module _ (i : ℕ) (a : BoolsAt b n start i) where
-    pub bools-end : n ≤ i → eqb start (length b) ≡ goodFrom 8 1 (bools n) b 0 start
-    bools-end l = sym (good-end 8 1 (bools n) b fits blind hb i start (omega (arith, count, a .most)) (omega (arith, front-is))) ∙ a .same
+    pub bools-end : n ≤ i → eqb start (length b) ≡ goodFrom 8 1 (bools n) b 0 []
+    unfolding total
+    bools-end l = sym (good-end 8 1 (bools n) b fits hb i [] start (omega (arith, count, a .most)) (omega (arith, front-is))) ∙ a .same
 
     module _ (l : i < n) where
       l′ : i < length (bools n)
       l′ = omega (arith, count)
 
       pub bools-null : bit b 8 i ≡ true → BoolsAt b n start (i + 1)
-      bools-null e = record { most = omega arith; same = sym (good-null 8 1 (bools n) b fits blind hb i l′ start e) ∙ a .same }
+      bools-null e = record { most = omega arith; same = sym (good-null 8 1 (bools n) b fits hb i l′ [] e) ∙ a .same }
 
       -- the bool's byte, judged
-      one : (x : ℕ) → x ≡ getD b (slots + i) 0 → bit b 8 i ≡ false → goodFrom 8 1 (bools n) b i start ≡ both (ltb x 2) (goodFrom 8 1 (bools n) b (i + 1) start)
+      one : (x : ℕ) → x ≡ getD b (slots + i) 0 → bit b 8 i ≡ false → goodFrom 8 1 (bools n) b i [] ≡ both (ltb x 2) (goodFrom 8 1 (bools n) b (i + 1) [])
       unfolding num
       one x e f =
           let p = 8 + bitmap (length (bools n)) + i * 1 in
@@ -132,10 +122,10 @@ module _ (b : List ℕ) (n slots start : ℕ) (r : ListRoom b 1 n slots start) (
           let room : slots + i < length b = omega (arith, r .elements, r .room) in
           let v : num (part b p 1) ≡ x = rw q (num-one b (slots + i) room) ∙ sym e in
           let k : length (part b p 1) ≡ 1 = length-part b p 1 (omega arith) in
-          good-inside 8 1 (bools n) b fits blind hb i l′ start 1 (number 1 2) (getD-replicate n i (inside 1 1 (number 1 2)) nobody l) (omega arith) f
+          good-inside 8 1 (bools n) b fits hb i l′ [] 1 (number 1 2) (getD-replicate n i (inside 1 1 (number 1 2)) nobody l) (omega arith) f
           ∙ rw (number-judged 1 2 (part b p 1) k, v)
 
-      pub bools-wrong : (x : ℕ) → x ≡ getD b (slots + i) 0 → bit b 8 i ≡ false → 1 < x → false ≡ goodFrom 8 1 (bools n) b 0 start
+      pub bools-wrong : (x : ℕ) → x ≡ getD b (slots + i) 0 → bit b 8 i ≡ false → 1 < x → false ≡ goodFrom 8 1 (bools n) b 0 []
       bools-wrong x e f h = sym (one x e f ∙ rw (le-ltb x 2 (omega arith))) ∙ a .same
 
       pub bools-next : (x : ℕ) → x ≡ getD b (slots + i) 0 → bit b 8 i ≡ false → x ≤ 1 → BoolsAt b n start (i + 1)
@@ -143,7 +133,7 @@ module _ (b : List ℕ) (n slots start : ℕ) (r : ListRoom b 1 n slots start) (
 
 -- ---- numbers: nothing to look at
 
-module _ (w n : ℕ) (b : List ℕ) (start : ℕ) (c : Codec) (one : 1 ≤ w) (bl : AllBlind (replicate n (inside w w c))) (hb : Bytes b) (st : start ≡ front 8 w n) (room : start ≤ length b)
+module _ (w n : ℕ) (b : List ℕ) (start : ℕ) (c : Codec) (one : 1 ≤ w) (hb : Bytes b) (st : start ≡ front 8 w n) (room : start ≤ length b)
     (fine : (u : List ℕ) → Bytes u → length u ≡ w → isSome (c .get u) ≡ true) where
   abbrev numbers : List Kid
   numbers = replicate n (inside w w c)
@@ -154,7 +144,7 @@ module _ (w n : ℕ) (b : List ℕ) (start : ℕ) (c : Codec) (one : 1 ≤ w) (b
   enough : front 8 w (length numbers) ≤ length b
   enough = rw size (omega arith)
 
-  numbers-step : (i : ℕ) → i < n → goodFrom 8 w numbers b (i + 1) start ≡ eqb start (length b) → goodFrom 8 w numbers b i start ≡ eqb start (length b)
+  numbers-step : (i : ℕ) → i < n → goodFrom 8 w numbers b (i + 1) [] ≡ eqb start (length b) → goodFrom 8 w numbers b i [] ≡ eqb start (length b)
   unfolding num
   numbers-step i h rest = go (bit b 8 i) refl
     where
@@ -170,12 +160,13 @@ module _ (w n : ℕ) (b : List ℕ) (start : ℕ) (c : Codec) (one : 1 ≤ w) (b
       z : w - w ≡ 0
       z = omega arith
 
-      go : (v : Bool) → bit b 8 i ≡ v → goodFrom 8 w numbers b i start ≡ eqb start (length b)
-      go true f = good-null 8 w numbers b enough bl hb i l start f ∙ rest
+      go : (v : Bool) → bit b 8 i ≡ v → goodFrom 8 w numbers b i [] ≡ eqb start (length b)
+      go true f = good-null 8 w numbers b enough hb i l [] f ∙ rest
       go false f =
-          good-inside 8 w numbers b enough bl hb i l start w c (getD-replicate n i (inside w w c) nobody h) (omega arith) f
+          good-inside 8 w numbers b enough hb i l [] w c (getD-replicate n i (inside w w c) nobody h) (omega arith) f
           ∙ rw (fine (part b p w) (bytes-part p w hb) long, z) rest
 
-  pub numbers-from : (left i : ℕ) → i + left ≡ n → goodFrom 8 w numbers b i start ≡ eqb start (length b)
-  numbers-from zero i e = good-end 8 w numbers b enough bl hb i start (omega (arith, size)) (rw size (omega arith))
+  pub numbers-from : (left i : ℕ) → i + left ≡ n → goodFrom 8 w numbers b i [] ≡ eqb start (length b)
+  unfolding total
+  numbers-from zero i e = good-end 8 w numbers b enough hb i [] start (omega (arith, size)) (rw size (omega arith))
   numbers-from (suc left) i e = numbers-step i (omega arith) (numbers-from left (i + 1) (omega arith))

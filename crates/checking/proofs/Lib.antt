@@ -1,10 +1,14 @@
 pub mod Tests
+pub mod Marks
+pub mod Shows
 pub mod Children
 pub mod Containers
 pub mod Loops
+pub mod Anywhere
 pub mod Leaves
 pub mod Fields
 pub mod Elements
+pub mod Knowing
 pub mod Values
 pub mod Arrays
 pub mod Root

@@ -1,7 +1,7 @@
 -- A loop over children with slots of 8 bytes: its invariant, and one law for each way through its body. Assumes nothing.
 use mathlib.Core.Path.{_≡_, refl, sym, ap, _∙_, subst}
 use mathlib.Core.Bool.{Bool, true, false, not}
-use mathlib.Core.List.{List}
+use mathlib.Core.List.{List, [], _∷_}
 use Prim.Native.Nat.{ℕ, zero, suc, _+_, _*_, _-_, _/_, _%_, _^_, _≤_, _<_}
 use native.Mathlib.Omega.{arith}
 use lib.Dec.{eqb}
@@ -12,10 +12,11 @@ use Rattle.words.specs.Reads.{Reads}
 use Rattle.layout.specs.Layout.{Codec, Kid, outside, front}
 use Rattle.layout.specs.Setting.{isSome}
 use Rattle.layout.proofs.Steps.{kidAt}
-use Rattle.layout.proofs.Cursor.{AllBlind}
+use Rattle.layout.specs.Tiles.{Range, range, total, Stands}
+use Rattle.layout.proofs.Tiles.{Packed, stands-next}
 use Rattle.checking.specs.Sound.{goodFrom, both}
 use Rattle.checking.proofs.Tests.{both-false}
-use Rattle.checking.proofs.Children.{good-end, good-null, good-off, good-long, good-outside}
+use Rattle.checking.proofs.Children.{good-end, good-null, good-off, good-outside}
 
 -- the container's positions: its bitmap behind a header of h bytes, slots of 8 bytes, and variable data
 pub record Slots (h : ℕ) (ks : List Kid) (b : List ℕ) (n slots start : ℕ) : Type 0 where
@@ -25,7 +26,6 @@ pub record Slots (h : ℕ) (ks : List Kid) (b : List ℕ) (n slots start : ℕ) 
   pub data₀ : start ≡ slots + 8 * n
   pub room : start ≤ length b
   pub small : length b ≤ 16384
-  pub blind : AllBlind ks
   pub bytes : Bytes b
 
 -- before child i: what is left leads to the same end
@@ -35,7 +35,10 @@ pub record At (h : ℕ) (ks : List Kid) (b : List ℕ) (n slots start i slot cur
   pub low : start ≤ cur
   pub high : cur ≤ length b
   pub eight : cur % 8 ≡ 0
-  pub same : goodFrom h 8 ks b i cur ≡ goodFrom h 8 ks b 0 start
+  pub ranges : List Range
+  pub packed : Packed start ranges
+  pub sum : start + total ranges ≡ cur
+  pub same : goodFrom h 8 ks b i ranges ≡ goodFrom h 8 ks b 0 []
 
 module _ (h : ℕ) (ks : List Kid) (b : List ℕ) (n slots start : ℕ) (d : Slots h ks b n slots start) where
   fits : front h 8 (length ks) ≤ length b
@@ -45,11 +48,12 @@ module _ (h : ℕ) (ks : List Kid) (b : List ℕ) (n slots start : ℕ) (d : Slo
   front-is = rw (d .count) (omega (arith, d .map, d .data₀))
 
   pub at-start : At h ks b n slots start 0 slots start
-  at-start = record { most = omega arith; slot-is = omega arith; low = omega arith; high = d .room; eight = omega (arith, d .head, d .map, d .data₀); same = refl }
+  unfolding total
+  at-start = record { most = omega arith; slot-is = omega arith; low = omega arith; high = d .room; eight = omega (arith, d .head, d .map, d .data₀); ranges = []; packed = tt; sum = omega arith; same = refl }
 
   module _ (i slot cur : ℕ) (a : At h ks b n slots start i slot cur) where
-    pub at-end : n ≤ i → eqb cur (length b) ≡ goodFrom h 8 ks b 0 start
-    at-end l = sym (good-end h 8 ks b fits (d .blind) (d .bytes) i cur (omega (arith, d .count, a .most)) (omega (arith, front-is, a .low))) ∙ a .same
+    pub at-end : n ≤ i → eqb cur (length b) ≡ goodFrom h 8 ks b 0 []
+    at-end l = sym (good-end h 8 ks b fits (d .bytes) i (a .ranges) cur (omega (arith, d .count, a .most)) (omega (arith, front-is, a .sum))) ∙ a .same
 
     module _ (l : i < n) where
       l′ : i < length ks
@@ -66,53 +70,65 @@ module _ (h : ℕ) (ks : List Kid) (b : List ℕ) (n slots start : ℕ) (d : Slo
       pub bit-room : h + i / 8 < length b
       bit-room = omega (arith, d .map, d .data₀, d .room)
 
-      stays : (cur′ : ℕ) → start ≤ cur′ → cur′ ≤ length b → cur′ % 8 ≡ 0 → goodFrom h 8 ks b i cur ≡ goodFrom h 8 ks b (i + 1) cur′ → At h ks b n slots start (i + 1) (slot + 8) cur′
-      stays cur′ lo hi e s = record { most = omega arith; slot-is = omega (arith, a .slot-is); low = lo; high = hi; eight = e; same = sym s ∙ a .same }
+      stays : goodFrom h 8 ks b i (a .ranges) ≡ goodFrom h 8 ks b (i + 1) (a .ranges) → At h ks b n slots start (i + 1) (slot + 8) cur
+      stays s = record { most = omega arith; slot-is = omega (arith, a .slot-is); low = a .low; high = a .high; eight = a .eight; ranges = a .ranges; packed = a .packed; sum = a .sum; same = sym s ∙ a .same }
 
       -- a null child
       pub at-null : bit b h i ≡ true → At h ks b n slots start (i + 1) (slot + 8) cur
-      at-null e = stays cur (a .low) (a .high) (a .eight) (good-null h 8 ks b fits (d .blind) (d .bytes) i l′ cur e)
+      at-null e = stays (good-null h 8 ks b fits (d .bytes) i l′ (a .ranges) e)
 
       -- a child that the loop passed without moving the cursor, or found wrong
-      pub at-same : (v : Bool) → v ≡ true → goodFrom h 8 ks b i cur ≡ both v (goodFrom h 8 ks b (i + 1) cur) → At h ks b n slots start (i + 1) (slot + 8) cur
-      at-same v e s = stays cur (a .low) (a .high) (a .eight) (s ∙ ap (λ (t : Bool). both t (goodFrom h 8 ks b (i + 1) cur)) e)
+      pub at-same : (v : Bool) → v ≡ true → goodFrom h 8 ks b i (a .ranges) ≡ both v (goodFrom h 8 ks b (i + 1) (a .ranges)) → At h ks b n slots start (i + 1) (slot + 8) cur
+      at-same v e s = stays (s ∙ ap (λ (t : Bool). both t (goodFrom h 8 ks b (i + 1) (a .ranges))) e)
 
-      pub at-wrong : (v : Bool) → v ≡ false → goodFrom h 8 ks b i cur ≡ both v (goodFrom h 8 ks b (i + 1) cur) → false ≡ goodFrom h 8 ks b 0 start
-      at-wrong v e s = sym (s ∙ ap (λ (t : Bool). both t (goodFrom h 8 ks b (i + 1) cur)) e) ∙ a .same
+      pub at-wrong : (v : Bool) → v ≡ false → goodFrom h 8 ks b i (a .ranges) ≡ both v (goodFrom h 8 ks b (i + 1) (a .ranges)) → false ≡ goodFrom h 8 ks b 0 []
+      at-wrong v e s = sym (s ∙ ap (λ (t : Bool). both t (goodFrom h 8 ks b (i + 1) (a .ranges))) e) ∙ a .same
 
       -- a child that is not null, with its value elsewhere: x is its slot, o its offset, z its size
       module _ (c : Codec) (e : kidAt ks i ≡ outside c) (f : bit b h i ≡ false) (x : ℕ) (rx : Reads b slot 8 x) (o : ℕ) (eo : o ≡ x / 2 ^ 32) where
         ex : x ≡ num (part b (h + bitmap (length ks) + i * 8) 8)
         ex = rx .is ∙ ap (λ (p : ℕ). num (part b p 8)) (sym slot-at)
 
-        lo : front h 8 (length ks) ≤ cur
-        lo = omega (arith, front-is, a .low)
-
-        pub at-off : (o ≡ cur → ⊥) → false ≡ goodFrom h 8 ks b 0 start
-        at-off ne = sym (good-off h 8 ks b fits (d .blind) (d .bytes) i l′ cur c e refl f lo (a .eight) x ex (λ q. ne (eo ∙ q))) ∙ a .same
-
         module _ (oc : o ≡ cur) (z : ℕ) (ez : z ≡ x % 2 ^ 32) (stop next : ℕ) (es : stop ≡ cur + z) (en : next ≡ pad stop) where
           padded : next ≡ cur + pad z
           padded = omega (arith, a .eight)
 
-          pub at-long : length b < next → false ≡ goodFrom h 8 ks b 0 start
-          at-long k = sym (good-long h 8 ks b fits (d .blind) (d .bytes) i l′ cur c e refl f lo (a .eight) x ex (sym eo ∙ oc) (subst (λ (y : ℕ). length b < cur + pad y) ez (omega (arith, padded)))) ∙ a .same
+          cur-is : front h 8 (length ks) + total (a .ranges) ≡ cur
+          cur-is = omega (arith, front-is, a .sum)
+
+          pub at-long : length b < next → false ≡ goodFrom h 8 ks b 0 []
+          at-long k = sym (good-off h 8 ks b fits (d .bytes) i l′ (a .ranges) c e refl f x ex (λ s. let g : x / 2 ^ 32 + pad (x % 2 ^ 32) ≤ length b = s .high in omega (arith, padded, eo, oc, ez))) ∙ a .same
 
           module _ (k : next ≤ length b) where
-            child : goodFrom h 8 ks b i cur ≡ both (isSome (c .get (part b cur (stop - cur)))) (both (eqb (num (part b stop (next - stop))) 0) (goodFrom h 8 ks b (i + 1) next))
+            stands : Stands (front h 8 (length ks)) (length b) (a .ranges) (range cur (pad z))
+            stands = subst (λ (q : ℕ). Stands (front h 8 (length ks)) (length b) (a .ranges) (range q (pad z))) cur-is
+                (stands-next (front h 8 (length ks)) (length b) (a .ranges) (pad z) (subst (λ (q : ℕ). Packed q (a .ranges)) (sym front-is) (a .packed)) (omega (arith, cur-is, a .eight)) (omega (arith, cur-is, padded)))
+
+            child : goodFrom h 8 ks b i (a .ranges) ≡ both (isSome (c .get (part b cur (stop - cur)))) (both (eqb (num (part b stop (next - stop))) 0) (goodFrom h 8 ks b (i + 1) (range cur (pad z) ∷ a .ranges)))
             child =
                 let q : stop - cur ≡ z = omega arith in
-                rw (q, es) (good-outside h 8 ks b fits (d .blind) (d .bytes) i l′ cur c e refl f lo (a .eight) x ex z next (sym eo ∙ oc) ez padded k)
+                rw (q, es) (good-outside h 8 ks b fits (d .bytes) i l′ (a .ranges) c e refl f x ex cur z next (sym eo ∙ oc) ez padded stands)
 
             -- its contents, then its padding
-            pub at-bad : isSome (c .get (part b cur (stop - cur))) ≡ false → false ≡ goodFrom h 8 ks b 0 start
+            pub at-bad : isSome (c .get (part b cur (stop - cur))) ≡ false → false ≡ goodFrom h 8 ks b 0 []
             at-bad q = sym (child ∙ rw q) ∙ a .same
 
-            pub at-unpadded : (v : Bool) → v ≡ eqb (num (part b stop (next - stop))) 0 → v ≡ false → false ≡ goodFrom h 8 ks b 0 start
+            pub at-unpadded : (v : Bool) → v ≡ eqb (num (part b stop (next - stop))) 0 → v ≡ false → false ≡ goodFrom h 8 ks b 0 []
             at-unpadded v ev q = sym (child ∙ rw (sym ev ∙ q) (both-false (isSome (c .get (part b cur (stop - cur)))))) ∙ a .same
 
             pub at-next : isSome (c .get (part b cur (stop - cur))) ≡ true → (v : Bool) → v ≡ eqb (num (part b stop (next - stop))) 0 → v ≡ true → At h ks b n slots start (i + 1) (slot + 8) next
-            at-next q v ev t = stays next (omega (arith, padded, a .low)) k (omega arith) (child ∙ rw (q, sym ev ∙ t))
+            unfolding total
+            at-next q v ev t = record {
+              most = omega arith;
+              slot-is = omega (arith, a .slot-is);
+              low = omega (arith, padded, a .low);
+              high = k;
+              eight = omega arith;
+              ranges = range cur (pad z) ∷ a .ranges;
+              packed = (sym (a .sum), a .packed);
+              sum = omega (arith, a .sum, padded);
+              same = sym (child ∙ rw (q, sym ev ∙ t)) ∙ a .same;
+            }
 
             pub next-most : cur ≤ stop
             next-most = omega arith

@@ -15,7 +15,6 @@ use Rattle.layout.specs.Tiles.{Range, total}
 use Rattle.layout.specs.Cells.{Cell}
 use Rattle.layout.specs.Setting.{isSome}
 use Rattle.layout.proofs.Reader.{assert-yes}
-use Rattle.layout.proofs.Cursor.{Alike, neither, both as bothAlike}
 use Rattle.checking.specs.Sound.{endsAt, both}
 
 pub both-false : (t : Bool) → both t false ≡ false
@@ -53,10 +52,6 @@ cut-none n b h = assert-no (decLe n (length b)) (some (take n b, drop n b)) (λ 
 pub ends-more : (n : ℕ) (c : Cell) (m : Option (List Cell × List Range)) → endsAt n (m >>= λ q. some (c ∷ q .0, q .1)) ≡ endsAt n m
 ends-more n c none = refl
 ends-more n c (some q) = refl
-
-pub ends-alike : (n : ℕ) {a b : Option (List Cell × List Range)} → Alike a b → endsAt n a ≡ endsAt n b
-ends-alike n neither = refl
-ends-alike n (bothAlike e) = rw e
 
 -- the zeros behind the slots, and the end
 pub ends-some : (n : ℕ) (z : List ℕ) (o : Option (List Cell × List Range))

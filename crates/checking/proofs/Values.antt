@@ -3,7 +3,7 @@
 use mathlib.Core.Path.{_≡_, refl, sym, ap, _∙_, subst}
 use mathlib.Core.Bool.{Bool, true, false}
 use mathlib.Core.Option.{Option, none, some}
-use mathlib.Core.List.{List}
+use mathlib.Core.List.{List, []}
 use Prim.Native.Nat.{ℕ, zero, suc, _+_, _*_, _-_, _/_, _%_, _^_, _≤_, _<_}
 use native.Mathlib.Decide.{decLt}
 use native.Mathlib.Numerals.{add-one}
@@ -24,17 +24,18 @@ use Rattle.schema.proofs.Typing.{typed-deep, typed-room, typed-count, field-typ
 use Rattle.schema.proofs.Places.{typed-marked, typed-place, place-li, place-ma, place-ro, fixed-of, text-of, holding-of, Holding as HoldingType, list, map, struct}
 use Rattle.layout.specs.Layout.{Codec, Kid, number, string, inside, outside, kidOf, kid, slotOf, array, pair, codec, kids, limit, decode}
 use Rattle.layout.specs.Layout as Layout
+use Rattle.layout.specs.Tiles.{Range}
 use Rattle.layout.specs.Setting.{isSome}
 use Rattle.layout.proofs.Containers.{kids-count}
 use Rattle.layout.proofs.Steps.{nobody, kidAt}
-use Rattle.layout.proofs.Cursor.{kid-blind, repeat-blind, kids-blind}
 use Rattle.layout.proofs.Walked.{kids-at}
 use Rattle.checking.specs.Sound.{sound, goodFrom, both}
-use Rattle.checking.specs.Room.{Holding, Container, Items, Pair, Fields, FieldRoom, fieldGood, either, elements}
+use Rattle.checking.specs.Room.{Holding, Container, Items, Pair, Fields, FieldRoom, fieldGood, either, elements, Known}
 use Rattle.checking.proofs.Tests.{both-false}
 use Rattle.checking.proofs.Children.{good-null, good-inside}
 use Rattle.checking.proofs.Containers.{struct-short, struct-past, struct-good, list-short, map-short, map-unfit, map-is}
-use Rattle.checking.proofs.Loops.{Slots, At, at-off, at-long}
+use Rattle.checking.proofs.Loops.{Slots, At, at-long}
+use Rattle.checking.proofs.Anywhere.{AnyAt}
 
 -- ---- a container by its place
 
@@ -87,7 +88,7 @@ module _ (s : List ℕ) (at d k : ℕ) (b : List ℕ) (n : ℕ) (i : Items s at 
   abbrev t : Ty
   t = typeAt s at d
 
-  item-none : codec t .wide ≡ none
+  pub item-none : codec t .wide ≡ none
   item-none = container-wide t k (holding-of t k (i .place ∙ typed-place s at d (i .typed)) (i .holds))
 
   item-kid : kid (slotOf (codec t .wide)) (codec t) ≡ outside (codec t)
@@ -101,43 +102,16 @@ module _ (s : List ℕ) (at d k : ℕ) (b : List ℕ) (n : ℕ) (i : Items s at 
     data₀ = et;
     room = omega (arith, i .room);
     small = i .small;
-    blind = repeat-blind n (kid (slotOf (codec t .wide)) (codec t)) (kid-blind (slotOf (codec t .wide)) (codec t .wide) (codec t));
     bytes = hb;
   }
 
   pub item-at : (j : ℕ) → j < n → kidAt (elements t n) j ≡ outside (codec t)
   item-at j h = getD-replicate n j (kid (slotOf (codec t .wide)) (codec t)) nobody h ∙ item-kid
 
--- the same for structs, by their fields' types
-struct-wide : (ts : Tys) → codec (ro ts) .wide ≡ none
-unfolding codec Layout.struct
-struct-wide ts = refl
-
-module _ (ts : Tys) (b : List ℕ) (n : ℕ) (hb : Bytes b) (small : length b ≤ 16384) (room : 8 + bitmap n + 8 * n ≤ length b) where
-  abbrev own : Kid
-  own = kid (slotOf (codec (ro ts) .wide)) (codec (ro ts))
-
-  pub structs-slots : (slots start : ℕ) → slots ≡ 8 + bitmap n → start ≡ slots + 8 * n → Slots 8 (elements (ro ts) n) b n slots start
-  structs-slots slots start es et = record {
-    count = length-replicate n own;
-    head = refl;
-    map = es;
-    data₀ = et;
-    room = omega arith;
-    small = small;
-    blind = repeat-blind n own (kid-blind (slotOf (codec (ro ts) .wide)) (codec (ro ts) .wide) (codec (ro ts)));
-    bytes = hb;
-  }
-
-  pub struct-at : (j : ℕ) → j < n → kidAt (elements (ro ts) n) j ≡ outside (codec (ro ts))
-  struct-at j h = getD-replicate n j own nobody h ∙ kid-outside (slotOf (codec (ro ts) .wide)) (codec (ro ts) .wide) (codec (ro ts)) (struct-wide ts)
-
--- the start of the data, as code works it out and as a contract says it
-pub to-start : (ks : List Kid) (b : List ℕ) (r : Bool) (x y : ℕ) → x ≡ y → r ≡ goodFrom 8 8 ks b 0 x → r ≡ goodFrom 8 8 ks b 0 y
-to-start ks b r x y e h = h ∙ ap (goodFrom 8 8 ks b 0) e
-
-pub as-elements : (t u : Ty) (n : ℕ) (b : List ℕ) (r : Bool) → t ≡ u → r ≡ goodFrom 8 8 (elements u n) b 0 (8 + bitmap n + 8 * n) → r ≡ goodFrom 8 8 (elements t n) b 0 (8 + bitmap n + 8 * n)
-as-elements t u n b r e h = h ∙ ap (λ (x : Ty). goodFrom 8 8 (elements x n) b 0 (8 + bitmap n + 8 * n)) (sym e)
+-- before item i: the loop's state, and what is known of the items before it
+pub record ItemAt (t : Ty) (b : List ℕ) (n slots start i slot cur : ℕ) : Type 0 where
+  pub state : At 8 (elements t n) b n slots start i slot cur
+  pub known : Known 8 (λ _. t) b n i
 
 -- a part handed to a call: what it answers of the part
 pub part-sound : (t : Ty) (p : List ℕ) (r : Bool) → r ≡ sound t p → isSome (codec t .get p) ≡ r
@@ -159,6 +133,12 @@ field-next s d (suc i) at = field-next s d i (nextAt s at d)
 pub record FieldAt (s : List ℕ) (first d n : ℕ) (b : List ℕ) (slots start at i slot cur : ℕ) : Type 0 where
   pub type : at ≡ fieldAt s first d i
   pub state : At 0 (kids (typesAt s first d n)) b n slots start i slot cur
+  pub known : Known 0 (field (typesAt s first d n)) b n i
+
+-- the same where values stand in any order
+pub record AnyField (s : List ℕ) (first d n : ℕ) (b : List ℕ) (slots start at i slot sum : ℕ) (m : List ℕ) : Type 0 where
+  pub type : at ≡ fieldAt s first d i
+  pub state : AnyAt 0 (kids (typesAt s first d n)) b n slots start i slot sum m
 
 module _ (s : List ℕ) (first n d : ℕ) (b : List ℕ) (f : Fields s first n d b) (hb : Bytes b) where
   abbrev ts : Tys
@@ -178,14 +158,13 @@ module _ (s : List ℕ) (first n d : ℕ) (b : List ℕ) (f : Fields s first n d
       pub fields-bits : p ≡ false → false ≡ sound (ro ts) b
       fields-bits e = sym (struct-past ts n b kids-n (omega arith) (sym past ∙ e))
 
-      pub fields-good : p ≡ true → (r : Bool) → r ≡ goodFrom 0 8 (kids ts) b 0 start → r ≡ sound (ro ts) b
+      pub fields-good : p ≡ true → (r : Bool) → r ≡ goodFrom 0 8 (kids ts) b 0 [] → r ≡ sound (ro ts) b
       fields-good e r er =
-          let q : start ≡ bitmap n + 8 * n = omega arith in
-          er ∙ ap (goodFrom 0 8 (kids ts) b 0) q ∙ sym (struct-good ts n b kids-n (omega arith) (sym past ∙ e))
+          er ∙ sym (struct-good ts n b kids-n (omega arith) (sym past ∙ e))
 
     module _ (room : start ≤ length b) where
       pub fields-slots : Slots 0 (kids ts) b n slots start
-      fields-slots = record { count = kids-n; head = refl; map = omega arith; data₀ = et; room = room; small = f .small; blind = kids-blind ts; bytes = hb }
+      fields-slots = record { count = kids-n; head = refl; map = omega arith; data₀ = et; room = room; small = f .small; bytes = hb }
 
   module _ (at i : ℕ) (ea : at ≡ fieldAt s first d i) (l : i < n) where
     law : Typed s at d × (typeAt s at d ≡ field ts i)
@@ -193,6 +172,9 @@ module _ (s : List ℕ) (first n d : ℕ) (b : List ℕ) (f : Fields s first n d
 
     pub field-here : Typed s at d
     field-here = law .0
+
+    pub field-type : typeAt s at d ≡ field ts i
+    field-type = law .1
 
     pub field-marked : Marked s at
     field-marked = typed-marked s at d field-here
@@ -219,10 +201,10 @@ module _ (s : List ℕ) (first n d : ℕ) (b : List ℕ) (f : Fields s first n d
       field-fixed h = kid-is ∙ ap (λ (t : Ty). kid 8 (codec t)) (fixed-of (typeAt s at d) k kp h)
 
       -- a fixed-width field, judged in its slot
-      pub field-judged : (slots start slot cur : ℕ) → Slots 0 (kids ts) b n slots start → At 0 (kids ts) b n slots start i slot cur → k < 7
-          → goodFrom 0 8 (kids ts) b i cur ≡ both (fieldGood (fixedAt k) b i slot) (goodFrom 0 8 (kids ts) b (i + 1) cur)
+      pub field-judged : (slots start slot : ℕ) → Slots 0 (kids ts) b n slots start → slot ≡ slots + 8 * i → (rs : List Range) → k < 7
+          → goodFrom 0 8 (kids ts) b i rs ≡ both (fieldGood (fixedAt k) b i slot) (goodFrom 0 8 (kids ts) b (i + 1) rs)
       unfolding fieldGood
-      field-judged slots start slot cur z a h = go (bit b 0 i) refl
+      field-judged slots start slot z sl rs h = go (bit b 0 i) refl
         where
           w : ℕ
           w = width (fixedAt k)
@@ -231,26 +213,47 @@ module _ (s : List ℕ) (first n d : ℕ) (b : List ℕ) (f : Fields s first n d
           fits = rw kids-n (omega (arith, z .map, z .data₀, z .room))
 
           p : 0 + bitmap (length (kids ts)) + i * 8 ≡ slot
-          p = rw kids-n (omega (arith, z .map, a .slot-is))
+          p = rw kids-n (omega (arith, z .map, sl))
 
           assoc : (x y r : Bool) → both x (both y r) ≡ both (both x y) r
           assoc true y r = refl
           assoc false y r = refl
 
           go : (v : Bool) → bit b 0 i ≡ v
-              → goodFrom 0 8 (kids ts) b i cur ≡ both (either v (both (isSome (number w (limit (fixedAt k)) .get (part b slot w))) (eqb (num (part b (slot + w) (8 - w))) 0))) (goodFrom 0 8 (kids ts) b (i + 1) cur)
-          go true e = good-null 0 8 (kids ts) b fits (z .blind) hb i (omega (arith, kids-n)) cur e
+              → goodFrom 0 8 (kids ts) b i rs ≡ both (either v (both (isSome (number w (limit (fixedAt k)) .get (part b slot w))) (eqb (num (part b (slot + w) (8 - w))) 0))) (goodFrom 0 8 (kids ts) b (i + 1) rs)
+          go true e = good-null 0 8 (kids ts) b fits hb i (omega (arith, kids-n)) rs e
           go false e =
-              good-inside 0 8 (kids ts) b fits (z .blind) hb i (omega (arith, kids-n)) cur w (number w (limit (fixedAt k))) (field-fixed h) (width-8 (fixedAt k)) e
-              ∙ ap (λ (q : ℕ). both (isSome (number w (limit (fixedAt k)) .get (part b q w))) (both (eqb (num (part b (q + w) (8 - w))) 0) (goodFrom 0 8 (kids ts) b (i + 1) cur))) p
-              ∙ assoc (isSome (number w (limit (fixedAt k)) .get (part b slot w))) (eqb (num (part b (slot + w) (8 - w))) 0) (goodFrom 0 8 (kids ts) b (i + 1) cur)
+              good-inside 0 8 (kids ts) b fits hb i (omega (arith, kids-n)) rs w (number w (limit (fixedAt k))) (field-fixed h) (width-8 (fixedAt k)) e
+              ∙ ap (λ (q : ℕ). both (isSome (number w (limit (fixedAt k)) .get (part b q w))) (both (eqb (num (part b (q + w) (8 - w))) 0) (goodFrom 0 8 (kids ts) b (i + 1) rs))) p
+              ∙ assoc (isSome (number w (limit (fixedAt k)) .get (part b slot w))) (eqb (num (part b (slot + w) (8 - w))) 0) (goodFrom 0 8 (kids ts) b (i + 1) rs)
+
+      -- a fixed width, and one that varies
+      pub field-wide : k < 7 → codec (field ts i) .wide ≡ some (width (fixedAt k))
+      unfolding codec number
+      field-wide h = ap (λ (t : Ty). codec t .wide) (sym (law .1) ∙ fixed-of (typeAt s at d) k kp h)
+
+      pub field-none : 9 ≤ k → codec (field ts i) .wide ≡ none
+      field-none h = ap (λ (t : Ty). codec t .wide) (sym (law .1)) ∙ container-wide (typeAt s at d) k (holding-of (typeAt s at d) k kp h)
+
+      -- a string is sound whatever it is
+      pub field-fine : 7 ≤ k → k < 9 → (u : List ℕ) → sound (field ts i) u ≡ true
+      unfolding sound codec string
+      field-fine lo hi u = ap (λ (t : Ty). sound t u) (sym (law .1) ∙ text-of (typeAt s at d) k kp lo hi)
+
+      -- a container is judged by its type
+      pub field-sound : (u : List ℕ) (r : Bool) → r ≡ sound (typeAt s at d) u → r ≡ true → sound (field ts i) u ≡ true
+      field-sound u r e g = ap (λ (t : Ty). sound t u) (sym (law .1)) ∙ sym e ∙ g
+
+      pub field-known : (u : List ℕ) → sound (field ts i) u ≡ true → isSome (codec (typeAt s at d) .get u) ≡ true
+      unfolding sound
+      field-known u g = ap (λ (t : Ty). isSome (codec t .get u)) (law .1) ∙ g
 
       -- a value elsewhere, whichever it is
-      record Outside : Type 1 where
-        own : Codec
-        kid₀ : kidAt (kids ts) i ≡ outside own
+      pub record Outside : Type 1 where
+        pub own : Codec
+        pub kid₀ : kidAt (kids ts) i ≡ outside own
 
-      field-outside : 7 ≤ k → Outside
+      pub field-outside : 7 ≤ k → Outside
       field-outside lo = go (decLt k 9)
         where
           go : Dec (k < 9) → Outside
@@ -259,8 +262,5 @@ module _ (s : List ℕ) (first n d : ℕ) (b : List ℕ) (f : Fields s first n d
 
       module _ (slots start slot cur : ℕ) (z : Slots 0 (kids ts) b n slots start) (a : At 0 (kids ts) b n slots start i slot cur) (lo : 7 ≤ k) (e : bit b 0 i ≡ false)
           (x : ℕ) (rx : Reads b slot 8 x) (o : ℕ) (eo : o ≡ x / 2 ^ 32) where
-        pub off-either : (o ≡ cur → ⊥) → false ≡ goodFrom 0 8 (kids ts) b 0 start
-        off-either h = let q = field-outside lo in at-off 0 (kids ts) b n slots start z i slot cur a l (q .own) (q .kid₀) e x rx o eo h
-
-        pub long-either : o ≡ cur → (y : ℕ) → y ≡ x % 2 ^ 32 → (stop next : ℕ) → stop ≡ cur + y → next ≡ pad stop → length b < next → false ≡ goodFrom 0 8 (kids ts) b 0 start
+        pub long-either : o ≡ cur → (y : ℕ) → y ≡ x % 2 ^ 32 → (stop next : ℕ) → stop ≡ cur + y → next ≡ pad stop → length b < next → false ≡ goodFrom 0 8 (kids ts) b 0 []
         long-either h y ey stop next es en g = let q = field-outside lo in at-long 0 (kids ts) b n slots start z i slot cur a l (q .own) (q .kid₀) e x rx o eo h y ey stop next es en g

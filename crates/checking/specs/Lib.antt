@@ -1,3 +1,4 @@
 -- What the contracts of `checking` cite.
 pub mod Sound
+pub mod Maps
 pub mod Room

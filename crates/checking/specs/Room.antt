@@ -2,17 +2,18 @@
 use mathlib.Core.Path.{_≡_}
 use mathlib.Core.Bool.{Bool, true, false}
 use mathlib.Core.List.{List}
-use Prim.Native.Nat.{ℕ, _+_, _*_, _-_, _/_, _≤_, _<_}
+use mathlib.Core.Option.{none}
+use Prim.Native.Nat.{ℕ, _+_, _*_, _-_, _/_, _%_, _^_, _≤_, _<_}
 use lib.Dec.{eqb}
 use lib.ListN.{length, replicate}
 use Rattle.words.specs.Bytes.{num, pad, bitmap, part}
 use Rattle.words.specs.Bits.{bit}
-use Rattle.schema.specs.Types.{Fixed, width, Ty}
+use Rattle.schema.specs.Types.{Fixed, width, Ty, ro, field}
 use Rattle.schema.specs.Kinds.{placeAt}
-use Rattle.schema.specs.Walk.{Typed, TypedAll}
+use Rattle.schema.specs.Walk.{Typed, TypedAll, typeAt, typesAt}
 use Rattle.layout.specs.Layout.{Kid, outside, inside, string, number, limit, kid, slotOf, codec}
 use Rattle.layout.specs.Setting.{isSome}
-use Rattle.checking.specs.Sound.{both}
+use Rattle.checking.specs.Sound.{both, sound}
 
 -- A list's n elements of w bytes start at slots, behind its bitmap, and its variable data at start; all of it lies in b.
 pub record ListRoom (b : List ℕ) (w n slots start : ℕ) : Type 0 where
@@ -71,12 +72,12 @@ pub record Items (s : List ℕ) (at d k : ℕ) (b : List ℕ) (n : ℕ) : Type 0
   pub small : length b ≤ 16384
   pub room : 8 + bitmap n + 8 * n ≤ length b
 
--- the types of the fields of a list's n structs, whose slots and data lie in b
-pub record StructItems (s : List ℕ) (first fields d : ℕ) (b : List ℕ) (n : ℕ) : Type 0 where
-  pub typed : TypedAll s first d fields
+-- the type of a list's n structs, and of their fields, whose slots and data lie in b
+pub record StructItems (s : List ℕ) (at fields d : ℕ) (b : List ℕ) (n : ℕ) : Type 0 where
+  pub items : Items s at d 11 b n
+  pub typed : TypedAll s (at + 3) (d - 1) fields
+  pub whole : typeAt s at d ≡ ro (typesAt s (at + 3) (d - 1) fields)
   pub high : fields ≤ 128
-  pub small : length b ≤ 16384
-  pub room : 8 + bitmap n + 8 * n ≤ length b
 
 -- the types of a map's keys and values
 pub record Pair (s : List ℕ) (k v d : ℕ) (b : List ℕ) : Type 0 where
@@ -93,3 +94,16 @@ pub record Fields (s : List ℕ) (first n d : ℕ) (b : List ℕ) : Type 0 where
 -- the elements of a list of n of the type, in their slots
 abbrev pub elements : Ty → ℕ → List Kid
 elements t n = replicate n (kid (slotOf (codec t .wide)) (codec t))
+
+-- the bytes that the slot at a position says
+abbrev pub pointed : List ℕ → ℕ → List ℕ
+pointed b slot = part b (num (part b slot 8) / 2 ^ 32) (num (part b slot 8) % 2 ^ 32)
+
+-- The n children of b, behind a header of h bytes, have the types F: those before number i that vary are sound where their slots say.
+pub record Known (h : ℕ) (F : ℕ → Ty) (b : List ℕ) (n i : ℕ) : Type 0 where
+  pub sound : (j : ℕ) → j < i → bit b h j ≡ false → codec (F j) .wide ≡ none → sound (F j) (pointed b (h + bitmap n + 8 * j)) ≡ true
+
+-- the same of a struct's n fields, whose fixed part lies in b
+pub record FieldsKnown (s : List ℕ) (first n d : ℕ) (b : List ℕ) (i : ℕ) : Type 0 where
+  pub room : bitmap n + 8 * n ≤ length b
+  pub known : Known 0 (field (typesAt s first d n)) b n i

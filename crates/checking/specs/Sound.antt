@@ -8,7 +8,7 @@ use lib.Dec.{eqb}
 use lib.ListN.{length, drop}
 use Rattle.words.specs.Bytes.{num, bitmap, part}
 use Rattle.schema.specs.Types.{Ty}
-use Rattle.layout.specs.Tiles.{Range, range, total}
+use Rattle.layout.specs.Tiles.{Range, total}
 use Rattle.layout.specs.Cells.{Cell}
 use Rattle.layout.specs.Layout.{Kid, reads, front, decode}
 use Rattle.layout.specs.Setting.{isSome}
@@ -22,12 +22,12 @@ abbrev pub endsAt : ℕ → Option (List Cell × List Range) → Bool
 endsAt n none = false
 endsAt n (some p) = eqb (total (p .1)) n
 
--- The children ks of the container b, from number i on, are read, the next value expected at cur, and end with the container.
-unfoldable pub goodFrom : ℕ → ℕ → List Kid → List ℕ → ℕ → ℕ → Bool
-goodFrom h w ks b i cur =
+-- The children ks of the container b, from number i on, are read beside the ranges rs of the earlier ones, and take all its data.
+unfoldable pub goodFrom : ℕ → ℕ → List Kid → List ℕ → ℕ → List Range → Bool
+goodFrom h w ks b i rs =
     endsAt (length b - front h w (length ks))
     (reads w (front h w (length ks)) (drop (front h w (length ks)) b) (drop i ks) (num (part b h (bitmap (length ks))) / 2 ^ i)
-    (drop (i * w) (part b (h + bitmap (length ks)) (length ks * w))) (range (front h w (length ks)) (cur - front h w (length ks)) ∷ []))
+    (drop (i * w) (part b (h + bitmap (length ks)) (length ks * w))) rs)
 
 abbrev pub both : Bool → Bool → Bool
 both true x = x

@@ -1,6 +1,7 @@
 // Checking a row against the layout: a cycle over value, struct, list and map, with remaining depth falling along the calls, and
 // loops over the children.
 ghost use mathlib.Core.Path.{_≡_};
+ghost use mathlib.Core.List.{[]};
 ghost use Prim.Native.Nat.{_+_, _*_, _-_, _≤_, _<_};
 ghost use lib.ListN.{length};
 ghost use Rattle.words.specs.Bytes.{bitmap};
@@ -8,12 +9,14 @@ ghost use Rattle.schema.specs.Types.{ro, li, ma, fixedAt};
 ghost use Rattle.schema.specs.Kinds.{placeAt};
 ghost use Rattle.schema.specs.Walk.{Typed, typeAt, typesAt, nextAt};
 ghost use Rattle.checking.specs.Sound.{sound, goodFrom};
-ghost use Rattle.checking.specs.Room.{FieldRoom, fieldGood, Holding, Container, Items, StructItems, Pair, Fields, elements};
+ghost use Rattle.checking.specs.Room.{FieldRoom, fieldGood, Holding, Container, Items, StructItems, Pair, Fields, elements, Known, FieldsKnown};
+ghost use Rattle.layout.specs.Layout.{kids};
 ghost use Rattle.schema.specs.Reading.{judged};
 ghost use Rattle.schema.specs.Walk.{fieldsOf};
 ghost use Rattle.schema.specs.declared.Judged.the-variants.{Accepted};
 
 pub mod lists;
+pub mod maps;
 
 // A field of a fixed width in its slot of 8 bytes. An int64 and a float64 fill it, whatever they are: there is no look at them.
 fn check_field(b: &[u8], i: usize, slot: usize, k: usize) -> bool
@@ -87,16 +90,18 @@ fn check_list(s: &[u8], at: usize, depth: usize, b: &[u8]) -> bool
         return lists::check_texts(b, n, slots, start);
     }
     if k == 11 {
-        return check_structs(s, at + 3, schema::wide(s[at + 2]), depth - 1, b, n);
+        return check_structs(s, at, schema::wide(s[at + 2]), depth, b, n);
     }
     check_items(s, at, depth, k, b, n)
 }
 
-// Elements that are structs, whose fields' types stand from a position on: they have a loop of their own, with one call an element.
-fn check_structs(s: &[u8], first: usize, fields: usize, depth: usize, b: &[u8], n: usize) -> bool
-    requires { ⌜ StructItems (now s) first fields depth (now b) n ⌝ }
-    ensures { λ r. ⌜ r ≡ goodFrom 8 8 (elements (ro (typesAt (now (s .entry)) first depth fields)) n) (now (b .entry)) 0 (8 + bitmap n + 8 * n) ⌝ }
+// Elements that are structs of the type at a position: they have a loop of their own, with one call an element.
+fn check_structs(s: &[u8], at: usize, fields: usize, depth: usize, b: &[u8], n: usize) -> bool
+    requires { ⌜ StructItems (now s) at fields depth (now b) n ⌝ }
+    ensures { λ r. ⌜ r ≡ goodFrom 8 8 (elements (typeAt (now (s .entry)) at depth) n) (now (b .entry)) 0 [] ⌝ }
 {
+    let first = at + 3;
+    let d = depth - 1;
     let slots = 8 + words::sizes::bitmap_size(n);
     let start = slots + 8 * n;
     let mut i: usize = 0;
@@ -110,14 +115,14 @@ fn check_structs(s: &[u8], first: usize, fields: usize, depth: usize, b: &[u8], 
         }
         let x = words::nums::get8(b, slot);
         if words::slots::slot_offset(x) as usize != cur {
-            return false;
+            return any_items(s, at, depth, 11, b, n, i);
         }
         let end = cur + words::slots::slot_size(x) as usize;
         let next = words::sizes::pad_size(end);
         if b.len() < next {
             return false;
         }
-        if !check_struct(s, first, fields, depth, &b[cur..end]) {
+        if !check_struct(s, first, fields, d, &b[cur..end]) {
             return false;
         }
         if !words::sizes::pad_clear(b, end, next) {
@@ -133,7 +138,7 @@ fn check_structs(s: &[u8], first: usize, fields: usize, depth: usize, b: &[u8], 
 // Elements that are lists or maps.
 fn check_items(s: &[u8], at: usize, depth: usize, k: usize, b: &[u8], n: usize) -> bool
     requires { ⌜ Items (now s) at depth k (now b) n ⌝ }
-    ensures { λ r. ⌜ r ≡ goodFrom 8 8 (elements (typeAt (now (s .entry)) at depth) n) (now (b .entry)) 0 (8 + bitmap n + 8 * n) ⌝ }
+    ensures { λ r. ⌜ r ≡ goodFrom 8 8 (elements (typeAt (now (s .entry)) at depth) n) (now (b .entry)) 0 [] ⌝ }
 {
     let slots = 8 + words::sizes::bitmap_size(n);
     let start = slots + 8 * n;
@@ -148,7 +153,7 @@ fn check_items(s: &[u8], at: usize, depth: usize, k: usize, b: &[u8], n: usize) 
         }
         let x = words::nums::get8(b, slot);
         if words::slots::slot_offset(x) as usize != cur {
-            return false;
+            return any_items(s, at, depth, k, b, n, i);
         }
         let end = cur + words::slots::slot_size(x) as usize;
         let next = words::sizes::pad_size(end);
@@ -166,6 +171,51 @@ fn check_items(s: &[u8], at: usize, depth: usize, k: usize, b: &[u8], n: usize) 
         i += 1;
     }
     cur == b.len()
+}
+
+// The elements of a list that holds containers, in any order: each apart from those before it, and no byte left over. What the elements
+// before number known hold was judged before.
+fn any_items(s: &[u8], at: usize, depth: usize, k: usize, b: &[u8], n: usize, known: usize) -> bool
+    requires { ⌜ Items (now s) at depth k (now b) n ⌝ }
+    requires { ⌜ Known 8 (λ _. typeAt (now s) at depth) (now b) n known ⌝ }
+    ensures { λ r. ⌜ r ≡ goodFrom 8 8 (elements (typeAt (now (s .entry)) at depth) n) (now (b .entry)) 0 [] ⌝ }
+{
+    let slots = 8 + words::sizes::bitmap_size(n);
+    let start = slots + 8 * n;
+    let mut map = [0u8; 792];
+    let mut i: usize = 0;
+    let mut slot = slots;
+    let mut sum = start;
+    while i < n {
+        if words::nulls::is_null(b, 8, i) {
+            slot += 8;
+            i += 1;
+            continue;
+        }
+        let x = words::nums::get8(b, slot);
+        let from = words::slots::slot_offset(x) as usize;
+        let end = from + words::slots::slot_size(x) as usize;
+        let next = words::sizes::pad_size(end);
+        if !maps::place(&mut map, start, b.len(), from, next) {
+            return false;
+        }
+        if !words::sizes::pad_clear(b, end, next) {
+            return false;
+        }
+        if i < known {
+            sum += next - from;
+            slot += 8;
+            i += 1;
+            continue;
+        }
+        if !check_value(s, at, depth, k, &b[from..end]) {
+            return false;
+        }
+        sum += next - from;
+        slot += 8;
+        i += 1;
+    }
+    sum == b.len()
 }
 
 // A map: K, the two arrays, and equal counts.
@@ -227,7 +277,7 @@ fn check_struct(s: &[u8], first: usize, n: usize, depth: usize, b: &[u8]) -> boo
         }
         let x = words::nums::get8(b, slot);
         if words::slots::slot_offset(x) as usize != cur {
-            return false;
+            return any_struct(s, first, n, depth, b, i);
         }
         let end = cur + words::slots::slot_size(x) as usize;
         let next = words::sizes::pad_size(end);
@@ -254,6 +304,69 @@ fn check_struct(s: &[u8], first: usize, n: usize, depth: usize, b: &[u8]) -> boo
         i += 1;
     }
     cur == b.len()
+}
+
+// The fields of a struct, in any order, whose size and bitmap were judged before, and what the fields before number known hold.
+fn any_struct(s: &[u8], first: usize, n: usize, depth: usize, b: &[u8], known: usize) -> bool
+    requires { ⌜ Fields (now s) first n depth (now b) ⌝ }
+    requires { ⌜ FieldsKnown (now s) first n depth (now b) known ⌝ }
+    ensures { λ r. ⌜ r ≡ goodFrom 0 8 (kids (typesAt (now (s .entry)) first depth n)) (now (b .entry)) 0 [] ⌝ }
+{
+    let slots = words::sizes::bitmap_size(n);
+    let start = slots + 8 * n;
+    let mut map = [0u8; 792];
+    let mut at = first;
+    let mut i: usize = 0;
+    let mut slot = slots;
+    let mut sum = start;
+    while i < n {
+        let k = schema::marks::place_at(s, at);
+        if k < 7 {
+            if !check_field(b, i, slot, k) {
+                return false;
+            }
+            at += 2;
+            slot += 8;
+            i += 1;
+            continue;
+        }
+        let here = at;
+        at = schema::next_type(s, here, depth, k);
+        if words::nulls::is_null(b, 0, i) {
+            slot += 8;
+            i += 1;
+            continue;
+        }
+        let x = words::nums::get8(b, slot);
+        let from = words::slots::slot_offset(x) as usize;
+        let end = from + words::slots::slot_size(x) as usize;
+        let next = words::sizes::pad_size(end);
+        if !maps::place(&mut map, start, b.len(), from, next) {
+            return false;
+        }
+        if !words::sizes::pad_clear(b, end, next) {
+            return false;
+        }
+        if k < 9 {
+            sum += next - from;
+            slot += 8;
+            i += 1;
+            continue;
+        }
+        if i < known {
+            sum += next - from;
+            slot += 8;
+            i += 1;
+            continue;
+        }
+        if !check_value(s, here, depth, k, &b[from..end]) {
+            return false;
+        }
+        sum += next - from;
+        slot += 8;
+        i += 1;
+    }
+    sum == b.len()
 }
 
 // Whether the row stands for contents of an accepted schema.

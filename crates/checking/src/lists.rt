@@ -1,6 +1,7 @@
 // Lists whose elements are leaves, each kind in a loop of its own.
 ghost use mathlib.Core.Path.{_≡_};
 ghost use mathlib.Core.Bool.{true};
+ghost use mathlib.Core.List.{[]};
 ghost use Prim.Native.Nat.{_+_, _*_, _/_, _≤_, _<_};
 ghost use lib.ListN.{length};
 ghost use Rattle.checking.specs.Sound.{goodFrom};
@@ -21,11 +22,43 @@ fn no_nulls(b: &[u8], n: usize) -> bool
     true
 }
 
+// Strings in any order: each apart from those before it, and no byte left over.
+fn any_texts(b: &[u8], n: usize, slots: usize, start: usize) -> bool
+    requires { ⌜ ListRoom (now b) 8 n slots start ⌝ }
+    ensures { λ r. ⌜ r ≡ goodFrom 8 8 (texts n) (now (b .entry)) 0 [] ⌝ }
+{
+    let mut map = [0u8; 792];
+    let mut i: usize = 0;
+    let mut slot = slots;
+    let mut sum = start;
+    while i < n {
+        if words::nulls::is_null(b, 8, i) {
+            slot += 8;
+            i += 1;
+            continue;
+        }
+        let x = words::nums::get8(b, slot);
+        let from = words::slots::slot_offset(x) as usize;
+        let end = from + words::slots::slot_size(x) as usize;
+        let next = words::sizes::pad_size(end);
+        if !crate::maps::place(&mut map, start, b.len(), from, next) {
+            return false;
+        }
+        if !words::sizes::pad_clear(b, end, next) {
+            return false;
+        }
+        sum += next - from;
+        slot += 8;
+        i += 1;
+    }
+    sum == b.len()
+}
+
 // Strings of which none is null.
 fn full_texts(b: &[u8], n: usize, slots: usize, start: usize) -> bool
     requires { ⌜ ListRoom (now b) 8 n slots start ⌝ }
     requires { ⌜ NoNulls (now b) n ⌝ }
-    ensures { λ r. ⌜ r ≡ goodFrom 8 8 (texts n) (now (b .entry)) 0 start ⌝ }
+    ensures { λ r. ⌜ r ≡ goodFrom 8 8 (texts n) (now (b .entry)) 0 [] ⌝ }
 {
     let mut i: usize = 0;
     let mut slot = slots;
@@ -33,7 +66,7 @@ fn full_texts(b: &[u8], n: usize, slots: usize, start: usize) -> bool
     while i < n {
         let x = words::nums::get8(b, slot);
         if words::slots::slot_offset(x) as usize != cur {
-            return false;
+            return any_texts(b, n, slots, start);
         }
         let end = cur + words::slots::slot_size(x) as usize;
         let next = words::sizes::pad_size(end);
@@ -53,7 +86,7 @@ fn full_texts(b: &[u8], n: usize, slots: usize, start: usize) -> bool
 // Strings of which some may be null.
 fn some_texts(b: &[u8], n: usize, slots: usize, start: usize) -> bool
     requires { ⌜ ListRoom (now b) 8 n slots start ⌝ }
-    ensures { λ r. ⌜ r ≡ goodFrom 8 8 (texts n) (now (b .entry)) 0 start ⌝ }
+    ensures { λ r. ⌜ r ≡ goodFrom 8 8 (texts n) (now (b .entry)) 0 [] ⌝ }
 {
     let mut i: usize = 0;
     let mut slot = slots;
@@ -66,7 +99,7 @@ fn some_texts(b: &[u8], n: usize, slots: usize, start: usize) -> bool
         }
         let x = words::nums::get8(b, slot);
         if words::slots::slot_offset(x) as usize != cur {
-            return false;
+            return any_texts(b, n, slots, start);
         }
         let end = cur + words::slots::slot_size(x) as usize;
         let next = words::sizes::pad_size(end);
@@ -86,7 +119,7 @@ fn some_texts(b: &[u8], n: usize, slots: usize, start: usize) -> bool
 // A list's strings: the tight loop where none is null.
 pub fn check_texts(b: &[u8], n: usize, slots: usize, start: usize) -> bool
     requires { ⌜ ListRoom (now b) 8 n slots start ⌝ }
-    ensures { λ r. ⌜ r ≡ goodFrom 8 8 (texts n) (now (b .entry)) 0 start ⌝ }
+    ensures { λ r. ⌜ r ≡ goodFrom 8 8 (texts n) (now (b .entry)) 0 [] ⌝ }
 {
     if no_nulls(b, n) {
         return full_texts(b, n, slots, start);
@@ -97,7 +130,7 @@ pub fn check_texts(b: &[u8], n: usize, slots: usize, start: usize) -> bool
 // A list's bools: each that is not null is 0 or 1.
 pub fn check_bools(b: &[u8], n: usize, slots: usize, start: usize) -> bool
     requires { ⌜ ListRoom (now b) 1 n slots start ⌝ }
-    ensures { λ r. ⌜ r ≡ goodFrom 8 1 (bools n) (now (b .entry)) 0 start ⌝ }
+    ensures { λ r. ⌜ r ≡ goodFrom 8 1 (bools n) (now (b .entry)) 0 [] ⌝ }
 {
     let mut i: usize = 0;
     while i < n {

@@ -1,21 +1,30 @@
 -- An accepted setting of an accepted row: the tree that the row then stands for, and that the leaf reads as set. Assumes nothing.
 use mathlib.Core.Path.{_≡_, refl, sym, _∙_, subst}
+use mathlib.Core.Logic.{_≢_}
 use mathlib.Core.Bool.{Bool, true, false}
 use mathlib.Core.Option.{Option, none, some, Option·none-ne-some}
 use mathlib.Core.List.{List, [], _∷_}
 use Prim.Native.Nat.{ℕ, _<_, _^_}
 use native.Mathlib.Omega.{arith}
 use lib.ListN.{length}
+use Rattle.words.specs.Bytes.{Bytes, empty}
+use Rattle.words.proofs.Numbers.{bytes-fill, bytes-zeros}
 use Rattle.words.proofs.Parts.{part-whole}
-use Rattle.schema.specs.Types.{Ty, ro, Tys}
+use Rattle.words.proofs.Runs.{bytes-sets}
+use Rattle.words.proofs.BitLaws.{bytes-put}
+use Rattle.schema.specs.Types.{Fixed, Ty, fix, text, li, ma, ro, Tys}
 use Rattle.layout.specs.Cells.{Cell, bytes}
 use Rattle.layout.specs.Layout.{Lays}
-use Rattle.layout.specs.Walk.{Seen, rootSeat, walk}
+use Rattle.layout.specs.Walk.{Seat, Seen, bad, nullAt, seen, rootSeat, walk}
+use Rattle.layout.specs.Places.{starts}
 use Rattle.layout.specs.Reading.{Answer, typeAt, placed, answerOf, found, readIn}
-use Rattle.layout.specs.Setting.{Setting, suits, keeps, unless, _or_, refusalIn, judgeAt, write, refuses, becomes, writeAt, outcome, setIn}
+use Rattle.layout.specs.Setting as S
+use Rattle.layout.specs.Setting.{Setting, isNull, inBytes, orEmpty, textOf, writeFixed, suits, keeps, unless, _or_, refusalIn, judgeAt, write, refuses, becomes, writeAt, outcome, setIn}
 use Rattle.layout.specs.Demand.{Proper, Accepted}
-use Rattle.layout.proofs.Containers.{decode-lays, lays-decode, lays-fits, bytes-content}
-use Rattle.layout.proofs.Exact.{content-lays}
+use Rattle.layout.proofs.Containers.{decode-lays, lays-decode}
+use Rattle.layout.proofs.Cells.{leaf-bytes}
+use Rattle.layout.proofs.Seen.{Like}
+use Rattle.layout.proofs.Updated.{in-fits}
 use Rattle.layout.proofs.Stepped.{Leafy}
 use Rattle.layout.proofs.Walked.{walk-finds}
 use Rattle.layout.proofs.Tree.{update}
@@ -84,11 +93,45 @@ changed-at : (ts : Tys) (x : Setting) (T : Ty) (p : List ℕ) (c : Cell) (b : Li
 changed-at ts x T [] c b e y lim g = absurd (subst Leafy (sym (type-end (ro ts) T e)) (fine-leaf (g .fine)))
 changed-at ts x T (i ∷ p) c b e y lim g = set-at x T i p (ro ts) c b e y lim g
 
+-- what is written is bytes
+bytes-fixed : (f : Fixed) (x : Setting) (s : Seat) (row : List ℕ) → Bytes row → Bytes (writeFixed f x s row)
+unfolding writeFixed
+bytes-fixed f x s row b = bytes-sets (s .slot) (bytes-put (s .bits) (s .number) (isNull x) b) (bytes-fill (s .wide) (go (inBytes f x) refl))
+  where
+    go : (m : Option (List ℕ)) → inBytes f x ≡ m → Bytes (orEmpty m)
+    go none e = empty
+    go (some u) e = rw leaf-bytes at (in-fits f x u e .proper)
+
+bytes-text : (x : Setting) → Proper x → Bytes (textOf x)
+bytes-text S.null b = empty
+bytes-text (S.bool v) b = empty
+bytes-text (S.signed z) b = empty
+bytes-text (S.float32 n) b = empty
+bytes-text (S.float64 n) b = empty
+bytes-text (S.bytes u) b = b
+
+bytes-write : (T : Ty) (x : Setting) (r : Seen) (row : List ℕ) → Proper x → Bytes row → Bytes (write T x r row)
+unfolding write
+bytes-write T x (bad n) row p b = b
+bytes-write (fix f) x (nullAt s) row p b = bytes-fixed f x s row b
+bytes-write (text k) x (nullAt s) row p b = bytes-sets (s .slot) b (bytes-zeros (s .wide))
+bytes-write (li t) x (nullAt s) row p b = b
+bytes-write (ma k v) x (nullAt s) row p b = b
+bytes-write (ro ts) x (nullAt s) row p b = b
+bytes-write (fix f) x (seen s o u) row p b = bytes-fixed f x s row b
+bytes-write (text k) x (seen s o u) row p b = bytes-sets o b (bytes-text x p)
+bytes-write (li t) x (seen s o u) row p b = b
+bytes-write (ma k v) x (seen s o u) row p b = b
+bytes-write (ro ts) x (seen s o u) row p b = b
+
 -- a setting of a place of type T that is done
 pub record Made (ts : Tys) (p : List ℕ) (x : Setting) (T : Ty) (c : Cell) (row row′ : List ℕ) : Type 0 where
   pub granted : Granted x T p c
   pub lays : Lays (ro ts) (after ts p T x c) row′
   pub size : length row′ ≡ length row
+  pub bytes : Bytes row′
+  pub others : (q : List ℕ) (U : Ty) → typeAt q (ro ts) ≡ some U → p ≢ q → Like U (walk q (ro ts) rootSeat 0 row′) (walk q (ro ts) rootSeat 0 row)
+  pub there : starts T (walk p (ro ts) rootSeat 0 row′) ≡ starts T (walk p (ro ts) rootSeat 0 row)
 
 pub record Done (ts : Tys) (p : List ℕ) (x : Setting) (c : Cell) (row row′ : List ℕ) : Type 0 where
   pub type : Ty
@@ -128,7 +171,7 @@ module _ (ts : Tys) (row : List ℕ) (a : Accepted ts row) where
   written p x T b e j =
       let g = granted-by row T p (a .tree) (walk p (ro ts) rootSeat 0 row) x b (row-lands p T e) (j .present) (j .suits) (j .keeps) in
       let d = changed-at ts x T p (a .tree) row (placed-type p (ro ts) T e) row-lays row-short g in
-      record { granted = g; lays = d .lays; size = d .size }
+      record { granted = g; lays = d .lays; size = d .size; bytes = bytes-write T x (walk p (ro ts) rootSeat 0 row) row b (a .bytes); others = d .others; there = d .there }
 
   pub done : (p : List ℕ) (x : Setting) (row′ : List ℕ) → Proper x → setIn ts row p x ≡ becomes row′ → Done ts p x (a .tree) row row′
   unfolding setIn readIn
@@ -144,9 +187,9 @@ module _ (ts : Tys) (row : List ℕ) (a : Accepted ts row) where
       }
 
   -- what a row that stands for a tree is known by
-  abbrev pub accepted-as : (c : Cell) (row′ : List ℕ) → Lays (ro ts) c row′ → length row′ ≡ length row → Accepted ts row′
-  accepted-as c row′ y n = record {
-    bytes = rw (← (content-lays (ro ts) c row′ y)) (bytes-content (ro ts) c (lays-fits (ro ts) c row′ y));
+  abbrev pub accepted-as : (c : Cell) (row′ : List ℕ) → Bytes row′ → Lays (ro ts) c row′ → length row′ ≡ length row → Accepted ts row′
+  accepted-as c row′ b y n = record {
+    bytes = b;
     size = omega (arith, a .size);
     tree = c;
     reads = decode-lays (ro ts) c row′ y (omega (arith, a .size));

@@ -1,22 +1,21 @@
 -- A body with one child changed: in its bit and slot, in its slot alone, or in the bytes of its range. Assumes nothing.
 use mathlib.Core.Path.{_≡_, refl, sym, ap, _∙_}
-use mathlib.Core.Logic.{_⊎_, inl, inr}
 use mathlib.Core.Bool.{Bool}
 use mathlib.Core.List.{List, [], _∷_, _++_, append-assoc}
 use Prim.Native.Nat.{ℕ, zero, suc, _+_, _*_, _-_, _/_, _%_, _^_, _≤_, _<_}
 use native.Mathlib.Nat.{mul-le-mul-right, add-suc, add-zero}
 use native.Mathlib.Omega.{arith}
-use lib.ListN.{length, getD, set, take, drop, length-append, length-set, length-drop, List·getD-append}
-use lib.Seq.{sets, length-sets, take-at, take-append-le, take-append-seam, drop-at, drop-append-le, drop-append-add, drop-set-add, getD-append-add}
+use lib.ListN.{length, getD, set, take, drop, length-append, length-drop, List·getD-append}
+use lib.Seq.{sets, length-sets, take-at, take-append-le, drop-append-le, drop-append-add, drop-set-add, getD-append-add}
 use Rattle.words.specs.Bytes.{le, num, zeros, fill, pad, padded, bitmap, part}
 use Rattle.words.specs.Bits.{withBit, putBit}
 use Rattle.words.proofs.Numbers.{length-le, num-le, length-padded}
 use Rattle.words.proofs.Runs.{sets-behind, sets-ahead, sets-over, sets-same}
-use Rattle.layout.specs.Tiles.{Range, range, Stands}
+use Rattle.layout.specs.Tiles.{Range, range}
 use Rattle.layout.specs.Cells.{Cell, flag}
 use Rattle.layout.specs.Layout.{Codec, Kid, Placed, kidLays, flags, AllLay, front, BodyLays}
-use Rattle.layout.proofs.Tiles.{Apart, Standing, stands-within, stands-apart, Among}
-use Rattle.layout.proofs.Kids.{LawfulKid, Kept}
+use Rattle.layout.proofs.Tiles.{apart-turn, Standing, stands-within, stands-apart, Among}
+use Rattle.layout.proofs.Kids.{Kept}
 use Rattle.layout.proofs.Children.{AllLawful, all-length, flags-fit}
 use Rattle.layout.proofs.Containers.{body-take, body-fit}
 use Rattle.layout.proofs.Steps.{kidAt}
@@ -87,11 +86,7 @@ module _ (c : Codec) (at : ℕ) (d : List ℕ) (before after : List Range) (x₀
 
   module _ (u : List ℕ) (n : length u ≡ length (y .own)) where
     pub outside-kept : (q : Range) → Among q before → Kept at d (changed u) q
-    outside-kept q m = kept-apart at d own-range q (y .place - at) u (stands-within (y .stands)) (omega arith) (omega arith) (among-within m at (at + length d) g) (turn (stands-apart (y .stands) g m))
-      where
-        turn : Apart own-range q → Apart q own-range
-        turn (inl a) = inr a
-        turn (inr a) = inl a
+    outside-kept q m = kept-apart at d own-range q (y .place - at) u (stands-within (y .stands)) (omega arith) (omega arith) (among-within m at (at + length d) g) (apart-turn own-range q (stands-apart (y .stands) g m))
 
     pub outside-safe : Safe at d (changed u) after
     outside-safe q qs i gs st =

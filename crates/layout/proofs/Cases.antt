@@ -1,29 +1,28 @@
 -- The definitions of the layout at the cases of document 01, and at more, computed: one statement. Assumes nothing.
 use mathlib.Core.Path.{_≡_, refl}
-use mathlib.Core.Bool.{true, false}
-use mathlib.Core.Option.{Option, none, some}
+use mathlib.Core.Option.{none, some}
 use mathlib.Core.List.{List, [], _∷_, _++_}
-use Prim.Native.Nat.{ℕ, zero, suc, _+_, _*_, _^_}
+use Prim.Native.Nat.{ℕ, _+_}
 use native.Mathlib.Decide.{decLe, decLt, ℕ-discrete}
 use lib.IntN.{pos, negsuc}
-use lib.ListN.{length, getD, replicate, set, take, drop}
+use lib.ListN.{length, replicate, set, take}
 use Rattle.words.specs.Bytes.{le, num, fill, zeros, part}
 use Rattle.schema.specs.Marks.{types, markAt}
-use Rattle.schema.specs.Types.{Fixed, bo, i1, i2, i4, i8, f4, f8, Text, st, bi, Ty, fix, text, li, ma, ro, Tys, end, _then_, count, field, fixedPlace, textPlace, place, width, mark}
+use Rattle.schema.specs.Types.{bo, i1, i4, i8, f8, st, fix, text, li, ma, ro, Tys, end, _then_, count, field, fixedPlace, textPlace, place, width, mark}
 use Rattle.layout.specs.Reader.{assert, cut}
-use Rattle.layout.specs.Tiles.{total, both?, change?, stands?}
+use Rattle.layout.specs.Tiles.{total, both?, either?, change?, aparts?, stands?}
 use Rattle.layout.specs.Cells.{Cell, null, leaf, node, fromCells, toCells, onNull, bytes, parts, clean}
 use Rattle.layout.specs.Layout.{number, string, inside, outside, kidOf, slotOf, kidGet, flags, slots, tails, reads, front, bodyPut, bodyGet, struct, array, pair, limit, codec, content, decode}
-use Rattle.layout.specs.Listing.{nu, numberScript, textScript, marked, nullOr, item, runPut, runGet, structScript, listScript, mapScript, script, listing, parse}
+use Rattle.layout.specs.Listing.{numberScript, textScript, marked, nullOr, item, runPut, runGet, structScript, listScript, mapScript, script, listing, parse}
 use Rattle.layout.specs.Walk.{must, mustStep, own, bySlot, byFlag, child, stepIn, goOn, walk}
 use Rattle.layout.specs.Reading as R
 use Rattle.layout.specs.Reading.{typeAt, placed, valueOf, answerOf, found, readIn}
 use Rattle.layout.specs.Setting as S
-use Rattle.layout.specs.Setting.{boolBytes, signedBytes, float32Bytes, float64Bytes, inBytes, suits, keepsText, keeps, refusalIn, judgeAt, writeFixed, write, writeAt, Outcome, refuses, becomes, outcome, setIn}
+use Rattle.layout.specs.Setting.{boolBytes, signedBytes, float32Bytes, float64Bytes, inBytes, suits, keepsText, keeps, refusalIn, judgeAt, writeFixed, write, writeAt, refuses, becomes, outcome, setIn}
 
 -- to unfold this is to unfold the definitions
 computes : Unit {0}
-unfolding le num fill types markAt fixedPlace textPlace place width mark count field assert cut total both? change? stands? fromCells toCells onNull bytes parts clean
+unfolding le num fill types markAt fixedPlace textPlace place width mark count field assert cut total both? either? change? aparts? stands? fromCells toCells onNull bytes parts clean
     number string inside outside kidOf slotOf kidGet flags slots tails reads bodyPut bodyGet struct array pair limit codec
     numberScript textScript marked nullOr item runPut runGet structScript listScript mapScript script listing parse
     must mustStep own bySlot byFlag child stepIn goOn walk typeAt placed valueOf answerOf found readIn
@@ -101,6 +100,14 @@ F = content (ro maps) three
 abbrev both : List ℕ
 both = zeros 8 ++ (3 ∷ 0 ∷ 0 ∷ 0 ∷ 24 ∷ 0 ∷ 0 ∷ 0 ∷ []) ++ (3 ∷ 0 ∷ 0 ∷ 0 ∷ 32 ∷ 0 ∷ 0 ∷ 0 ∷ []) ++ (STK ++ zeros 5) ++ (PWR ++ zeros 5)
 
+-- a row of two strings, with their slots and variable data
+abbrev row : ℕ → ℕ → ℕ → ℕ → List ℕ → List ℕ
+row o n p m d = zeros 8 ++ (n ∷ 0 ∷ 0 ∷ 0 ∷ o ∷ 0 ∷ 0 ∷ 0 ∷ []) ++ (m ∷ 0 ∷ 0 ∷ 0 ∷ p ∷ 0 ∷ 0 ∷ 0 ∷ []) ++ d
+
+-- the same two the other way round
+abbrev turned : List ℕ
+turned = row 32 3 24 3 ((PWR ++ zeros 5) ++ (STK ++ zeros 5))
+
 -- C with offset FFFFFFF8 and size 16
 abbrev J : List ℕ
 J = zeros 8 ++ (16 ∷ 0 ∷ 0 ∷ 0 ∷ 0xf8 ∷ 0xff ∷ 0xff ∷ 0xff ∷ []) ++ (STK ++ zeros 5)
@@ -135,6 +142,14 @@ pub record Cases : Type 0 where
   bool : (decode (ro (fix bo then end)) (zeros 8 ++ (2 ∷ zeros 7)) ≡ none) × (readIn (fix bo then end) (zeros 8 ++ (2 ∷ zeros 7)) (0 ∷ []) ≡ R.refused 7)
   -- bits past n are zero
   past : decode (ro two) (set A 0 4) ≡ none
+  -- values in another order than their fields': accepted, read and set where they stand
+  turns : (decode (ro texts) turned ≡ some (node (leaf STK ∷ leaf PWR ∷ []))) × (readIn texts turned (0 ∷ []) ≡ R.bytes 32 3)
+      × (setIn texts turned (0 ∷ []) (S.bytes TPH) ≡ becomes (row 32 3 24 3 ((PWR ++ zeros 5) ++ (TPH ++ zeros 5))))
+  -- not with 8 bytes over at the end or between, and none before the fixed part's end
+  gaps : (decode (ro texts) (turned ++ zeros 8) ≡ none) × (decode (ro texts) (row 40 3 24 3 ((PWR ++ zeros 5) ++ zeros 8 ++ (STK ++ zeros 5))) ≡ none) × (decode (ro texts) (row 16 0 24 3 (STK ++ zeros 5)) ≡ none)
+  -- an empty value stands where another starts or ends, not inside it, nor past the end
+  empties : (decode (ro texts) (row 24 0 24 3 (STK ++ zeros 5)) ≡ some (node (leaf [] ∷ leaf STK ∷ []))) × (decode (ro texts) (row 32 0 24 3 (STK ++ zeros 5)) ≡ some (node (leaf [] ∷ leaf STK ∷ [])))
+      × (decode (ro texts) (row 32 0 24 16 (zeros 16)) ≡ none) × (decode (ro texts) (row 24 16 32 0 (zeros 16)) ≡ none) × (decode (ro texts) (row 40 0 24 3 (STK ++ zeros 5)) ≡ none)
   -- 5 by the schema alone comes before 7, and a path of 17 steps is 5
   order : (readIn two [] (2 ∷ []) ≡ R.refused 5) × (readIn two [] (0 ∷ []) ≡ R.refused 7) × (readIn two [] (replicate 17 0) ≡ R.refused 5) × (readIn one C (0 ∷ 0 ∷ []) ≡ R.refused 5)
   -- a null before the path's end is 6
@@ -176,6 +191,9 @@ cases = record {
   n-reads = (refl, refl);
   bool = (refl, refl);
   past = refl;
+  turns = (refl, refl, refl);
+  gaps = (refl, refl, refl);
+  empties = (refl, refl, refl, refl, refl);
   order = (refl, refl, refl, refl);
   under = refl;
   judged = (refl, refl, refl, refl, refl, refl, refl, refl, refl);

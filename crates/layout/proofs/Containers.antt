@@ -266,10 +266,6 @@ lays-fits t c b y = codec-lawful t .fits c b y
 pub lays-size : (t : Ty) (c : Cell) (b : List ℕ) → Lays t c b → length b ≡ length (content t c)
 lays-size t c b y = codec-lawful t .size c b y
 
--- what is written is bytes
-pub bytes-content : (t : Ty) (c : Cell) → Fits t c → Bytes (content t c)
-bytes-content t c f = codec-lawful t .proper c f
-
 -- with zeros under the nulls the contents fit, in as many bytes, and are read back
 pub clean-fits : (t : Ty) (c : Cell) → Fits t c → Cleaned (Fits t) (content t) c
 clean-fits t c f = codec-lawful t .cleaned c f

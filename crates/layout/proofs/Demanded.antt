@@ -1,25 +1,28 @@
 -- Demand 3 holds. Assumes nothing.
 use mathlib.Core.Path.{_≡_, refl, sym, ap, _∙_}
 use mathlib.Core.Logic.{_≢_}
-use mathlib.Core.Option.{Option, none, some, Option·none-ne-some}
-use mathlib.Core.List.{List}
+use mathlib.Core.Option.{Option, none, some, Option·none-ne-some, Option·some-injective}
+use mathlib.Core.List.{List, [], _∷_}
 use Prim.Native.Nat.{ℕ}
+use native.Mathlib.Omega.{arith}
+use native.Mathlib.Decide.{ℕ-discrete}
+use lib.ListN.{length}
 use Rattle.schema.specs.Types.{Ty, ro, Tys}
 use Rattle.layout.specs.Cells.{Cell}
-use Rattle.layout.specs.Layout.{Lays}
 use Rattle.layout.specs.Walk.{Seen, rootSeat, walk}
-use Rattle.layout.specs.Reading.{Answer, placed, answerOf, found, readIn, held, Alike}
+use Rattle.layout.specs.Places.{startOf, starts}
+use Rattle.layout.specs.Reading.{Answer, typeAt, placed, answerOf, found, readIn, held, Alike}
 use Rattle.layout.specs.Setting as S
 use Rattle.layout.specs.Setting.{Setting, suits, keeps, judgeAt, write, becomes, outcome, setIn}
 use Rattle.layout.specs.Demand.{told, Proper, Accepted, numberIn, Meet, Demand3}
 use Rattle.layout.proofs.Tree.{look, update, Valid, Parted, look-update, update-last}
 use Rattle.layout.proofs.Landed.{placed-type, two-leaves}
 use Rattle.layout.proofs.Judged.{fine-leaf, slotAt, cellOf, valid-update}
-use Rattle.layout.proofs.After.{Judged, judged, judged-fine, after, Done, row-lays, row-short, row-lands, read-at, turned-down, allowed, written, done, accepted-as}
+use Rattle.layout.proofs.After.{Judged, judged, judged-fine, after, Made, Done, row-lays, row-lands, read-at, turned-down, allowed, written, done, accepted-as}
 use Rattle.layout.proofs.Told.{told-set, told-same}
 use Rattle.layout.proofs.Twice.{update-look, update-comm, same-bytes, judge-again}
-use Rattle.layout.proofs.Seen.{spot, walk-spot, Like, bare-like, held-shown}
-use Rattle.layout.proofs.Changed.{spot-like}
+use Rattle.layout.proofs.Seen.{Like, held-shown}
+use Rattle.layout.proofs.Single.{Starting}
 use Rattle.layout.proofs.Refused.{refused-only, refused-there}
 
 -- a path that the schema hasn't reads alike in any two rows
@@ -31,6 +34,27 @@ outcome-number : (c c′ : Cell) (r : Option ℕ) (row row′ : List ℕ) → nu
 unfolding outcome numberIn
 outcome-number c c′ none row row′ = refl
 outcome-number c c′ (some n) row row′ = refl
+
+path? : (p q : List ℕ) → Dec (p ≡ q)
+path? [] [] = yes refl
+path? [] (j ∷ q) = no λ e. omega (arith, ap length e)
+path? (i ∷ p) [] = no λ e. omega (arith, ap length e)
+path? (i ∷ p) (j ∷ q) = go (ℕ-discrete i j) (path? p q)
+  where
+    go : Dec (i ≡ j) → Dec (p ≡ q) → Dec ((i ∷ p) ≡ (j ∷ q))
+    go (yes d) (yes e) = yes (rw (d, e))
+    go (yes d) (no n) = no λ m. n cc
+    go (no n) e = no λ m. n cc
+
+-- after a setting every value starts where it did
+made-starts : {ts : Tys} {p : List ℕ} {x : Setting} {T : Ty} {c : Cell} {row row′ : List ℕ} → typeAt p (ro ts) ≡ some T → Made ts p x T c row row′ → Starting (ro ts) rootSeat 0 row′ row
+made-starts {ts = ts} {p = p} {T = T} {row = row} {row′ = row′} e m q U h = go (path? p q)
+  where
+    go : Dec (p ≡ q) → starts U (walk q (ro ts) rootSeat 0 row′) ≡ starts U (walk q (ro ts) rootSeat 0 row)
+    go (no n) = ap startOf (m .others q U h n .answers)
+    go (yes z) =
+        let t : T ≡ U = Option·some-injective _ _ (sym e ∙ ap (λ (p : List ℕ). typeAt p (ro ts)) z ∙ h) in
+        rw (← t, ← z) (m .there)
 
 module _ (ts : Tys) (row : List ℕ) (a : Accepted ts row) where
   abbrev seenAt : List ℕ → Seen
@@ -46,7 +70,7 @@ module _ (ts : Tys) (row : List ℕ) (a : Accepted ts row) where
     c′ = after ts p (d .type) x (a .tree)
 
     abbrev still : Accepted ts row′
-    still = accepted-as ts row a c′ row′ (d .made .lays) (d .made .size)
+    still = accepted-as ts row a c′ row′ (d .made .bytes) (d .made .lays) (d .made .size)
 
     valid′ : Valid p c′
     valid′ = valid-update p _ (a .tree) (d .made .granted .valid)
@@ -72,7 +96,8 @@ module _ (ts : Tys) (row : List ℕ) (a : Accepted ts row) where
         let w = written ts row a p y T by q (judged T (answerOf T (seenAt p)) y j) in
         let w′ = written ts row′ still p y T by q (judged T (answerOf T (walk p (ro ts) rootSeat 0 row′)) y j′) in
         allowed ts row′ still p y T q j′
-        ∙ ap becomes (same-bytes (ro ts) (after ts p T y c′) (after ts p T y (a .tree)) (write T y (walk p (ro ts) rootSeat 0 row′) row′) (write T y (seenAt p) row) (w′ .lays) (w .lays) (update-last p _ _ (a .tree) (d .made .granted .valid)))
+        ∙ ap becomes (same-bytes (ro ts) (after ts p T y c′) (after ts p T y (a .tree)) (write T y (walk p (ro ts) rootSeat 0 row′) row′) (write T y (seenAt p) row) (w′ .lays) (w .lays) (omega (arith, w′ .size, d .made .size, a .size)) (update-last p _ _ (a .tree) (d .made .granted .valid))
+        (λ i U h. made-starts (placed-type p (ro ts) T q) w′ i U h ∙ made-starts (placed-type p (ro ts) T q) (d .made) i U h ∙ sym (made-starts (placed-type p (ro ts) T q) w i U h)))
         ∙ sym (allowed ts row a p y T q j)
     last-by y by (some n) j =
         turned-down ts row′ still p y n (down row′ still (again y ∙ j)) ∙ sym (turned-down ts row a p y n (down row a j))
@@ -86,10 +111,7 @@ module _ (ts : Tys) (row : List ℕ) (a : Accepted ts row) where
     -- ---- elsewhere
 
     like : (q : List ℕ) (U : Ty) → placed q (ro ts) ≡ some U → p ≢ q → Like U (walk q (ro ts) rootSeat 0 row′) (seenAt q)
-    like q U h n =
-        bare-like U (walk q (ro ts) rootSeat 0 row′) (seenAt q) (spot q (ro ts) 0 c′) (spot q (ro ts) 0 (a .tree)) (walk-spot q (ro ts) c′ rootSeat 0 row′ (d .made .lays) (row-short ts row′ still))
-        (walk-spot q (ro ts) (a .tree) rootSeat 0 row (row-lays ts row a) (row-short ts row a))
-        (spot-like x (d .type) U p q (ro ts) (a .tree) row 0 (placed-type p (ro ts) (d .type) (d .place)) (row-lays ts row a) (row-short ts row a) (d .made .granted) (placed-type q (ro ts) U h) n)
+    like q U h n = d .made .others q U (placed-type q (ro ts) U h) n
 
     others-by : (q : List ℕ) → p ≢ q → (m : Option Ty) → placed q (ro ts) ≡ m → Alike ts row′ row q
     others-by q n none h = nowhere-alike ts row′ row q h
@@ -114,11 +136,11 @@ module _ (ts : Tys) (row : List ℕ) (a : Accepted ts row) where
 
     -- the other setting, made after this one
     then-other : (q : List ℕ) (y : Setting) (row₂ : List ℕ) → Proper y → p ≢ q → (f : Done ts q y (a .tree) row row₂)
-        → (setIn ts row′ q y ≡ becomes (write (f .type) y (walk q (ro ts) rootSeat 0 row′) row′)) × Lays (ro ts) (after ts q (f .type) y c′) (write (f .type) y (walk q (ro ts) rootSeat 0 row′) row′)
+        → (setIn ts row′ q y ≡ becomes (write (f .type) y (walk q (ro ts) rootSeat 0 row′) row′)) × Made ts q y (f .type) c′ row′ (write (f .type) y (walk q (ro ts) rootSeat 0 row′) row′)
     then-other q y row₂ by n f =
         let U = f .type in
         let j : judgeAt (some U) (answerOf U (walk q (ro ts) rootSeat 0 row′)) y ≡ none = ap (λ (z : Answer). judgeAt (some U) z y) (like q U (f .place) n .answers) ∙ f .judged in
-        (allowed ts row′ still q y U (f .place) j, written ts row′ still q y U by (f .place) (judged U (answerOf U (walk q (ro ts) rootSeat 0 row′)) y j) .lays)
+        (allowed ts row′ still q y U (f .place) j, written ts row′ still q y U by (f .place) (judged U (answerOf U (walk q (ro ts) rootSeat 0 row′)) y j))
 
   -- ---- a leaf set to what it reads
 
@@ -133,7 +155,7 @@ module _ (ts : Tys) (row : List ℕ) (a : Accepted ts row) where
       let j : Judged T (answerOf T (seenAt p)) x = record { present = s .1 .present; suits = s .1 .suits; keeps = s .1 .keeps } in
       let w = written ts row a p x T (s .1 .proper) q j in
       let t : after ts p T x (a .tree) ≡ a .tree = ap (λ (z : Cell). update p z (a .tree)) (s .1 .is _) ∙ update-look p (a .tree) (s .0) in
-      allowed ts row a p x T q (judged-fine T (answerOf T (seenAt p)) x j) ∙ ap becomes (same-bytes (ro ts) _ (a .tree) (write T x (seenAt p) row) row (w .lays) (row-lays ts row a) t)
+      allowed ts row a p x T q (judged-fine T (answerOf T (seenAt p)) x j) ∙ ap becomes (same-bytes (ro ts) _ (a .tree) (write T x (seenAt p) row) row (w .lays) (row-lays ts row a) (omega (arith, w .size, a .size)) t (made-starts (placed-type p (ro ts) T q) w))
 
   no-change : (p : List ℕ) (x : Setting) → told row (readIn ts row p) ≡ some x → x ≢ S.null → setIn ts row p x ≡ becomes row
   unfolding readIn
@@ -158,7 +180,9 @@ module _ (ts : Tys) (row : List ℕ) (a : Accepted ts row) where
       record {
         end = write U y (walk q (ro ts) rootSeat 0 row₁) row₁;
         p-first = o₁ .0;
-        q-first = o₂ .0 ∙ ap becomes (sym (same-bytes (ro ts) _ _ _ _ (o₁ .1) (o₂ .1) (update-comm p q _ _ (a .tree) part (d₁ .made .granted .valid))));
+        q-first = o₂ .0 ∙ ap becomes (sym (same-bytes (ro ts) _ _ _ _ (o₁ .1 .lays) (o₂ .1 .lays) (omega (arith, o₁ .1 .size, d₁ .made .size, a .size)) (update-comm p q _ _ (a .tree) part (d₁ .made .granted .valid))
+            (λ i A h. made-starts (placed-type q (ro ts) U (d₂ .place)) (o₁ .1) i A h ∙ made-starts (placed-type p (ro ts) T (d₁ .place)) (d₁ .made) i A h
+            ∙ sym (made-starts (placed-type p (ro ts) T (d₁ .place)) (o₂ .1) i A h ∙ made-starts (placed-type q (ro ts) U (d₂ .place)) (d₂ .made) i A h))));
       }
 
 pub demand3 : (ts : Tys) (row : List ℕ) → Accepted ts row → Demand3 ts row

@@ -1,6 +1,7 @@
 -- From the judgement of a setting to what it makes of the tree: the leaf may be set, and the cell that it then holds is known.
 -- Assumes nothing.
 use mathlib.Core.Path.{_≡_, refl, sym, ap, _∙_, subst}
+use mathlib.Core.Logic.{_≢_}
 use mathlib.Core.Bool.{Bool, true, false, cond}
 use mathlib.Core.Option.{Option, none, some, Option·none-ne-some}
 use mathlib.Core.List.{List, [], _∷_}
@@ -14,6 +15,7 @@ use Rattle.words.proofs.Runs.{sets-whole}
 use Rattle.schema.specs.Types.{Fixed, Text, Ty, fix, text, li, ma, ro}
 use Rattle.layout.specs.Cells.{Cell, null, leaf, node, onNull, flag, bytes, parts, part}
 use Rattle.layout.specs.Layout.{Kid, NullFits, number, string, kid, slotOf, kidFits, AllFit, struct, array, pair, codec, kids, Lays}
+use Rattle.layout.specs.Places.{starts}
 use Rattle.layout.specs.Reading.{typeAt, answerOf}
 use Rattle.layout.specs.Setting as S
 use Rattle.layout.specs.Setting.{Setting, isNull, inBytes, isSome, fitsText, suits, keepsSize, keepsText, keeps, refusalIn, orEmpty, textOf, write}
@@ -25,6 +27,7 @@ use Rattle.layout.proofs.Bitmaps.{cellAt}
 use Rattle.layout.proofs.Stepped.{Leafy}
 use Rattle.layout.specs.Walk.{Seen, rootSeat, walk, childTy}
 use Rattle.layout.proofs.Tree.{look, update, Valid, part-set, look-update, update-count}
+use Rattle.layout.proofs.Seen.{Like}
 use Rattle.layout.proofs.Updated as Updated
 use Rattle.layout.proofs.Updated.{Settable, Becomes, set-lays}
 use Rattle.layout.proofs.Landed.{type-child, type-end, first-flag, below, Landing, off, atNull, atSeen}
@@ -197,6 +200,8 @@ valid-update (i ∷ p) x c v = (omega (arith, update-count i p x c, v .0), rw (p
 pub record Changed (x : Setting) (T : Ty) (p : List ℕ) (t : Ty) (c : Cell) (b after : List ℕ) : Type 0 where
   pub lays : Lays t (update p (cellOf (slotAt 0 p t) T x) c) after
   pub size : length after ≡ length b
+  pub others : (q : List ℕ) (U : Ty) → typeAt q t ≡ some U → p ≢ q → Like U (walk q t rootSeat 0 after) (walk q t rootSeat 0 b)
+  pub there : starts T (walk p t rootSeat 0 after) ≡ starts T (walk p t rootSeat 0 b)
 
 pub set-at : (x : Setting) (T : Ty) (i : ℕ) (p : List ℕ) (t : Ty) (c : Cell) (b : List ℕ) → typeAt (i ∷ p) t ≡ some T → Lays t c b → length b < 2 ^ 32 → Granted x T (i ∷ p) c
     → Changed x T (i ∷ p) t c b (write T x (walk (i ∷ p) t rootSeat 0 b) b)
@@ -208,4 +213,4 @@ set-at x T i p t c b e y lim g =
     became x T (d .new) (slotAt 0 (i ∷ p) t) (d .becomes)
     (λ u q. null-look 0 i p t (update (i ∷ p) (d .new) c) (d .own) u (d .lays) (omega arith) (valid-update (i ∷ p) (d .new) c v) (look-update (i ∷ p) (d .new) c v ∙ q)) in
     let is : write T x (walk (i ∷ p) t rootSeat 0 b) b ≡ d .own = d .is ∙ sets-whole b (d .own) m in
-    record { lays = rw (is, ← new) (d .lays); size = rw is m }
+    record { lays = rw (is, ← new) (d .lays); size = rw is m; others = λ q U h n. rw is (d .others q U h n rootSeat); there = rw is (d .there rootSeat) }

@@ -45,7 +45,7 @@ unfolding placed
 placed-type p t T e = asserted (decLe (length p) 16) (typeAt p t) T e
 
 -- nothing stands past a leaf
-leaf-end : (t U : Ty) (j : ℕ) (q : List ℕ) → Leafy t → typeAt (j ∷ q) t ≡ some U → ⊥
+pub leaf-end : (t U : Ty) (j : ℕ) (q : List ℕ) → Leafy t → typeAt (j ∷ q) t ≡ some U → ⊥
 unfolding typeAt
 leaf-end (fix f) U j q l h = Option·none-ne-some _ h
 leaf-end (text f) U j q l h = Option·none-ne-some _ h

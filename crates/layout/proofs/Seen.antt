@@ -1,67 +1,24 @@
--- What the walk finds is a function of the tree, the seat apart: the walk over trees. Assumes nothing.
-use mathlib.Core.Path.{_≡_, refl, sym, ap, _∙_}
+-- Two finds that answer alike; where an answer's range starts; and a container changed at one child, which reads as before at every
+-- other path. Assumes nothing.
+use mathlib.Core.Path.{_≡_, refl, sym, ap, _∙_, subst}
+use mathlib.Core.Logic.{_≢_}
+use mathlib.Core.Option.{none, some, Option·none-ne-some}
 use mathlib.Core.List.{List, [], _∷_}
-use Prim.Native.Nat.{ℕ, zero, suc, _+_, _<_, _^_}
+use Prim.Native.Nat.{ℕ, _+_, _<_, _^_}
 use native.Mathlib.Omega.{arith}
-use native.Mathlib.Decide.{decLt}
+use native.Mathlib.Decide.{ℕ-discrete}
 use lib.ListN.{length}
 use Rattle.schema.specs.Types.{Fixed, bo, i1, i2, i4, i8, f4, f8, Ty, fix, text, li, ma, ro}
 use Rattle.layout.specs.Cells.{Cell, flag, parts, part as partOf}
-use Rattle.layout.specs.Layout.{content, Lays}
-use Rattle.layout.specs.Reading.{valueOf, answerOf, held}
-use Rattle.layout.proofs.Exact.{content-lays}
+use Rattle.layout.specs.Layout.{number, string, codec, Lays}
+use Rattle.layout.specs.Places.{startOf, starts}
+use Rattle.layout.specs.Reading.{typeAt, valueOf, answerOf, held}
+use Rattle.layout.specs.Walk.{Seat, Seen, bad, nullAt, seen, Step, into, own, stepIn, goOn, walk, childTy}
 use Rattle.layout.proofs.Stepped as Stepped
-use Rattle.layout.proofs.Stepped.{Comes}
-use Rattle.layout.specs.Walk.{Seat, Seen, bad, nullAt, seen, rootSeat, Step, toNull, must, stepIn, goOn, walk, childTy}
-use Rattle.layout.proofs.Walked.{comes, must-yes, own-holds, Sits}
-use Rattle.layout.proofs.Landed.{Landing, off, atNull, atSeen}
-use Rattle.layout.proofs.Starts.{startIn, Starts, step-starts}
-
--- what a walk finds, whatever the seat
-unfoldable pub bare : Seen → Seen
-bare (bad n) = bad n
-bare (nullAt s) = nullAt rootSeat
-bare (seen s o b) = seen rootSeat o b
-
--- a null child is found at the path's end, and refused before it
-unfoldable pub byNull : ℕ → List ℕ → Seen → Seen
-byNull zero p r = r
-byNull (suc f) [] r = nullAt rootSeat
-byNull (suc f) (i ∷ p) r = bad 6
-
--- the walk over contents c of type t whose bytes start at o
-unfoldable pub spot : List ℕ → Ty → ℕ → Cell → Seen
-spot [] t o c = seen rootSeat o (content t c)
-spot (i ∷ p) t o c = must (decLt i (length (parts c))) 5 (byNull (flag (partOf i c)) p (spot p (childTy t i) (o + startIn t i c) (partOf i c)))
-
-must-no : {P : Type 0} (d : Dec P) (n : ℕ) (s : Seen) → ¬ P → must d n s ≡ bad n
-unfolding must
-must-no (yes p) n s h = absurd (h p)
-must-no (no q) n s h = refl
-
-null-spot : (p : List ℕ) (s : Seat) (f : ℕ) (r : Seen) → f ≡ 1 → bare (goOn p (λ t s o b. walk p t s o b) (toNull s)) ≡ byNull f p r
-unfolding goOn bare byNull
-null-spot [] s f r e = rw e
-null-spot (i ∷ p) s f r e = rw e
-
-step-spot : (i : ℕ) (p : List ℕ) (t : Ty) (c : Cell) (o : ℕ) (b : List ℕ) (r : Step) → length b < 2 ^ 32 → Comes t (childTy t i) c i o b r
-    → (i < length (parts c) → flag (partOf i c) ≡ 0 → Starts (o + startIn t i c) r)
-    → ((s : Seat) (o : ℕ) (u : List ℕ) → Lays (childTy t i) (partOf i c) u → length u < 2 ^ 32 → bare (walk p (childTy t i) s o u) ≡ spot p (childTy t i) o (partOf i c))
-    → bare (goOn p (λ t s o b. walk p t s o b) r) ≡ must (decLt i (length (parts c))) 5 (byNull (flag (partOf i c)) p (spot p (childTy t i) (o + startIn t i c) (partOf i c)))
-unfolding goOn bare byNull
-step-spot i p t c o b r lim (Stepped.past h) st next = sym (must-no (decLt i (length (parts c))) 5 _ (omega arith))
-step-spot i p t c o b r lim (Stepped.missing {s = s} k f d) st next = null-spot p s (flag (partOf i c)) _ f ∙ sym (must-yes (decLt i (length (parts c))) 5 _ k)
-step-spot i p t c o b r lim (Stepped.on {s = s} {j = j} {u = u} k f d a) st next =
-    let e : o + j ≡ o + startIn t i c = st k f in
-    next s (o + j) u (d .lays) (omega (arith, d .room)) ∙ ap (λ (n : ℕ). spot p (childTy t i) n (partOf i c)) e
-    ∙ sym (must-yes (decLt i (length (parts c))) 5 _ k ∙ rw f)
-
-pub walk-spot : (p : List ℕ) (t : Ty) (c : Cell) (s : Seat) (o : ℕ) (b : List ℕ) → Lays t c b → length b < 2 ^ 32 → bare (walk p t s o b) ≡ spot p t o c
-unfolding walk spot bare
-walk-spot [] t c s o b y lim = rw (own-holds t c b (seen s o b) y lim) (ap (seen rootSeat o) (sym (content-lays t c b y)))
-walk-spot (i ∷ p) t c s o b y lim =
-    rw (own-holds t c b (goOn p (λ t s o b. walk p t s o b) (stepIn t i s o b)) y lim)
-    (step-spot i p t c o b (stepIn t i s o b) lim (comes t c i s o b y lim) (λ k f. step-starts t c i s o b y lim k f) (λ s o u l m. walk-spot p (childTy t i) (partOf i c) s o u l m))
+use Rattle.layout.proofs.Stepped.{Leafy, Comes, Into}
+use Rattle.layout.proofs.Aside.{Aside}
+use Rattle.layout.proofs.Walked.{comes, own-holds, Sits, list-says}
+use Rattle.layout.proofs.Landed.{type-child, type-end, leaf-end, Landing, off, atNull, atSeen}
 
 -- ---- an answer, with the bytes of a string or binary
 
@@ -81,32 +38,6 @@ pub record Like (t : Ty) (r r′ : Seen) : Type 0 where
 
 pub like-refl : {t : Ty} {r r′ : Seen} → r ≡ r′ → Like t r r′
 like-refl {t} e = record { answers = ap (answerOf t) e; shows = ap (shown t) e }
-
-bare-answer : (t : Ty) (r : Seen) → answerOf t r ≡ answerOf t (bare r)
-unfolding answerOf bare
-bare-answer t (bad n) = refl
-bare-answer t (nullAt s) = refl
-bare-answer (fix f) (seen s o b) = refl
-bare-answer (text k) (seen s o b) = refl
-bare-answer (li t) (seen s o b) = refl
-bare-answer (ma k v) (seen s o b) = refl
-bare-answer (ro ts) (seen s o b) = refl
-
-bare-shown : (t : Ty) (r : Seen) → shown t r ≡ shown t (bare r)
-unfolding shown bare
-bare-shown t (bad n) = refl
-bare-shown t (nullAt s) = refl
-bare-shown (fix f) (seen s o b) = refl
-bare-shown (text k) (seen s o b) = refl
-bare-shown (li t) (seen s o b) = refl
-bare-shown (ma k v) (seen s o b) = refl
-bare-shown (ro ts) (seen s o b) = refl
-
-pub bare-like : (t : Ty) (r r′ s s′ : Seen) → bare r ≡ s → bare r′ ≡ s′ → Like t s s′ → Like t r r′
-bare-like t r r′ s s′ d e l = record {
-  answers = bare-answer t r ∙ ap (answerOf t) d ∙ l .answers ∙ sym (bare-answer t r′ ∙ ap (answerOf t) e);
-  shows = bare-shown t r ∙ ap (shown t) d ∙ l .shows ∙ sym (bare-shown t r′ ∙ ap (shown t) e);
-}
 
 -- the bytes in the range are those found
 value-held : (row : List ℕ) (f : Fixed) (u : List ℕ) → held row (valueOf f u) ≡ []
@@ -132,3 +63,109 @@ unfolding answerOf held shown
 held-shown row t p c r (off n g) = refl
 held-shown row t p c r (atNull v f) = refl
 held-shown row t p c r (atSeen {s = s} {o = o} {u = u} v y st) = seen-held row t s o u st
+
+-- ---- where the range starts; 0 for what has none
+
+value-start : (f : Fixed) (u : List ℕ) → startOf (valueOf f u) ≡ 0
+unfolding valueOf startOf
+value-start bo u = refl
+value-start i1 u = refl
+value-start i2 u = refl
+value-start i4 u = refl
+value-start i8 u = refl
+value-start f4 u = refl
+value-start f8 u = refl
+
+-- a fixed width has no range
+pub fixed-starts : (f : Fixed) (r : Seen) → starts (fix f) r ≡ 0
+unfolding answerOf startOf
+fixed-starts f (bad n) = refl
+fixed-starts f (nullAt s) = refl
+fixed-starts f (seen s o u) = value-start f u
+
+-- nor has a null
+pub null-starts : (T t : Ty) (c : Cell) (i : ℕ) (s : Seat) (o : ℕ) (b : List ℕ) → Lays t c b → length b < 2 ^ 32 → i < length (parts c) → flag (partOf i c) ≡ 1 → starts T (walk (i ∷ []) t s o b) ≡ 0
+unfolding walk goOn answerOf startOf
+null-starts T t c i s o b y lim k f = rw (own-holds t c b (goOn [] (λ t s o b. walk [] t s o b) (stepIn t i s o b)) y lim) (go (stepIn t i s o b) (comes t c i s o b y lim))
+  where
+    go : (r : Step) → Comes t (childTy t i) c i o b r → starts T (goOn [] (λ t s o b. walk [] t s o b) r) ≡ 0
+    go r (Stepped.past h) = absurd (omega arith)
+    go r (Stepped.missing l g d) = refl
+    go r (Stepped.on l g d a) = absurd (omega arith)
+
+-- what varies starts where it stands
+pub seen-starts : (t : Ty) (s : Seat) (o : ℕ) (u : List ℕ) → codec t .wide ≡ none → starts t (seen s o u) ≡ o
+unfolding codec number answerOf startOf
+seen-starts (fix f) s o u e = absurd (Option·none-ne-some _ (sym e))
+seen-starts (text k) s o u e = refl
+seen-starts (li t) s o u e = refl
+seen-starts (ma k v) s o u e = refl
+seen-starts (ro ts) s o u e = refl
+
+-- ---- a container changed at one child
+
+leaf-parts : (t : Ty) (c : Cell) (b : List ℕ) → Leafy t → Lays t c b → length (parts c) ≡ 0
+unfolding codec number string parts
+leaf-parts (fix f) c b l y = ap (λ (z : Cell). length (parts z)) (y .fits .plain)
+leaf-parts (text k) c b l y = ap (λ (z : Cell). length (parts z)) (y .fits .plain)
+leaf-parts (li t) c b l y = absurd l
+leaf-parts (ma k v) c b l y = absurd l
+leaf-parts (ro ts) c b l y = absurd l
+
+pub into-on : (q : List ℕ) (t : Ty) (s : Seat) (o : ℕ) (b : List ℕ) → goOn q (λ t s o b. walk q t s o b) (into t s o b) ≡ walk q t s o b
+unfolding goOn
+into-on [] t s o b = refl
+into-on (i ∷ q) t s o b = refl
+
+-- contents c′ in b′ instead of c in b, as many parts in as many bytes
+pub record Instead (t : Ty) (c c′ : Cell) (b b′ : List ℕ) : Type 0 where
+  pub was : Lays t c b
+  pub is : Lays t c′ b′
+  pub small : length b < 2 ^ 32
+  pub size : length b′ ≡ length b
+  pub count : length (parts c′) ≡ length (parts c)
+
+module _ (t : Ty) (c c′ : Cell) (b b′ : List ℕ) (d : Instead t c c′ b b′) where
+  small′ : length b′ < 2 ^ 32
+  small′ = omega (arith, d .size, d .small)
+
+  -- the container itself: its range and count
+  whole-like : (i : ℕ) (s : Seat) (o : ℕ) → i < length (parts c) → Like t (seen s o b′) (seen s o b)
+  unfolding answerOf shown
+  whole-like i s o k = go t (d .was) (d .is)
+    where
+      go : (t : Ty) → Lays t c b → Lays t c′ b′ → Like t (seen s o b′) (seen s o b)
+      go (fix f) y y′ = absurd (omega (arith, leaf-parts (fix f) c b tt y))
+      go (text a) y y′ = absurd (omega (arith, leaf-parts (text a) c b tt y))
+      go (li t) y y′ = record { answers = rw (d .size, list-says t c b y (d .small) .count, list-says t c′ b′ y′ small′ .count, d .count); shows = refl }
+      go (ma a v) y y′ = record { answers = rw (d .size); shows = refl }
+      go (ro ts) y y′ = record { answers = rw (d .size); shows = refl }
+
+  pub own-was : (r : Seen) → own t b r ≡ r
+  own-was r = own-holds t c b r (d .was) (d .small)
+
+  pub own-is : (r : Seen) → own t b′ r ≡ r
+  own-is r = own-holds t c′ b′ r (d .is) small′
+
+  -- a path that begins with another child, or ends here, or goes on with child i
+  pub others-by : (i : ℕ) (p q : List ℕ) (U : Ty) (s : Seat) (o : ℕ) → i < length (parts c) → Aside t i b b′ → typeAt q t ≡ some U → (i ∷ p) ≢ q
+      → ((q : List ℕ) → typeAt q (childTy t i) ≡ some U → p ≢ q → Like U (walk (i ∷ q) t s o b′) (walk (i ∷ q) t s o b)) → Like U (walk q t s o b′) (walk q t s o b)
+  unfolding walk
+  others-by i p [] U s o k a e n f = rw (own-was (seen s o b), own-is (seen s o b′)) (subst (λ (A : Ty). Like A (seen s o b′) (seen s o b)) (type-end t U e) (whole-like i s o k))
+  others-by i p (j ∷ q) U s o k a e n f = go (ℕ-discrete j i)
+    where
+      go : Dec (j ≡ i) → Like U (walk (j ∷ q) t s o b′) (walk (j ∷ q) t s o b)
+      go (yes z) = subst (λ (j : ℕ). Like U (walk (j ∷ q) t s o b′) (walk (j ∷ q) t s o b)) (sym z) (f q (subst (λ (j : ℕ). typeAt q (childTy t j) ≡ some U) z (type-child j q t U e)) (λ m. n (rw (z, m))))
+      go (no z) = like-refl (own-is _ ∙ ap (goOn q (λ t s o b. walk q t s o b)) (a j z s o) ∙ sym (own-was _))
+
+  -- nothing stands past a leaf
+  pub past-end : (i : ℕ) (U : Ty) (s : Seat) (o : ℕ) → Leafy (childTy t i) → (q : List ℕ) → typeAt q (childTy t i) ≡ some U → [] ≢ q → Like U (walk (i ∷ q) t s o b′) (walk (i ∷ q) t s o b)
+  past-end i U s o l [] e n = absurd (n refl)
+  past-end i U s o l (j ∷ q) e n = absurd (leaf-end (childTy t i) U j q l e)
+
+  -- on in child i, from u in b and from v in b′
+  pub walk-on : (i j : ℕ) (u v : List ℕ) (s : Seat) (o : ℕ) (q : List ℕ) (m : Into t (childTy t i) i j o s b u b′ v)
+      → (walk (i ∷ q) t s o b ≡ walk q (childTy t i) (m .seat) (o + j) u) × (walk (i ∷ q) t s o b′ ≡ walk q (childTy t i) (m .seat) (o + j) v)
+  unfolding walk
+  walk-on i j u v s o q m =
+      (own-was _ ∙ ap (goOn q (λ t s o b. walk q t s o b)) (m .was) ∙ into-on q (childTy t i) (m .seat) (o + j) u, own-is _ ∙ ap (goOn q (λ t s o b. walk q t s o b)) (m .is) ∙ into-on q (childTy t i) (m .seat) (o + j) v)

@@ -1,31 +1,31 @@
 -- One child of a container changes, in its slot or in the bytes of its range: the others stand as they did. Assumes nothing.
-use mathlib.Core.Path.{_≡_, refl, sym, ap, _∙_, subst}
+use mathlib.Core.Path.{_≡_, sym, ap, _∙_, subst}
 use mathlib.Core.Logic.{_⊎_, inl, inr}
 use mathlib.Core.List.{List, [], _∷_, _++_}
 use Prim.Native.Nat.{ℕ, zero, suc, _+_, _*_, _-_, _≤_, _<_}
 use native.Mathlib.Omega.{arith}
-use lib.ListN.{length, getD, set, take, drop, take-append-drop, length-append, length-drop}
-use lib.Seq.{sets, length-sets, take-append-seam, take-at, drop-append-add}
+use lib.ListN.{length, set, take, drop, take-append-drop}
+use lib.Seq.{sets, take-append-seam, take-at, drop-append-add}
 use Rattle.words.specs.Bytes.{part}
 use Rattle.words.proofs.Runs.{sets-behind, sets-over, part-apart}
-use Rattle.layout.specs.Tiles.{Range, Stands}
+use Rattle.layout.specs.Tiles.{Range, Apart, Stands}
 use Rattle.layout.specs.Cells.{Cell}
 use Rattle.layout.specs.Layout.{Kid, kidLays, AllLay}
-use Rattle.layout.proofs.Tiles.{Apart, Standing, Within, stands-within, Among, first, later}
-use Rattle.layout.proofs.Kids.{LawfulKid, Kept, Adds, same, more}
+use Rattle.layout.proofs.Tiles.{Standing, Within, stands-within, Among, first, later}
+use Rattle.layout.proofs.Kids.{Kept, Adds, same, more}
 use Rattle.layout.proofs.Children.{AllLawful, kid-size, kid-adds, kid-keep}
-use Rattle.layout.proofs.Steps.{nobody, kidAt}
+use Rattle.layout.proofs.Steps.{kidAt}
 use Rattle.layout.proofs.Bitmaps.{cellAt}
 
 -- whatever stands beside the ranges rs is kept
 abbrev pub Safe : ℕ → List ℕ → List ℕ → List Range → Type 0
 Safe at d e rs = (q : Range) (qs : List Range) → ((z : Range) → Among z rs → Among z qs) → Standing at (at + length d) qs → Stands at (at + length d) qs q → Kept at d e q
 
-adds-among : {at stop : ℕ} {rs rs′ : List Range} → Adds at stop rs rs′ → (z : Range) → Among z rs → Among z rs′
+pub adds-among : {at stop : ℕ} {rs rs′ : List Range} → Adds at stop rs rs′ → (z : Range) → Among z rs → Among z rs′
 adds-among same z m = m
 adds-among (more s e) z m = later m
 
-adds-standing : {at stop : ℕ} {rs rs′ : List Range} → Adds at stop rs rs′ → Standing at stop rs → Standing at stop rs′
+pub adds-standing : {at stop : ℕ} {rs rs′ : List Range} → Adds at stop rs rs′ → Standing at stop rs → Standing at stop rs′
 adds-standing same g = g
 adds-standing (more s e) g = (s, g)
 
@@ -33,15 +33,18 @@ adds-standing (more s e) g = (s, g)
 pub added : (q : Range) (rs rs′ : List Range) → q ∷ rs ≡ rs′ → Among q rs′
 added q rs rs′ e = rw (← e) first
 
-cons-not : (q : Range) (rs : List Range) → q ∷ rs ≡ rs → ⊥
+pub cons-not : (q : Range) (rs : List Range) → q ∷ rs ≡ rs → ⊥
 cons-not q rs e = omega (arith, ap length e)
 
 adds-stands : {at stop : ℕ} {rs rs′ : List Range} → Adds at stop rs rs′ → (q : Range) → q ∷ rs ≡ rs′ → Stands at stop rs q
 adds-stands {rs = rs} same q e = absurd (cons-not q rs e)
 adds-stands {at = at} {stop = stop} {rs = rs} (more {q = z} s n) q e = let p : z ≡ q = cc in subst (Stands at stop rs) p s
 
+pub below : (i n : ℕ) → suc i < suc n → i < n
+below i n h = omega arith
+
 module _ (w at : ℕ) (d : List ℕ) where
-  all-keep : (e : List ℕ) (ks : List Kid) (cs : List Cell) (s : List ℕ) (rs rs′ : List Range) → AllLawful w ks → length e ≡ length d → Safe at d e rs
+  pub all-keep : (e : List ℕ) (ks : List Kid) (cs : List Cell) (s : List ℕ) (rs rs′ : List Range) → AllLawful w ks → length e ≡ length d → Safe at d e rs
       → Standing at (at + length d) rs → AllLay w at d ks cs s rs rs′ → AllLay w at e ks cs s rs rs′
   unfolding AllLay
   all-keep e [] [] s rs rs′ l n g t y = y
@@ -68,7 +71,7 @@ module _ (w at : ℕ) (d : List ℕ) where
     pub put : (e : List ℕ) (x : Cell) (v : List ℕ) → length e ≡ length d → ((q : Range) → Among q before → Kept at d e q) → Safe at d e after
         → length v ≡ w → kidLays w (kidAt ks i) at e before x v after → AllLay w at e ks (set cs i x) (sets s (i * w) v) rs rs′
 
-  pub spot : (ks : List Kid) (cs : List Cell) (s : List ℕ) (rs rs′ : List Range) (i : ℕ) → AllLawful w ks → AllLay w at d ks cs s rs rs′ → Standing at (at + length d) rs → i < length cs
+  unfoldable pub spot : (ks : List Kid) (cs : List Cell) (s : List ℕ) (rs rs′ : List Range) (i : ℕ) → AllLawful w ks → AllLay w at d ks cs s rs rs′ → Standing at (at + length d) rs → i < length cs
       → Spot ks cs s rs rs′ i
   unfolding AllLay
   spot [] [] s rs rs′ i l y t h = absurd (omega arith)
@@ -96,7 +99,7 @@ module _ (w at : ℕ) (d : List ℕ) where
   spot (k ∷ ks) (c ∷ cs) s rs rs′ (suc i) l y t h =
       let a = kid-adds w k (l .0) at d rs c (y .slot) (y .ranges) (y .one) in
       let n = kid-size w k (l .0) at d rs c (y .slot) (y .ranges) (y .one) .slot in
-      let r = spot ks cs (y .left) (y .ranges) rs′ i (l .1) (y .others) (adds-standing a t) (omega arith) in
+      let r = spot ks cs (y .left) (y .ranges) rs′ i (l .1) (y .others) (adds-standing a t) (below i (length cs) h) in
       let o : suc i * w ≡ length (y .slot) + i * w = rw n (omega arith) in
       record {
         before = r .before;
@@ -115,6 +118,20 @@ module _ (w at : ℕ) (d : List ℕ) where
           others = r .put e x v m f g u z;
         };
       }
+
+  -- the ranges up to a child are among those before a later one
+  pub spot-order : (ks : List Kid) (cs : List Cell) (s : List ℕ) (rs rs′ : List Range) (i j : ℕ) (l : AllLawful w ks) (y : AllLay w at d ks cs s rs rs′) (t : Standing at (at + length d) rs)
+      (h : i < length cs) (k : j < length cs) → i < j → (z : Range) → Among z (spot ks cs s rs rs′ i l y t h .after) → Among z (spot ks cs s rs rs′ j l y t k .before)
+  unfolding AllLay spot
+  spot-order [] [] s rs rs′ i j l y t h k o z m = absurd (omega arith)
+  spot-order (q ∷ ks) (c ∷ cs) s rs rs′ zero zero l y t h k o z m = absurd (omega arith)
+  spot-order (q ∷ ks) (c ∷ cs) s rs rs′ (suc i) zero l y t h k o z m = absurd (omega arith)
+  spot-order (q ∷ ks) (c ∷ cs) s rs rs′ zero (suc j) l y t h k o z m =
+      let a = kid-adds w q (l .0) at d rs c (y .slot) (y .ranges) (y .one) in
+      spot ks cs (y .left) (y .ranges) rs′ j (l .1) (y .others) (adds-standing a t) (below j (length cs) k) .among z m
+  spot-order (q ∷ ks) (c ∷ cs) s rs rs′ (suc i) (suc j) l y t h k o z m =
+      let a = kid-adds w q (l .0) at d rs c (y .slot) (y .ranges) (y .one) in
+      spot-order ks cs (y .left) (y .ranges) rs′ i j (l .1) (y .others) (adds-standing a t) (below i (length cs) h) (below j (length cs) k) (omega arith) z m
 
 -- ---- bytes put into one range: what stands apart from it is kept
 

@@ -3,20 +3,20 @@ use mathlib.Core.Path.{_≡_, refl, sym, ap, _∙_, subst}
 use mathlib.Core.Logic.{_≢_, inl, inr}
 use mathlib.Core.Option.{some}
 use mathlib.Core.List.{List, [], _∷_}
-use Prim.Native.Nat.{ℕ, _<_}
+use Prim.Native.Nat.{ℕ, _<_, _^_}
 use native.Mathlib.Omega.{arith}
 use lib.ListN.{length, set}
 use lib.Seq.{getD-set-other, set-set, set-comm, set-getD}
 use Rattle.schema.specs.Types.{Fixed, Text, Ty, fix, text}
 use Rattle.layout.specs.Cells.{Cell, null, leaf, nodes, Cells, nil, cons, fromCells, toCells, node, onNull, flag, bytes, parts, part}
-use Rattle.layout.specs.Layout.{Lays, content}
-use Rattle.layout.specs.Walk.{Seen}
+use Rattle.layout.specs.Layout.{Lays}
+use Rattle.layout.specs.Walk.{Seen, rootSeat}
 use Rattle.layout.specs.Reading as R
 use Rattle.layout.specs.Reading.{answerOf}
 use Rattle.layout.specs.Setting as S
 use Rattle.layout.specs.Setting.{Setting, isNull, keeps, keepsText, refusalIn, judgeAt, textOf}
 use Rattle.layout.proofs.Cells.{parts-node}
-use Rattle.layout.proofs.Exact.{content-lays}
+use Rattle.layout.proofs.Single.{Starting, single}
 use Rattle.layout.proofs.Tree.{look, update, Valid, Parted, part-set}
 use Rattle.layout.proofs.Landed.{Landing, off, atNull, atSeen}
 use Rattle.layout.proofs.Judged.{Fine, numberNull, numberGiven, textNull, textGiven, text-lays-flag, given, cellOf}
@@ -56,9 +56,9 @@ update-comm (i ∷ p) (j ∷ q) x y c (inl d) v =
 update-comm (i ∷ p) (j ∷ q) x y c (inr d) v =
     rw (← (d .0), part-set i c (update p x (part i c)) (v .0), part-set i c (update q y (part i c)) (v .0), parts-node, parts-node, set-set, set-set, update-comm p q x y (part i c) (d .1) (v .1))
 
--- equal trees, equal bytes
-pub same-bytes : (t : Ty) (c d : Cell) (a b : List ℕ) → Lays t c a → Lays t d b → c ≡ d → a ≡ b
-same-bytes t c d a b y z e = sym (content-lays t c a y) ∙ ap (content t) e ∙ content-lays t d b z
+-- equal trees with their values at the same places, equal bytes
+pub same-bytes : (t : Ty) (c d : Cell) (a b : List ℕ) → Lays t c a → Lays t d b → length a < 2 ^ 32 → c ≡ d → Starting t rootSeat 0 a b → a ≡ b
+same-bytes t c d a b y z lim e s = single t d a b rootSeat 0 (subst (λ (x : Cell). Lays t x a) e y) z lim s
 
 -- ---- one leaf: the judgement is the same before and after
 

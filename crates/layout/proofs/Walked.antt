@@ -1,30 +1,31 @@
 -- The walk over bytes that stand for contents finds, at the end of a path, bytes of the row that stand for what the tree holds there;
 -- and it refuses exactly where the tree has no such place, or a null before it. Assumes nothing.
-use mathlib.Core.Path.{_≡_, refl, sym, ap, _∙_, subst}
+use mathlib.Core.Path.{_≡_, refl, sym, ap, _∙_}
 use mathlib.Core.Option.{Option, none, some}
 use mathlib.Core.List.{List, [], _∷_, _++_}
 use Prim.Native.Nat.{ℕ, zero, suc, _+_, _*_, _%_, _^_, _≤_, _<_}
 use native.Mathlib.Nat.{add-zero}
 use native.Mathlib.Omega.{arith}
 use native.Mathlib.Decide.{decLe, decLt, ℕ-discrete}
-use lib.ListN.{length, replicate, set, take, drop, length-append, length-replicate, length-take, length-drop, getD-replicate}
-use lib.Seq.{sets, take-length, take-at, take-append-seam, drop-at, drop-append-add}
-use Rattle.words.specs.Bytes.{le, num, pad, bitmap, part}
+use lib.ListN.{length, replicate, set, take, drop, length-append, length-replicate, getD-replicate}
+use lib.Seq.{sets, length-sets, take-length, take-at, take-append-seam, drop-at, drop-append-add}
+use Rattle.words.specs.Bytes.{le, num, part}
 use Rattle.words.proofs.Numbers.{length-le, num-le}
 use Rattle.words.proofs.Parts.{part-part}
 use Rattle.words.proofs.Runs.{sets-behind, sets-over, sets-whole}
-use Rattle.schema.specs.Types.{Fixed, Text, Ty, fix, text, li, ma, ro, Tys, end, _then_, count, field}
+use Rattle.schema.specs.Types.{Ty, fix, text, li, ma, ro, Tys, end, _then_, count, field}
 use Rattle.layout.specs.Tiles.{total}
 use Rattle.layout.specs.Cells.{Cell, leaf, node, flag, bytes, parts, part as partOf}
-use Rattle.layout.specs.Layout.{Codec, Kid, number, string, kid, slotOf, kidOf, struct, array, pair, list, front, BodyLays, ListLays, limit, codec, kids, Lays}
+use Rattle.layout.specs.Layout.{Codec, number, string, kid, slotOf, struct, array, pair, list, front, limit, codec, kids, Lays}
 use Rattle.layout.specs.Walk.{childTy, Seat, Seen, bad, nullAt, seen, Step, stop, toNull, into, must, own, child, stepIn, goOn, walk}
 use Rattle.layout.proofs.Cells.{parts-node}
-use Rattle.layout.proofs.Kids.{Lawful, LawfulKid, Sized}
-use Rattle.layout.proofs.Children.{AllLawful, all-length, tails-eight}
+use Rattle.layout.proofs.Kids.{Sized}
+use Rattle.layout.proofs.Children.{all-length, tails-eight}
 use Rattle.layout.proofs.Containers.{repeat, body-total, body-take, body-fit, codec-lawful, kids-lawful, element-lawful, child-lawful, list-lawful, kids-count}
 use Rattle.layout.proofs.Steps.{nobody, kidAt}
 use Rattle.layout.proofs.Stepped as Stepped
-use Rattle.layout.proofs.Stepped.{Seated, Held, Comes, Holds, Leafy, child-comes}
+use Rattle.layout.proofs.Stepped.{Comes, child-comes}
+use Rattle.layout.proofs.Aside.{Holds, Aside}
 
 -- ---- headers
 
@@ -88,29 +89,50 @@ kids-at (t then ts) zero h = refl
 kids-at (t then ts) (suc i) h = kids-at ts i (omega arith)
 
 list-comes : (t : Ty) (c : Cell) (i o : ℕ) (b : List ℕ) → Lays (li t) c b → length b < 2 ^ 32 → Comes (li t) t c i o b (child 8 (slotOf (codec t .wide)) (num (take 8 b)) t i o b)
-unfolding codec array
+unfolding codec array stepIn
 list-comes t c i o b y lim =
     let m = length (parts c) in
     let w = slotOf (codec t .wide) in
     let k = kid w (codec t) in
     let cnt : num (take 8 b) ≡ length (replicate m k) = list-says t c b y lim .count ∙ sym (length-replicate m k) in
-    rw cnt (child-comes (li t) t c (le 8 m) (y .rest) b 8 w (replicate m k) i o (y .whole) (length-le 8 m) (repeat w m k (element-lawful t)) (element-lawful t) (array-holds (codec t .wide)) (y .body) lim
-    (λ h. getD-replicate m i k nobody h)
-    (λ cs r′ e _ z. record { rest = r′; plain = rw parts-node; whole = rw (parts-node, e); body = rw (parts-node, e) z }))
+    let small : m < 256 ^ 8 = omega (arith, list-says t c b y lim .room) in
+    rw cnt (child-comes (λ _. t) c (le 8 m) (y .rest) b 8 w (replicate m k) (y .whole) (length-le 8 m) (repeat w m k (element-lawful t)) (λ _. array-holds (codec t .wide)) (y .body) lim
+    (λ j h. getD-replicate m j k nobody h) (li t) i o (element-lawful t)
+    (λ cs r′ e _ z. record { rest = r′; plain = rw parts-node; whole = rw (parts-node, e); body = rw (parts-node, e) z })
+    (λ r′ j z o. rw (head-8 m r′ small, length-replicate)))
 
 struct-comes : (ts : Tys) (c : Cell) (i o : ℕ) (b : List ℕ) → Lays (ro ts) c b → length b < 2 ^ 32 → Comes (ro ts) (field ts i) c i o b (child 0 8 (count ts) (field ts i) i o b)
-unfolding codec struct
+unfolding codec struct stepIn
 struct-comes ts c i o b y lim =
-    let t = field ts i in
-    rw (← (kids-count ts)) (child-comes (ro ts) t c [] b b 0 8 (kids ts) i o refl refl (kids-lawful ts) (child-lawful t) (struct-holds (codec t .wide) (codec t) (codec-lawful t .sized)) (y .body) lim
-    (λ h. kids-at ts i (omega (arith, all-length 8 (kids ts) (parts c) (body-fit 0 8 (kids ts) (kids-lawful ts) (parts c) b (y .body)))))
-    (λ cs r′ e _ z. record { plain = rw parts-node; body = rw parts-node z }))
+    rw (← (kids-count ts)) (child-comes (field ts) c [] b b 0 8 (kids ts) refl refl (kids-lawful ts) (λ j. struct-holds (codec (field ts j) .wide) (codec (field ts j)) (codec-lawful (field ts j) .sized)) (y .body) lim
+    (λ j h. kids-at ts j (omega (arith, all-length 8 (kids ts) (parts c) (body-fit 0 8 (kids ts) (kids-lawful ts) (parts c) b (y .body))))) (ro ts) i o (child-lawful (field ts i))
+    (λ cs r′ e _ z. record { plain = rw parts-node; body = rw parts-node z })
+    (λ r′ j z o. rw (kids-count ts)))
 
 pair-parts : (x a b : Cell) → x ≡ node (a ∷ b ∷ []) → parts x ≡ a ∷ b ∷ []
 pair-parts x a b e = ap parts e ∙ parts-node (a ∷ b ∷ [])
 
+-- bytes that are a map too, with one of the two arrays changed
+keys-aside : (k v : Ty) (c : Cell) (b u p q : List ℕ) → le 8 (length p) ++ (p ++ q) ≡ b → length b < 2 ^ 32 → length u ≡ length p → sets b 8 u ≡ le 8 (length u) ++ (u ++ q) → Aside (ma k v) 0 b (sets b 8 u)
+unfolding stepIn
+keys-aside k v c b u p q e lim n t zero ne z o = absurd (ne refl)
+keys-aside k v c b u p q e lim n t (suc zero) ne z o =
+    let m = map-says c b p q e lim in
+    let m′ = map-says c (sets b 8 u) u q (sym t) (rw length-sets lim) in
+    rw (m .k, m′ .k, m .values, m′ .values, n)
+keys-aside k v c b u p q e lim n t (suc (suc j)) ne z o = refl
+
+values-aside : (k v : Ty) (c : Cell) (b b′ p q u : List ℕ) → le 8 (length p) ++ (p ++ q) ≡ b → length b < 2 ^ 32 → length b′ ≡ length b → le 8 (length p) ++ (p ++ u) ≡ b′ → Aside (ma k v) 1 b b′
+unfolding stepIn
+values-aside k v c b b′ p q u e lim n t zero ne z o =
+    let m = map-says c b p q e lim in
+    let m′ = map-says c b′ p u t (rw n lim) in
+    rw (m .k, m′ .k, m .keys, m′ .keys)
+values-aside k v c b b′ p q u e lim n t (suc zero) ne z o = absurd (ne refl)
+values-aside k v c b b′ p q u e lim n t (suc (suc j)) ne z o = refl
+
 keys-comes : (k v : Ty) (c : Cell) (s : Seat) (o : ℕ) (b : List ℕ) → Lays (ma k v) c b → length b < 2 ^ 32 → Comes (ma k v) (li k) c 0 o b (into (li k) s (o + 8) (part b 8 (num (take 8 b))))
-unfolding codec pair
+unfolding codec pair stepIn
 keys-comes k v c s o b y lim =
     let p = y .keysArray in
     let q = y .valuesArray in
@@ -122,23 +144,29 @@ keys-comes k v c s o b y lim =
       there = m .keys;
       room = omega (arith, m .size);
       put = λ _ x u l n cnt.
-          let t : sets b 8 u ≡ le 8 (length p) ++ (u ++ q) =
-          rw (← (y .whole)) (rw length-le at (sets-behind (le 8 (length p)) (p ++ q) 0 u) ∙ ap (λ (z : List ℕ). le 8 (length p) ++ z) (sets-over p u q n)) in
           let e : node (set (parts c) 0 x) ≡ node (x ∷ partOf 1 c ∷ []) = ap (λ (l : List Cell). node (set l 0 x)) two in
-          rw (e, t) (record {
+          rw (e, over u n) (record {
             keysArray = u;
             valuesArray = q;
             plain = rw parts-node refl;
-            whole = rw n;
+            whole = refl;
             keys = rw parts-node l;
             values = rw parts-node (y .values);
             counts = rw parts-node (cnt ∙ y .counts);
           });
+      put-aside = λ _ u n. keys-aside k v c b u p q (y .whole) lim n (over u n);
+      put-there = λ _ u n z o. (let m′ = map-says c (sets b 8 u) u q (sym (over u n)) (rw length-sets lim) in record { seat = z; was = rw (m .k, m .keys); is = rw (m′ .k, m′ .keys) });
     }) (λ a. absurd a))
+  where
+    over : (u : List ℕ) → length u ≡ length (y .keysArray) → sets b 8 u ≡ le 8 (length u) ++ (u ++ y .valuesArray)
+    over u n =
+        let p = y .keysArray in
+        let q = y .valuesArray in
+        rw (← (y .whole), n) (rw length-le at (sets-behind (le 8 (length p)) (p ++ q) 0 u) ∙ ap (λ (z : List ℕ). le 8 (length p) ++ z) (sets-over p u q n))
 
 values-comes : (k v : Ty) (c : Cell) (s : Seat) (o : ℕ) (b : List ℕ) → Lays (ma k v) c b → length b < 2 ^ 32
     → Comes (ma k v) (li v) c 1 o b (into (li v) s (o + (8 + num (take 8 b))) (drop (8 + num (take 8 b)) b))
-unfolding codec pair
+unfolding codec pair stepIn
 values-comes k v c s o b y lim =
     let p = y .keysArray in
     let q = y .valuesArray in
@@ -150,11 +178,8 @@ values-comes k v c s o b y lim =
       there = rw (m .values) (take-length q);
       room = omega (arith, m .size);
       put = λ _ x u l n cnt.
-          let t : sets b (8 + length p) u ≡ le 8 (length p) ++ (p ++ u) =
-          rw (← (y .whole)) (rw length-le at (sets-behind (le 8 (length p)) (p ++ q) (length p) u)
-          ∙ ap (λ (z : List ℕ). le 8 (length p) ++ z) (ap (λ (j : ℕ). sets (p ++ q) j u) (sym (add-zero (length p))) ∙ sets-behind p q 0 u ∙ ap (λ (z : List ℕ). p ++ z) (sets-whole q u n))) in
           let e : node (set (parts c) 1 x) ≡ node (partOf 0 c ∷ x ∷ []) = ap (λ (l : List Cell). node (set l 1 x)) two in
-          rw (e, t) (record {
+          rw (e, over u n) (record {
             keysArray = p;
             valuesArray = u;
             plain = rw parts-node refl;
@@ -163,7 +188,16 @@ values-comes k v c s o b y lim =
             values = rw parts-node l;
             counts = rw parts-node (y .counts ∙ sym cnt);
           });
+      put-aside = λ _ u n. values-aside k v c b (sets b (8 + length p) u) p q u (y .whole) lim (length-sets b (8 + length p) u) (sym (over u n));
+      put-there = λ _ u n z o. (let m′ = map-says c (sets b (8 + length p) u) p u (sym (over u n)) (rw length-sets lim) in record { seat = z; was = rw (m .k, m .values); is = rw (m′ .k, m′ .values) });
     }) (λ a. absurd a))
+  where
+    over : (u : List ℕ) → length u ≡ length (y .valuesArray) → sets b (8 + length (y .keysArray)) u ≡ le 8 (length (y .keysArray)) ++ (y .keysArray ++ u)
+    over u n =
+        let p = y .keysArray in
+        let q = y .valuesArray in
+        rw (← (y .whole)) (rw length-le at (sets-behind (le 8 (length p)) (p ++ q) (length p) u)
+        ∙ ap (λ (z : List ℕ). le 8 (length p) ++ z) (ap (λ (j : ℕ). sets (p ++ q) j u) (sym (add-zero (length p))) ∙ sets-behind p q 0 u ∙ ap (λ (z : List ℕ). p ++ z) (sets-whole q u n)))
 
 third-comes : (k v : Ty) (c : Cell) (i o : ℕ) (b : List ℕ) → Lays (ma k v) c b → Comes (ma k v) (li v) c (suc (suc i)) o b (stop 5)
 unfolding codec pair

@@ -3,9 +3,11 @@ pub mod Cells
 pub mod Reader
 pub mod Tiles
 pub mod Layout
+pub mod Orders
 pub mod Listing
 pub mod Walk
 pub mod Reading
+pub mod Places
 pub mod Setting
 pub mod Entries
 pub mod Demand

@@ -1,6 +1,7 @@
--- Where the variable values of one container may stand: in field order. No other file knows of an order.
+-- Where the variable values of one container may stand: in any order, none over another. No other file knows of an order.
 -- Assumes nothing: these are definitions.
 use mathlib.Core.Path.{_≡_}
+use mathlib.Core.Logic.{_⊎_, inl, inr}
 use mathlib.Core.List.{List, [], _∷_}
 use Prim.Native.Nat.{ℕ, _+_, _%_, _≤_}
 use native.Mathlib.Decide.{decLe, ℕ-discrete}
@@ -13,16 +14,28 @@ pub record Range : Type 0 where
 abbrev pub range : ℕ → ℕ → Range
 range o n = record { start = o; size = n }
 
+abbrev pub ends : Range → ℕ
+ends r = r .start + r .size
+
 -- the bytes that they take
 unfoldable pub total : List Range → ℕ
 total [] = 0
 total (r ∷ rs) = r .size + total rs
 
--- r may stand in a container whose variable data goes from at to stop, beside its earlier siblings rs, the nearest first: next in order
+-- one ends where the other starts, or before: so an empty one stands on a bound of the other, not inside it
+abbrev pub Apart : Range → Range → Type 0
+Apart r q = (ends r ≤ q .start) ⊎ (ends q ≤ r .start)
+
+abbrev pub Aparts : Range → List Range → Type 0
+Aparts r [] = Unit {0}
+Aparts r (q ∷ qs) = Apart r q × Aparts r qs
+
+-- r may stand in a container whose variable data goes from at to stop, beside its earlier siblings rs: apart from every one of them
 pub record Stands (at stop : ℕ) (rs : List Range) (r : Range) : Type 0 where
-  pub next : r .start ≡ at + total rs
+  pub low : at ≤ r .start
   pub high : r .start + r .size ≤ stop
   pub eight : r .start % 8 ≡ 0
+  pub clear : Aparts r rs
 
 -- ---- the test of it
 
@@ -31,11 +44,26 @@ both? (yes a) (yes b) = yes (a, b)
 both? (yes a) (no n) = no λ p. n (p .1)
 both? (no n) d = no λ p. n (p .0)
 
+unfoldable pub either? : {A B : Type 0} → Dec A → Dec B → Dec (A ⊎ B)
+either? (yes a) d = yes (inl a)
+either? (no n) (yes b) = yes (inr b)
+either? (no n) (no m) = no λ s. neither n m s
+  where
+    neither : {A B : Type 0} → ¬ A → ¬ B → A ⊎ B → ⊥
+    neither n m (inl a) = n a
+    neither n m (inr b) = m b
+
 unfoldable pub change? : {A B : Type 0} → (A → B) → (B → A) → Dec A → Dec B
 change? f g (yes a) = yes (f a)
 change? f g (no n) = no λ b. n (g b)
 
+unfoldable pub aparts? : (r : Range) (qs : List Range) → Dec (Aparts r qs)
+aparts? r [] = yes tt
+aparts? r (q ∷ qs) = both? (either? (decLe (ends r) (q .start)) (decLe (ends q) (r .start))) (aparts? r qs)
+
 unfoldable pub stands? : (at stop : ℕ) (rs : List Range) (r : Range) → Dec (Stands at stop rs r)
-unfolding both? change?
-stands? at stop rs r = change? (λ p. record { next = p .0; high = p .1 .0; eight = p .1 .1 }) (λ s. (s .next, (s .high, s .eight)))
-    (both? (ℕ-discrete (r .start) (at + total rs)) (both? (decLe (r .start + r .size) stop) (ℕ-discrete (r .start % 8) 0)))
+unfolding both? aparts? change?
+stands? at stop rs r = change?
+    (λ p. record { low = p .0 .0; high = p .0 .1; eight = p .1 .0; clear = p .1 .1 })
+    (λ s. ((s .low, s .high), (s .eight, s .clear)))
+    (both? (both? (decLe at (r .start)) (decLe (r .start + r .size) stop)) (both? (ℕ-discrete (r .start % 8) 0) (aparts? r rs)))

@@ -1,40 +1,41 @@
 -- Demand 2 holds of every accepted schema. Assumes nothing.
 use mathlib.Core.Path.{_≡_, refl, sym, ap, _∙_, subst}
 use mathlib.Core.Bool.{Bool, true, false}
-use mathlib.Core.Logic.{_↔_}
 use mathlib.Core.Option.{Option, none, some, Option·some-injective, Option·none-ne-some}
 use mathlib.Core.List.{List, [], _∷_}
-use Prim.Native.Nat.{ℕ, zero, suc, _+_, _*_, _^_, _≤_, _<_}
+use Prim.Native.Nat.{ℕ, zero, suc, _*_, _^_, _≤_, _<_}
 use native.Mathlib.Decide.{decLe, decLt}
 use native.Mathlib.Omega.{arith}
 use lib.ListN.{length, take}
 use lib.Seq.{take-length}
 use borrow.Author.Tests.{le-leb, leb-true}
 use lib.Dec.{leb}
-use Rattle.words.specs.Bytes.{Bytes, num, part}
-use Rattle.schema.specs.Types.{Fixed, Text, Ty, fix, text, li, ma, ro, Tys, end, _then_, count, field}
+use Rattle.words.specs.Bytes.{Bytes}
+use Rattle.schema.specs.Types.{Ty, fix, text, li, ma, ro, Tys, end, _then_, count}
 use Rattle.schema.specs.Reading.{judged}
 use Rattle.schema.specs.Walk.{fieldsOf}
-use Rattle.schema.specs.declared.Judged.{Judged}
-use Rattle.schema.specs.declared.Judged.the-variants.{Accepted, Refused}
+use Rattle.schema.specs.declared.Judged.the-variants.{Accepted}
 use Rattle.schema.proofs.Judging.{accepted-root}
 use Rattle.layout.specs.Reader.{_>>=_, _>>_, assert}
-use Rattle.layout.specs.Cells.{Cell, leaf, flag, bytes, parts, part as partOf, clean}
+use Rattle.layout.specs.Cells.{Cell, leaf, node, bytes, parts, part as partOf, clean}
 use Rattle.layout.specs.Layout.{number, string, codec, Fits, content, Lays, decode}
 use Rattle.layout.specs.Listing.{listing, parse}
+use Rattle.layout.specs.Orders.{Order, Value, owns, Slots, StructInOrder, InOrder, children}
+use Rattle.layout.specs.Places.{starts, SamePlaces}
 use Rattle.layout.specs.Reading as R
-use Rattle.layout.specs.Reading.{Answer, valueOf, typeAt, placed, answerOf, found, readIn}
+use Rattle.layout.specs.Reading.{valueOf, typeAt, placed, answerOf, found, readIn}
 use Rattle.layout.specs.Setting.{isSome, _or_, unless}
-use Rattle.layout.specs.Entries.{Verdict, verdict, done, refused, checkOf, imageOf, listingOf, schemaBad, rowLong, layoutBad, isAccepted}
-use Rattle.layout.proofs.Cells.{leaf-bytes}
+use Rattle.layout.specs.Entries.{verdict, done, refused, checkOf, imageOf, listingOf}
+use Rattle.layout.proofs.Cells.{parts-node}
 use Rattle.layout.proofs.Reader.{assert-yes}
-use Rattle.layout.proofs.Containers.{decode-lays, lays-decode, lays-fits, lays-size, decode-content, clean-fits}
+use Rattle.layout.proofs.Containers.{decode-lays, lays-decode, lays-content, lays-fits, lays-size, decode-content, clean-fits}
 use Rattle.layout.proofs.Listed.{parse-listing, listing-parse, listing-clean, listing-short}
-use Rattle.layout.proofs.Exact.{content-lays}
+use Rattle.layout.proofs.AnyOrder.{any-order, every-order}
+use Rattle.layout.proofs.Single.{single}
 use Rattle.layout.proofs.Walked as Walked
-use Rattle.layout.specs.Walk.{Seat, Seen, bad, nullAt, seen, rootSeat, walk, childTy}
+use Rattle.layout.specs.Walk.{Seat, Seen, seen, rootSeat, walk, childTy}
 use Rattle.layout.proofs.Walked.{Sits, Finds, walk-finds, list-says}
-use Rattle.row.specs.Demand2.{Image, HasListing, ListThenWrite, WriteThenList, Shows, ReadsAs, Demand2}
+use Rattle.row.specs.Demand2.{Image, ImageInOrder, HasListing, ListThenWrite, WriteThenList, Shows, ReadsAs, Demand2}
 use Rattle.row.specs.Demand2 as D
 
 -- ---- what an accepted check says
@@ -89,6 +90,8 @@ module _ (s : List ℕ) (a : judged s ≡ Accepted) where
       let l = listing (ro ts) c in
       let sh : length l ≤ 3 * length row = rw z (root-short ts c (accepted-root s a .low) f) in
       let p : parse (ro ts) l ≡ some (clean c) = parse-listing (ro ts) c f (omega arith) in
+      let z₀ : length (content (ro ts) (clean c)) ≡ length row = clean-fits (ro ts) c f .size ∙ sym z in
+      let d₀ : decode (ro ts) (content (ro ts) (clean c)) ≡ some (clean c) = decode-content (ro ts) (clean c) (clean-fits (ro ts) c f .fits) (omega arith) in
       record {
         contents = c;
         reads = d;
@@ -98,9 +101,49 @@ module _ (s : List ℕ) (a : judged s ≡ Accepted) where
         row₀ = content (ro ts) (clean c);
         writes = image-is s l (clean c) (omega arith) p;
         is = refl;
-        same = λ e. ap (content (ro ts)) e ∙ content-lays (ro ts) c row y;
-        long = clean-fits (ro ts) c f .size ∙ sym z;
+        long = z₀;
+        accepted = checks s (content (ro ts) (clean c)) (clean c) a (omega arith) d₀;
+        again = rw (d₀, listing-clean (ro ts) c);
+        same = (
+          λ o. sym (single (ro ts) c row (content (ro ts) c) rootSeat 0 y (lays-content (ro ts) c f) (omega arith) o),
+          λ e p u k. ap (λ (b : List ℕ). starts u (walk p (ro ts) rootSeat 0 b)) (sym e),
+        );
       }
+
+  -- the root's layout, and its values in some order
+  lays-ordered : (c : Cell) (row : List ℕ) → Lays (ro ts) c row → StructInOrder (children ts) c row
+  unfolding InOrder
+  lays-ordered c row y = any-order (ro ts) c row .0 y
+
+  ordered-lays : (c : Cell) (row : List ℕ) → StructInOrder (children ts) c row → Lays (ro ts) c row
+  unfolding InOrder
+  ordered-lays c row y = any-order (ro ts) c row .1 y
+
+  every-image : (l : List ℕ) (cs : List Cell) (slots : List ℕ) (vs : List Value) → Slots 8 (children ts) cs slots [] vs
+      → imageOf s l ≡ some (content (ro ts) (clean (node cs))) → (us : List (List ℕ)) (o : Order (owns vs) us) → ImageInOrder s l o
+  every-image l cs slots vs y e us o =
+      let r = every-order 0 8 (children ts) cs slots vs y us o in
+      let p = parts-node cs in
+      let b = r .body in
+      record {
+        row = r .bytes;
+        image = record {
+          contents = node cs;
+          stands = record {
+            plain = rw p;
+            body = record { slots = b .slots; values = b .values; order = b .order; children = rw p (b .children); same = b .same; placed = b .placed; whole = rw p (b .whole) };
+          };
+          writes = e;
+        };
+        values = r .values;
+        placed = r .so;
+      }
+
+  one-image : (l row row′ : List ℕ) (i : Image s l row) (i′ : Image s l row′) → length row ≤ 16384 → i .contents ≡ i′ .contents → SamePlaces (ro ts) row row′ → row ≡ row′
+  one-image l row row′ i i′ h e p =
+      let y = ordered-lays (i .contents) row (i .stands) in
+      let y′ = ordered-lays (i′ .contents) row′ (i′ .stands) in
+      single (ro ts) (i .contents) row row′ rootSeat 0 y (subst (λ (c : Cell). Lays (ro ts) c row′) (sym e) y′) (omega arith) p
 
   -- what an image comes from
   record From (l row : List ℕ) : Type 0 where
@@ -128,10 +171,10 @@ module _ (s : List ℕ) (a : judged s ≡ Accepted) where
   has-listing row hb e =
       let k = checked s row a e in
       let z = relisted row hb (k .short) (k .contents) (k .reads) in
-      record { listed = z .listed; image = record { contents = z .contents; lays = lays-decode (ro ts) row (z .contents) hb (z .reads); writes = z .writes ∙ ap some (z .is) } }
+      record { listed = z .listed; image = record { contents = z .contents; stands = lays-ordered (z .contents) row (lays-decode (ro ts) row (z .contents) hb (z .reads)); writes = z .writes ∙ ap some (z .is) } }
 
   is-accepted : (row : List ℕ) → length row ≤ 16384 → HasListing s row → checkOf s row ≡ done
-  is-accepted row h x = checks s row (x .image .contents) a h (decode-lays (ro ts) (x .image .contents) row (x .image .lays) (omega arith))
+  is-accepted row h x = checks s row (x .image .contents) a h (decode-lays (ro ts) (x .image .contents) row (ordered-lays (x .image .contents) row (x .image .stands)) (omega arith))
 
 -- ---- a place reads as the listing holds it
 
@@ -172,6 +215,8 @@ module _ (row : List ℕ) where
 pub demand2 : (s : List ℕ) → judged s ≡ Accepted → Demand2 s
 demand2 s a = record {
   accepted = λ row hb h. (has-listing s a row hb, is-accepted s a row h);
+  every = λ l cs slots vs y e us o. every-image s a l cs slots vs y e us o;
+  one = λ l row row′ i i′ h e p. one-image s a l row row′ i i′ h e p;
   list-write = λ row hb e. (let k = checked s row a e in relisted s a row hb (k .short) (k .contents) (k .reads));
   write-list = λ l row hb e h. relists s a l row hb e h;
   reads = λ row c hb h d p t e. reads-as row (fieldsOf s) c hb h d p t e;

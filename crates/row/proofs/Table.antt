@@ -8,7 +8,7 @@ use Rattle.schema.specs.Types.{fixedPlace, textPlace, fixedAt, textAt, place, w
 use Rattle.schema.specs.Reading.{parseAll, parseRo, parseKind, parse as parseTy, judged}
 use Rattle.schema.specs.Walk.{typeAt as tyAt, fieldsOf}
 use Rattle.layout.specs.Reader.{assert, cut}
-use Rattle.layout.specs.Tiles.{total, both?, change?, stands?}
+use Rattle.layout.specs.Tiles.{total, both?, either?, change?, aparts?, stands?}
 use Rattle.layout.specs.Cells.{fromCells, toCells, onNull, bytes, parts}
 use Rattle.layout.specs.Layout.{number, string, inside, outside, kidOf, slotOf, kidGet, flags, slots, tails, reads, bodyPut, bodyGet, struct, array, pair, limit, codec}
 use Rattle.layout.specs.Listing.{numberScript, textScript, marked, nullOr, item, runPut, runGet, structScript, listScript, mapScript, script, listing, parse}
@@ -21,7 +21,7 @@ use Rattle.row.specs.Table.{Table}
 -- to unfold this is to unfold the definitions
 computes : Unit {0}
 unfolding le num fill types markAt find placeOf kindOf placedKind headKind kindAt fixedPlace textPlace fixedAt textAt place width mark count field
-    parseAll parseRo parseKind parseTy judged tyAt fieldsOf assert cut total both? change? stands? fromCells toCells onNull bytes parts
+    parseAll parseRo parseKind parseTy judged tyAt fieldsOf assert cut total both? either? change? aparts? stands? fromCells toCells onNull bytes parts
     number string inside outside kidOf slotOf kidGet flags slots tails reads bodyPut bodyGet struct array pair limit codec
     numberScript textScript marked nullOr item runPut runGet structScript listScript mapScript script listing parse
     must mustStep own bySlot byFlag child stepIn goOn walk typeAt placed valueOf answerOf found readIn
@@ -46,4 +46,8 @@ table = record {
   l = refl;
   m = (refl, refl, refl);
   n = (record { writes = refl; written = refl; checks = refl; lists = refl; listed = refl }, refl);
+  any-order = (refl, refl, refl, refl);
+  overlaps = (refl, refl, refl);
+  gaps = (refl, refl);
+  empties = (refl, refl, refl, refl, refl, refl);
 }

@@ -2,33 +2,42 @@
 -- Assumes nothing: these are definitions.
 use mathlib.Core.Path.{_≡_}
 use mathlib.Core.Logic.{_↔_}
-use mathlib.Core.Option.{Option, none, some}
+use mathlib.Core.Option.{some}
 use mathlib.Core.List.{List, [], _∷_}
-use Prim.Native.Nat.{ℕ, zero, suc, _*_, _≤_, _<_}
+use Prim.Native.Nat.{ℕ, _*_, _≤_, _<_}
 use lib.ListN.{length}
 use Rattle.words.specs.Bytes.{Bytes, part}
 use Rattle.schema.specs.Types.{Fixed, Text, Ty, fix, text, li, ma, ro, Tys, count}
 use Rattle.schema.specs.Walk.{fieldsOf}
-use Rattle.layout.specs.Cells.{Cell, leaf, flag, parts, part as partOf, clean}
+use Rattle.layout.specs.Cells.{Cell, leaf, node, flag, parts, part as partOf, clean}
 use Rattle.layout.specs.Layout.{content, Lays, decode}
-use Rattle.layout.specs.Listing.{listing}
+use Rattle.layout.specs.Orders.{Order, which, Value, owns, Slots, StructInOrder, children}
+use Rattle.layout.specs.Places.{SamePlaces, FieldOrder}
 use Rattle.layout.specs.Reading as R
 use Rattle.layout.specs.Reading.{Answer, valueOf, placed, readIn}
 use Rattle.layout.specs.Entries.{done, checkOf, imageOf, listingOf}
 use Rattle.layout.specs.Walk.{childTy}
 
--- the listing l has the row as its image, bytes under nulls apart: the row stands for contents that, with zeros under their nulls, are
--- what writing the listing lays down
+-- The listing l has the row as one of its images, bytes under nulls apart: placing the present values of every container in some order,
+-- one after another, with no gap, gives the row, for contents that, with zeros under their nulls, are what writing the listing lays down.
 pub record Image (s l row : List ℕ) : Type 0 where
   pub contents : Cell
-  pub lays : Lays (ro (fieldsOf s)) contents row
+  pub stands : StructInOrder (children (fieldsOf s)) contents row
   pub writes : imageOf s l ≡ some (content (ro (fieldsOf s)) (clean contents))
+
+-- one of them in which the root's values have the bytes us, child by child, and were placed in the order o
+pub record ImageInOrder (s l : List ℕ) {us ws : List (List ℕ)} (o : Order us ws) : Type 0 where
+  pub row : List ℕ
+  pub image : Image s l row
+  pub values : owns (image .stands .body .values) ≡ us
+  pub placed : which (image .stands .body .same) ≡ which o
 
 pub record HasListing (s row : List ℕ) : Type 0 where
   pub listed : List ℕ
   pub image : Image s listed row
 
--- an accepted row listed, and its listing written: the row again, with zeros under its nulls; the listing is within its limit
+-- An accepted row listed, and its listing written: a row as long, with zeros under its nulls, that lists the same. A row in field order,
+-- and no other, is what its contents lay down, so that it is the row again, those bytes zero. The listing is within its limit.
 pub record ListThenWrite (s row : List ℕ) : Type 0 where
   pub contents : Cell
   pub reads : decode (ro (fieldsOf s)) row ≡ some contents
@@ -38,8 +47,10 @@ pub record ListThenWrite (s row : List ℕ) : Type 0 where
   pub row₀ : List ℕ
   pub writes : imageOf s listed ≡ some row₀
   pub is : row₀ ≡ content (ro (fieldsOf s)) (clean contents)
-  pub same : clean contents ≡ contents → row₀ ≡ row
   pub long : length row₀ ≡ length row
+  pub accepted : checkOf s row₀ ≡ done
+  pub again : listingOf s row₀ ≡ some listed
+  pub same : FieldOrder (ro (fieldsOf s)) contents row ↔ (content (ro (fieldsOf s)) contents ≡ row)
 
 -- a listing written, and its row listed: the listing again
 pub record WriteThenList (s l row : List ℕ) : Type 0 where
@@ -63,9 +74,16 @@ pub data ReadsAs (row : List ℕ) : List ℕ → Ty → Cell → Answer → Type
   on : {i : ℕ} {p : List ℕ} {t : Ty} {c : Cell} {a : Answer} → i < length (parts c) → flag (partOf i c) ≡ 0 → ReadsAs row p (childTy t i) (partOf i c) a → ReadsAs row (i ∷ p) t c a
 
 pub record Demand2 (s : List ℕ) : Type 0 where
-  -- a row within the limit is accepted exactly when some listing has it as its image, bytes under nulls apart
+  -- a row within the limit is accepted exactly when some listing has it as an image, bytes under nulls apart
   pub accepted : (row : List ℕ) → Bytes row → length row ≤ 16384 → (checkOf s row ≡ done) ↔ HasListing s row
-  -- list then write gives the row again, those bytes zero
+  -- every order has its image: whatever bytes stand for the values of the root's children cs, and in whatever order o they are placed
+  pub every : (l : List ℕ) (cs : List Cell) (slots : List ℕ) (vs : List Value) → Slots 8 (children (fieldsOf s)) cs slots [] vs
+      → imageOf s l ≡ some (content (ro (fieldsOf s)) (clean (node cs))) → (us : List (List ℕ)) (o : Order (owns vs) us)
+      → ImageInOrder s l o
+  -- and one: contents, and where the values start, leave one row
+  pub one : (l row row′ : List ℕ) (i : Image s l row) (i′ : Image s l row′) → length row ≤ 16384 → i .contents ≡ i′ .contents
+      → SamePlaces (ro (fieldsOf s)) row row′ → row ≡ row′
+  -- list then write gives the row again where it is in field order, those bytes zero, and elsewhere a row that lists the same
   pub list-write : (row : List ℕ) → Bytes row → checkOf s row ≡ done → ListThenWrite s row
   -- where a write is accepted, write then list gives the listing again
   pub write-list : (l row : List ℕ) → Bytes l → imageOf s l ≡ some row → length row ≤ 16384 → WriteThenList s l row

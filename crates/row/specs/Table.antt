@@ -1,4 +1,4 @@
--- The table to prove: cases A to N of document 01 at the entries, one statement. Assumes nothing: these are definitions.
+-- The table to prove: cases A to N of document 01, and those of any order, at the entries, one statement. Assumes nothing: these are definitions.
 use mathlib.Core.Path.{_≡_}
 use mathlib.Core.List.{List, [], _∷_, _++_}
 use Prim.Native.Nat.{ℕ, zero, suc}
@@ -77,6 +77,9 @@ map = ro (1 ∷ ma (i8 [] ++ i8 []))
 abbrev nested : List ℕ
 nested = ro (1 ∷ ro (2 ∷ (i8 [] ++ f8 [])))
 
+abbrev strokes : List ℕ
+strokes = ro (2 ∷ (ro (1 ∷ i4 []) ++ ro (1 ∷ i4 [])))
+
 abbrev bools : ℕ → List ℕ
 bools n = ro (n ∷ times n bo)
 
@@ -124,6 +127,14 @@ G = zeros 8 ++ slot 16 24 ++ (zeros 8 ++ in8 9 ++ one)
 abbrev STK-PWR : List ℕ
 STK-PWR = zeros 8 ++ slot 24 3 ++ slot 32 3 ++ (STK ++ zeros 5) ++ (PWR ++ zeros 5)
 
+-- a row of two varying fields by their slots and variable data
+abbrev two : List ℕ → List ℕ → List ℕ → List ℕ
+two first second d = zeros 8 ++ first ++ second ++ d
+
+-- the same two strings, the second in front
+abbrev turned : List ℕ
+turned = two (slot 32 3) (slot 24 3) ((PWR ++ zeros 5) ++ (STK ++ zeros 5))
+
 -- C with offset FFFFFFF8 and size 16
 abbrev J : List ℕ
 J = zeros 8 ++ (in4 16 ++ (0xf8 ∷ 0xff ∷ 0xff ∷ 0xff ∷ [])) ++ (STK ++ zeros 5)
@@ -159,3 +170,19 @@ pub record Table : Type 0 where
   pub l : setOf numbers A (0 ∷ []) S.null ≡ becomes (in8 1 ++ zeros 8 ++ in8 1)
   pub m : (setOf string C (0 ∷ []) (S.bytes TPH) ≡ becomes (zeros 8 ++ slot 16 3 ++ (TPH ++ zeros 5))) × (setOf string C (0 ∷ []) (S.bytes (take 2 TPH)) ≡ refuses 9) × (setOf string C (0 ∷ []) S.null ≡ refuses 9)
   pub n : Stands bytelist (ro (li (in4 0))) N × (length N ≡ 24)
+  -- strings in another order than their fields: accepted, listed as in field order, read and set where they stand
+  pub any-order : (checkOf strings turned ≡ done) × (listedOf strings turned (zeros 20) ≡ ro (st (in4 3 ++ STK) ++ st (in4 3 ++ PWR)))
+      × (readOf strings turned (0 ∷ []) ≡ R.bytes 32 3)
+      × (setOf strings turned (0 ∷ []) (S.bytes TPH) ≡ becomes (two (slot 32 3) (slot 24 3) ((PWR ++ zeros 5) ++ (TPH ++ zeros 5))))
+  -- two slots at one nested stroke; a string that starts inside another, and one over another's last 8 bytes
+  pub overlaps : (checkOf strokes (two (slot 24 16) (slot 24 16) (zeros 8 ++ in8 7)) ≡ refused 7)
+      × (checkOf strings (two (slot 24 16) (slot 32 16) (zeros 24)) ≡ refused 7) × (checkOf strings (two (slot 32 8) (slot 24 16) (zeros 16)) ≡ refused 7)
+  -- 8 bytes over at the end, or between the two
+  pub gaps : (checkOf strings (turned ++ zeros 8) ≡ refused 7)
+      × (checkOf strings (two (slot 40 3) (slot 24 3) ((PWR ++ zeros 5) ++ zeros 8 ++ (STK ++ zeros 5))) ≡ refused 7)
+  -- an empty string where the other starts, and where it ends; inside it, before the variable data and past the end
+  pub empties : (checkOf strings (two (slot 24 0) (slot 24 3) (STK ++ zeros 5)) ≡ done)
+      × (checkOf strings (two (slot 32 0) (slot 24 3) (STK ++ zeros 5)) ≡ done)
+      × (checkOf strings (two (slot 32 0) (slot 24 16) (zeros 16)) ≡ refused 7) × (checkOf strings (two (slot 24 16) (slot 32 0) (zeros 16)) ≡ refused 7)
+      × (checkOf strings (two (slot 16 0) (slot 24 3) (STK ++ zeros 5)) ≡ refused 7)
+      × (checkOf strings (two (slot 40 0) (slot 24 3) (STK ++ zeros 5)) ≡ refused 7)

@@ -6,7 +6,7 @@ use borrow.Author.Tests.{not-true, not-false}
 use Rattle.words.proofs.Numbers.{bytes-of}
 use Rattle.layout.specs.Layout.{string}
 use Rattle.checking.specs.Room.{texts}
-use Rattle.checking.proofs.Loops.{At, at-start, at-end, slot-room, bit-room, at-null, at-off, at-long, at-unpadded, at-next}
+use Rattle.checking.proofs.Loops.{At, at-start, at-end, slot-room, bit-room, at-null, at-long, at-unpadded, at-next}
 use Rattle.checking.proofs.Leaves.{texts-slots, text-kid, text-fine}
 use Rattle.checking.proofs.lists.full_texts.Statement.{statement}
 use Rattle.checking.proofs.lists.full_texts.Tie as tie
@@ -26,8 +26,11 @@ get8-requires c κs = let A = c .before .before .before .args in let B = c .befo
 slot-offset-requires : tie.Need-slot-offset-requires Inv-loop μ-loop
 slot-offset-requires c κs = tt
 
+any-texts-requires : tie.Need-any-texts-requires Inv-loop μ-loop
+any-texts-requires c κs = c .before .before .before .before .before .before .pre .0
+
 returns : tie.Need-returns Inv-loop μ-loop
-returns c = let A = c .before .before .before .before .before .before .args in let B = c .before .before .before .before .before .before .args .b .now in let D = texts-slots B (A .n) (A .slots) (A .start) (c .before .before .before .before .before .before .pre .0) (bytes-of B (λ i. c .before .before .before .before .before .shared-slice-known .given i .fits)) in at-off 8 (texts (A .n)) B (A .n) (A .slots) (A .start) D (c .before .before .before .before .loop .i) (c .before .before .before .before .loop .slot) (c .before .before .before .before .loop .cur) (c .before .before .before .before .loop .inv) (c .before .before .before .loop-test .taken) string (text-kid (A .n) (c .before .before .before .before .loop .i) (c .before .before .before .loop-test .taken)) (c .before .before .before .before .before .before .pre .1 .none (c .before .before .before .before .loop .i) (c .before .before .before .loop-test .taken)) (c .before .before .get8 .result) (c .before .before .get8 .ensures) (c .before .slot-offset .result) (c .before .slot-offset .ensures) (c .if1 .taken)
+returns c = c .any-texts .ensures
 
 slot-size-requires : tie.Need-slot-size-requires Inv-loop μ-loop
 slot-size-requires c κs = tt
@@ -71,6 +74,7 @@ full-texts-spec =
     loop-holds
     get8-requires
     slot-offset-requires
+    any-texts-requires
     returns
     slot-size-requires
     add-end

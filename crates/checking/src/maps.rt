@@ -1,0 +1,75 @@
+// Which units of 8 bytes of a container's variable data are taken, where values stand in any order: three bitmaps in 792 bytes. From
+// byte 0 on the units that are covered, from byte 264 on the units' starts that lie inside a value, from byte 528 on those at which an
+// empty value stands.
+ghost use mathlib.Core.Path.{_≡_};
+ghost use Prim.Native.Nat.{_+_, _-_, _≤_, _<_};
+ghost use lib.ListN.{length};
+ghost use Rattle.checking.specs.Maps.{clearFrom, marked, admits, admitted, places, placed};
+
+// No bit from a up to b is set.
+fn clear(m: &[u8], at: usize, a: usize, b: usize) -> bool
+    requires { ⌜ (a ≤ b) × (b ≤ 2048) × (at + 257 ≤ length (now m)) × (at ≤ 528) ⌝ }
+    ensures { λ r. ⌜ r ≡ clearFrom (now (m .entry)) at a (b - a) ⌝ }
+{
+    let mut q = a;
+    while q < b {
+        if words::nulls::is_null(m, at, q) {
+            return false;
+        }
+        q += 1;
+    }
+    true
+}
+
+// The bits from a up to b are set.
+fn mark(m: &mut [u8], at: usize, a: usize, b: usize)
+    requires { ⌜ (a ≤ b) × (b ≤ 2048) × (at + 257 ≤ length (now m)) × (at ≤ 528) ⌝ }
+    ensures { λ _. ⌜ now (m .exit) ≡ marked (now (m .entry)) at a (b - a) ⌝ }
+{
+    let mut q = a;
+    while q < b {
+        words::nulls::set_null(m, at, q);
+        q += 1;
+    }
+}
+
+// A value that takes the units from a up to b stands apart from those that were admitted, and is then admitted too.
+fn admit(m: &mut [u8], a: usize, b: usize) -> bool
+    requires { ⌜ (a ≤ b) × (b ≤ 2048) × (length (now m) ≡ 792) ⌝ }
+    ensures { λ r. ⌜ (r ≡ admits (now (m .entry)) a b) × (now (m .exit) ≡ admitted (now (m .entry)) a b r) ⌝ }
+{
+    if a == b {
+        if words::nulls::is_null(m, 264, a) {
+            return false;
+        }
+        words::nulls::set_null(m, 528, a);
+        return true;
+    }
+    if !clear(m, 0, a, b) {
+        return false;
+    }
+    if !clear(m, 528, a + 1, b) {
+        return false;
+    }
+    mark(m, 0, a, b);
+    mark(m, 264, a + 1, b);
+    true
+}
+
+// A value whose offset is `from`, and which ends, padded, before `next`, may stand in a container of `len` bytes with the variable data
+// from `start` on: alone, and beside those that were placed before.
+pub fn place(m: &mut [u8], start: usize, len: usize, from: usize, next: usize) -> bool
+    requires { ⌜ (from ≤ next) × (len ≤ 16384) × (length (now m) ≡ 792) ⌝ }
+    ensures { λ r. ⌜ (r ≡ places (now (m .entry)) start len from next) × (now (m .exit) ≡ placed (now (m .entry)) from next r) ⌝ }
+{
+    if from < start {
+        return false;
+    }
+    if from & 7 != 0 {
+        return false;
+    }
+    if len < next {
+        return false;
+    }
+    admit(m, from >> 3, next >> 3)
+}
