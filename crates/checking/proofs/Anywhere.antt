@@ -1,40 +1,38 @@
 -- A loop over children whose values stand in any order: its invariant, and one law for each way through its body. Assumes nothing.
 use mathlib.Core.Path.{_≡_, refl, sym, ap, _∙_, subst}
-use mathlib.Core.Bool.{Bool, true, false}
+use mathlib.Core.Bool.{Bool, true, false, not}
+use mathlib.Core.Option.{none}
 use mathlib.Core.List.{List, [], _∷_}
-use Prim.Native.Nat.{ℕ, suc, _+_, _*_, _-_, _/_, _%_, _^_, _≤_, _<_}
+use Prim.Native.Nat.{ℕ, _+_, _*_, _-_, _/_, _%_, _^_, _≤_, _<_}
 use native.Mathlib.Omega.{arith}
+use mir.Val.{Fits}
+use mir.Syntax.{w64}
 use lib.Dec.{eqb}
-use lib.ListN.{length}
+use lib.ListN.{length, length-take, length-drop}
+use borrow.Author.Tests.{not-true, not-false}
 use Rattle.words.specs.Bytes.{num, zeros, pad, bitmap, part}
 use Rattle.words.specs.Bits.{bit}
 use Rattle.words.specs.Reads.{Reads}
+use Rattle.schema.specs.Types.{Ty}
 use Rattle.layout.specs.Tiles.{Range, range, total, Stands}
-use Rattle.layout.specs.Layout.{Codec, Kid, outside, front}
-use Rattle.layout.specs.Setting.{isSome}
+use Rattle.layout.specs.Layout.{Kid, outside, front, codec}
 use Rattle.layout.proofs.Steps.{kidAt}
 use Rattle.layout.proofs.Units.{AllEven}
-use Rattle.checking.specs.Sound.{goodFrom, both}
-use Rattle.checking.specs.Maps.{taken, admitted, places, placed}
+use Rattle.checking.specs.Sound.{sound, goodFrom, both}
+use Rattle.checking.specs.Maps.{admitted, places, placed}
+use Rattle.checking.specs.Room.{Known}
 use Rattle.checking.proofs.Marks.{Beside, Refused, below, odd, beyond, meets, places-yes, places-no}
 use Rattle.checking.proofs.Tests.{both-false}
 use Rattle.checking.proofs.Children.{good-end, good-null, good-off, good-outside}
 use Rattle.checking.proofs.Loops.{Slots}
 use Rattle.checking.proofs.Shows.{Shows, shows-start, admit-apart, admit-meets, shows-more}
+use Rattle.checking.proofs.Knowing.{known-at, known-padded}
 
--- ---- room for the numbers that code makes
-
-pub sum-room : (sum next o : ℕ) {len : ℕ} → sum ≤ 16384 + 16384 * 2048 → next ≤ len → len ≤ 16384 → sum + (next - o) < 2 ^ 64
-sum-room sum next o h k l = omega arith
-
-pub pad-eight : (start o stop next z : ℕ) → 8 ≤ start → start ≤ o → next ≡ pad stop → stop ≡ o + z → 8 ≤ next
-pad-eight start o stop next z h k e f = omega arith
-
-pub stop-in : (stop next len : ℕ) → next ≡ pad stop → next ≤ len → stop ≤ len
-stop-in stop next len e h = omega arith
-
--- before child i: the maps show the ranges of the children before it, which take sum - start bytes, and what is left leads to the same end
-pub record AnyAt (h : ℕ) (ks : List Kid) (b : List ℕ) (n slots start i slot sum : ℕ) (m : List ℕ) : Type 0 where
+-- Before child i, of the type F i: the maps show the ranges of the children before it, which take sum - start bytes, and what is left leads
+-- to the same end. The children before number known were judged before.
+pub record AnyAt (h : ℕ) (F : ℕ → Ty) (ks : List Kid) (b : List ℕ) (n known slots start i slot sum : ℕ) (m : List ℕ) : Type 0 where
+  pub fixed : Slots h ks b n slots start
+  pub judged : Known h F b n known
   pub most : i ≤ n
   pub slot-is : slot ≡ slots + 8 * i
   pub ranges : List Range
@@ -44,128 +42,268 @@ pub record AnyAt (h : ℕ) (ks : List Kid) (b : List ℕ) (n slots start i slot 
   pub few : sum ≤ start + 16384 * i
   pub same : goodFrom h 8 ks b i ranges ≡ goodFrom h 8 ks b 0 []
 
-module _ (h : ℕ) (ks : List Kid) (b : List ℕ) (n slots start : ℕ) (d : Slots h ks b n slots start) where
+-- child i is there and varies, and its slot says z bytes at o, which end, padded, before next
+pub record Told {h : ℕ} {F : ℕ → Ty} {ks : List Kid} {b : List ℕ} {n known slots start i slot sum : ℕ} {m : List ℕ}
+    (a : AnyAt h F ks b n known slots start i slot sum m) (o z next : ℕ) : Type 1 where
+  pub less : i < n
+  pub kid : kidAt ks i ≡ outside (codec (F i))
+  pub varies : codec (F i) .wide ≡ none
+  pub here : bit b h i ≡ false
+  pub number : ℕ
+  pub reads : Reads b slot 8 number
+  pub from : o ≡ number / 2 ^ 32
+  pub size : z ≡ number % 2 ^ 32
+  pub to : next ≡ pad (o + z)
+
+-- it may stand there, and the maps m′ show it too
+pub record Stood {h : ℕ} {F : ℕ → Ty} {ks : List Kid} {b : List ℕ} {n known slots start i slot sum : ℕ} {m : List ℕ}
+    {a : AnyAt h F ks b n known slots start i slot sum m} {o z next : ℕ} (t : Told a o z next) (m′ : List ℕ) : Type 1 where
+  pub beside : Beside m start (length b) o next
+  pub maps : m′ ≡ placed m o next true
+
+-- ---- what a test that code made says
+
+pub passed : {r t : Bool} → r ≡ t → not r ≡ false → t ≡ true
+passed e q = sym e ∙ not-false _ q
+
+pub failed : {r t : Bool} → r ≡ t → not r ≡ true → t ≡ false
+failed e q = sym e ∙ not-true _ q
+
+-- ---- where a slot says that its value stops
+
+pub slot-end : {b : List ℕ} {slot x o z : ℕ} → Reads b slot 8 x → o ≡ x / 2 ^ 32 → z ≡ x % 2 ^ 32 → o + z < 2 ^ 40
+slot-end r eo ez = omega (arith, r .below)
+
+pub stop-fits : {b : List ℕ} {slot x o z : ℕ} → Reads b slot 8 x → o ≡ x / 2 ^ 32 → z ≡ x % 2 ^ 32 → Fits w64 (o + z)
+stop-fits r eo ez = omega (arith, r .below)
+
+-- ---- before a child
+
+pub any-start : {h : ℕ} {F : ℕ → Ty} {ks : List Kid} {b : List ℕ} {n known slots start : ℕ} → Slots h ks b n slots start → Known h F b n known
+    → AnyAt h F ks b n known slots start 0 slots start (zeros 792)
+unfolding total
+any-start d k = record {
+  fixed = d;
+  judged = k;
+  most = omega arith;
+  slot-is = omega arith;
+  ranges = [];
+  shows = shows-start;
+  even = tt;
+  adds = omega arith;
+  few = omega arith;
+  same = refl;
+}
+
+module _ {h : ℕ} {F : ℕ → Ty} {ks : List Kid} {b : List ℕ} {n known slots start i slot sum : ℕ} {m : List ℕ}
+    (a : AnyAt h F ks b n known slots start i slot sum m) where
+  abbrev d : Slots h ks b n slots start
+  d = a .fixed
+
   fits : front h 8 (length ks) ≤ length b
   fits = rw (d .count) (omega (arith, d .map, d .data₀, d .room))
 
   front-is : front h 8 (length ks) ≡ start
   front-is = rw (d .count) (omega (arith, d .map, d .data₀))
 
-  pub any-start : AnyAt h ks b n slots start 0 slots start (zeros 792)
-  unfolding total
-  any-start = record { most = omega arith; slot-is = omega arith; ranges = []; shows = shows-start; even = tt; adds = omega arith; few = omega arith; same = refl }
+  pub any-end : n ≤ i → eqb sum (length b) ≡ goodFrom h 8 ks b 0 []
+  any-end l = sym (good-end h 8 ks b fits (d .bytes) i (a .ranges) sum (omega (arith, d .count, a .most)) (omega (arith, front-is, a .adds))) ∙ a .same
 
-  module _ (i slot sum : ℕ) (m : List ℕ) (a : AnyAt h ks b n slots start i slot sum m) where
-    pub any-end : n ≤ i → eqb sum (length b) ≡ goodFrom h 8 ks b 0 []
-    any-end l = sym (good-end h 8 ks b fits (d .bytes) i (a .ranges) sum (omega (arith, d .count, a .most)) (omega (arith, front-is, a .adds))) ∙ a .same
+  -- the map as it is lent
+  pub any-map : 792 ≡ length m
+  any-map = sym (a .shows .long)
 
-    module _ (l : i < n) where
-      l′ : i < length ks
-      l′ = omega (arith, d .count)
+  module _ (l : i < n) where
+    l′ : i < length ks
+    l′ = omega (arith, d .count)
 
-      slot-at : h + bitmap (length ks) + i * 8 ≡ slot
-      slot-at = rw (d .count) (omega (arith, d .map, a .slot-is))
+    slot-at : h + bitmap (length ks) + i * 8 ≡ slot
+    slot-at = rw (d .count) (omega (arith, d .map, a .slot-is))
 
-      pub any-slot : slot + 8 ≤ start
-      any-slot = omega (arith, a .slot-is, d .data₀)
+    pub any-bit : h + i / 8 < length b
+    any-bit = omega (arith, d .map, d .data₀, d .room)
 
-      pub any-bit : h + i / 8 < length b
-      any-bit = omega (arith, d .map, d .data₀, d .room)
+    pub any-slot : slot + 8 ≤ length b
+    any-slot = omega (arith, a .slot-is, d .data₀, d .room)
 
-      -- the count of children is small, and so is the sum
-      pub any-small : sum ≤ 16384 + 16384 * 2048
-      any-small = omega (arith, a .few, d .room, d .small, d .data₀)
+    pub any-slot-on : Fits w64 (slot + 8)
+    any-slot-on = omega (arith, any-slot, d .small)
 
-      stays : goodFrom h 8 ks b i (a .ranges) ≡ goodFrom h 8 ks b (i + 1) (a .ranges) → AnyAt h ks b n slots start (i + 1) (slot + 8) sum m
-      stays s = record { most = omega arith; slot-is = omega (arith, a .slot-is); ranges = a .ranges; shows = a .shows; even = a .even; adds = a .adds; few = omega (arith, a .few); same = sym s ∙ a .same }
+    pub any-on : Fits w64 (i + 1)
+    any-on = omega (arith, d .data₀, d .room, d .small)
 
-      pub any-null : bit b h i ≡ true → AnyAt h ks b n slots start (i + 1) (slot + 8) sum m
-      any-null e = stays (good-null h 8 ks b fits (d .bytes) i l′ (a .ranges) e)
+    pub any-less : n - (i + 1) < n - i
+    any-less = omega arith
 
-      -- a child that has no range, judged
-      pub any-same : (v : Bool) → v ≡ true → goodFrom h 8 ks b i (a .ranges) ≡ both v (goodFrom h 8 ks b (i + 1) (a .ranges)) → AnyAt h ks b n slots start (i + 1) (slot + 8) sum m
-      any-same v e s = stays (s ∙ ap (λ (t : Bool). both t (goodFrom h 8 ks b (i + 1) (a .ranges))) e)
+    stays : goodFrom h 8 ks b i (a .ranges) ≡ goodFrom h 8 ks b (i + 1) (a .ranges) → AnyAt h F ks b n known slots start (i + 1) (slot + 8) sum m
+    stays s = record {
+      fixed = d;
+      judged = a .judged;
+      most = omega arith;
+      slot-is = omega (arith, a .slot-is);
+      ranges = a .ranges;
+      shows = a .shows;
+      even = a .even;
+      adds = a .adds;
+      few = omega (arith, a .few);
+      same = sym s ∙ a .same;
+    }
 
-      pub any-wrong : (v : Bool) → v ≡ false → goodFrom h 8 ks b i (a .ranges) ≡ both v (goodFrom h 8 ks b (i + 1) (a .ranges)) → false ≡ goodFrom h 8 ks b 0 []
-      any-wrong v e s = sym (s ∙ ap (λ (t : Bool). both t (goodFrom h 8 ks b (i + 1) (a .ranges))) e) ∙ a .same
+    pub any-null : {r : Bool} → r ≡ bit b h i → r ≡ true → AnyAt h F ks b n known slots start (i + 1) (slot + 8) sum m
+    any-null e q = stays (good-null h 8 ks b fits (d .bytes) i l′ (a .ranges) (sym e ∙ q))
 
-      -- a child that is not null, with its value elsewhere: x is its slot, o its offset, z its size
-      module _ (c : Codec) (e : kidAt ks i ≡ outside c) (f : bit b h i ≡ false) (x : ℕ) (rx : Reads b slot 8 x) (o : ℕ) (eo : o ≡ x / 2 ^ 32) where
-        ex : x ≡ num (part b (h + bitmap (length ks) + i * 8) 8)
-        ex = rx .is ∙ ap (λ (p : ℕ). num (part b p 8)) (sym slot-at)
+    -- a child that has no range, judged
+    module _ {v : Bool} (s : goodFrom h 8 ks b i (a .ranges) ≡ both v (goodFrom h 8 ks b (i + 1) (a .ranges))) where
+      pub any-same : v ≡ true → AnyAt h F ks b n known slots start (i + 1) (slot + 8) sum m
+      any-same e = stays (s ∙ ap (λ (t : Bool). both t (goodFrom h 8 ks b (i + 1) (a .ranges))) e)
 
-        off : (Stands (front h 8 (length ks)) (length b) (a .ranges) (range (x / 2 ^ 32) (pad (x % 2 ^ 32))) → ⊥) → false ≡ goodFrom h 8 ks b 0 []
-        off g = sym (good-off h 8 ks b fits (d .bytes) i l′ (a .ranges) c e refl f x ex g) ∙ a .same
+      pub any-wrong : v ≡ false → false ≡ goodFrom h 8 ks b 0 []
+      any-wrong e = sym (s ∙ ap (λ (t : Bool). both t (goodFrom h 8 ks b (i + 1) (a .ranges))) e) ∙ a .same
 
-        module _ (z : ℕ) (ez : z ≡ x % 2 ^ 32) (stop next : ℕ) (es : stop ≡ o + z) (en : next ≡ pad stop) where
-          padded : o % 8 ≡ 0 → next ≡ o + pad z
-          padded ev = omega arith
+-- ---- a child that varies
 
-          pub any-order : o ≤ next
-          any-order = omega arith
+module _ {h : ℕ} {F : ℕ → Ty} {ks : List Kid} {b : List ℕ} {n known slots start i slot sum : ℕ} {m : List ℕ}
+    {a : AnyAt h F ks b n known slots start i slot sum m} {o z next : ℕ} (t : Told a o z next) where
+  abbrev own : Range
+  own = range o (pad z)
 
-          abbrev own : Range
-          own = range o (pad z)
+  ex : t .number ≡ num (part b (h + bitmap (length ks) + i * 8) 8)
+  ex = t .reads .is ∙ ap (λ (p : ℕ). num (part b p 8)) (sym (slot-at a (t .less)))
 
-          stands-at : Stands (front h 8 (length ks)) (length b) (a .ranges) (range (x / 2 ^ 32) (pad (x % 2 ^ 32))) → Stands (front h 8 (length ks)) (length b) (a .ranges) own
-          stands-at s = subst (λ (y : ℕ). Stands (front h 8 (length ks)) (length b) (a .ranges) (range y (pad z))) (sym eo) (subst (λ (y : ℕ). Stands (front h 8 (length ks)) (length b) (a .ranges) (range (x / 2 ^ 32) (pad y))) (sym ez) s)
+  padded : o % 8 ≡ 0 → next ≡ o + pad z
+  padded ev = omega (arith, t .to)
 
-          -- it may not stand there
-          pub any-off : (r : Bool) → r ≡ places m start (length b) o next → r ≡ false → false ≡ goodFrom h 8 ks b 0 []
-          any-off r er q = off λ s. go (stands-at s) (places-no m start (length b) o next (sym er ∙ q))
-            where
-              go : Stands (front h 8 (length ks)) (length b) (a .ranges) own → Refused m start (length b) o next → ⊥
-              go s (below g) = let t = s .low in omega (arith, front-is)
-              go s (odd g) = g (s .eight)
-              go s (beyond g) = let t = s .high in let ev = s .eight in omega (arith, padded ev)
-              go s (meets lo ev hi g) = admit-meets m (a .ranges) (a .shows) own (ev, omega arith) (o / 8) (next / 8) refl (ap (λ (y : ℕ). y / 8) (padded ev)) (omega (arith, d .small)) (a .even) g (s .clear)
+  pub any-order : o ≤ next
+  any-order = omega (arith, t .to)
 
-          module _ (r : Bool) (er : r ≡ places m start (length b) o next) (q : r ≡ true) where
-            side : Beside m start (length b) o next
-            side = places-yes m start (length b) o next (sym er ∙ q)
+  pub any-place : (o ≤ next) × (length b ≤ 16384) × (length m ≡ 792)
+  any-place = (any-order, a .fixed .small, a .shows .long)
 
-            ev : o % 8 ≡ 0
-            ev = side .even
+  abbrev There : ℕ → ℕ → Type 0
+  There o z = Stands (front h 8 (length ks)) (length b) (a .ranges) (range o (pad z))
 
-            pub any-within : next ≤ length b
-            any-within = side .high
+  stands-at : There (t .number / 2 ^ 32) (t .number % 2 ^ 32) → There o z
+  stands-at s = subst (λ (y : ℕ). There y z) (sym (t .from)) (subst (There (t .number / 2 ^ 32)) (sym (t .size)) s)
 
-            pub any-behind : start ≤ o
-            any-behind = side .low
+  module _ {r : Bool} (er : r ≡ places m start (length b) o next) where
+    -- it may not stand there
+    pub any-off : not r ≡ true → false ≡ goodFrom h 8 ks b 0 []
+    any-off q =
+        sym (good-off h 8 ks b (fits a) (a .fixed .bytes) i (l′ a (t .less)) (a .ranges) (codec (F i)) (t .kid) refl (t .here) (t .number) ex off) ∙ a .same
+      where
+        go : There o z → Refused m start (length b) o next → ⊥
+        go s (below g) = let y = s .low in omega (arith, front-is a)
+        go s (odd g) = g (s .eight)
+        go s (beyond g) = let y = s .high in let ev = s .eight in omega (arith, padded ev)
+        go s (meets lo ev hi g) =
+            admit-meets m (a .ranges) (a .shows) own (ev, omega arith) (o / 8) (next / 8) refl (ap (λ (y : ℕ). y / 8) (padded ev))
+            (omega (arith, a .fixed .small)) (a .even) g (s .clear)
 
-            end : (o + pad z) / 8 ≡ next / 8
-            end = ap (λ (y : ℕ). y / 8) (sym (padded ev))
+        off : There (t .number / 2 ^ 32) (t .number % 2 ^ 32) → ⊥
+        off s = go (stands-at s) (places-no m start (length b) o next (failed er q))
 
-            stands : Stands (front h 8 (length ks)) (length b) (a .ranges) own
-            stands = record {
-              low = omega (arith, front-is, side .low);
-              high = omega (arith, padded ev, side .high);
-              eight = ev;
-              clear = admit-apart m (a .ranges) (a .shows) own (ev, omega arith) (o / 8) (next / 8) refl (sym end) (omega (arith, d .small, side .high)) (a .even) (side .admits);
-            }
+    pub any-stood : not r ≡ false → {m′ : List ℕ} → m′ ≡ placed m o next r → Stood t m′
+    any-stood q em = record {
+      beside = places-yes m start (length b) o next (passed er q);
+      maps = em ∙ ap (placed m o next) (not-false _ q);
+    }
 
-            child : goodFrom h 8 ks b i (a .ranges) ≡ both (isSome (c .get (part b o (stop - o)))) (both (eqb (num (part b stop (next - stop))) 0) (goodFrom h 8 ks b (i + 1) (own ∷ a .ranges)))
-            child =
-                let g : stop - o ≡ z = omega arith in
-                rw (g, es) (good-outside h 8 ks b fits (d .bytes) i l′ (a .ranges) c e refl f x ex o z next (sym eo) ez (padded ev) stands)
+-- ---- and may stand where its slot says
 
-            -- its contents, then its padding
-            pub any-bad : isSome (c .get (part b o (stop - o))) ≡ false → false ≡ goodFrom h 8 ks b 0 []
-            any-bad g = sym (child ∙ rw g) ∙ a .same
+module _ {h : ℕ} {F : ℕ → Ty} {ks : List Kid} {b : List ℕ} {n known slots start i slot sum : ℕ} {m : List ℕ}
+    {u : AnyAt h F ks b n known slots start i slot sum m} {o z next : ℕ} {t : Told u o z next} {m′ : List ℕ} (s : Stood t m′) where
+  abbrev side : Beside m start (length b) o next
+  side = s .beside
 
-            pub any-unpadded : (v : Bool) → v ≡ eqb (num (part b stop (next - stop))) 0 → v ≡ false → false ≡ goodFrom h 8 ks b 0 []
-            any-unpadded v ve g = sym (child ∙ rw (sym ve ∙ g) (both-false (isSome (c .get (part b o (stop - o)))))) ∙ a .same
+  long : next ≡ o + pad z
+  long = padded t (side .even)
 
-            pub any-next : (m′ : List ℕ) → m′ ≡ placed m o next r → isSome (c .get (part b o (stop - o))) ≡ true → (v : Bool) → v ≡ eqb (num (part b stop (next - stop))) 0 → v ≡ true
-                → AnyAt h ks b n slots start (i + 1) (slot + 8) (sum + (next - o)) m′
-            unfolding total admitted placed
-            any-next m′ em g v ve t = record {
-              most = omega arith;
-              slot-is = omega (arith, a .slot-is);
-              ranges = own ∷ a .ranges;
-              shows = shows-more m (a .ranges) (a .shows) own (ev, omega arith) (o / 8) (next / 8) refl (sym end) (omega (arith, d .small, side .high)) m′ (em ∙ rw q);
-              even = ((ev, omega arith), a .even);
-              adds = omega (arith, a .adds, padded ev);
-              few = omega (arith, a .few, d .small, side .high);
-              same = sym (child ∙ rw (g, sym ve ∙ t)) ∙ a .same;
-            }
+  -- ---- room
+
+  pub stood-order : o ≤ next
+  stood-order = any-order t
+
+  pub stood-slot-on : Fits w64 (slot + 8)
+  stood-slot-on = any-slot-on u (t .less)
+
+  pub stood-on : Fits w64 (i + 1)
+  stood-on = any-on u (t .less)
+
+  pub stood-less : n - (i + 1) < n - i
+  stood-less = any-less u (t .less)
+
+  pub stood-sum : Fits w64 (sum + (next - o))
+  stood-sum = omega (arith, u .few, u .most, u .fixed .room, u .fixed .small, u .fixed .data₀, side .high)
+
+  pub stood-pad : (8 ≤ next) × (next ≤ length b) × (o + z < 2 ^ 40) × (next ≡ pad (o + z))
+  stood-pad = (omega (arith, t .to, side .low, u .fixed .data₀, u .fixed .map, t .less), side .high, omega (arith, t .to, side .high, u .fixed .small), t .to)
+
+  pub stood-part : o ≤ o + z
+  stood-part = omega arith
+
+  pub stood-end : o + z ≤ length b
+  stood-end = omega (arith, t .to, side .high)
+
+  pub stood-short : length (part b o (o + z - o)) ≤ 16384
+  stood-short = rw length-take (omega (arith, u .fixed .small, length-drop o b))
+
+  -- ---- its contents, then its padding
+
+  stands : There t o z
+  stands = record {
+    low = omega (arith, front-is u, side .low);
+    high = omega (arith, long, side .high);
+    eight = side .even;
+    clear =
+        admit-apart m (u .ranges) (u .shows) (own t) (side .even, omega arith) (o / 8) (next / 8) refl (ap (λ (y : ℕ). y / 8) long)
+        (omega (arith, u .fixed .small, side .high)) (u .even) (side .admits);
+  }
+
+  abbrev contents : List ℕ
+  contents = part b o (o + z - o)
+
+  abbrev blank : Bool
+  blank = eqb (num (part b (o + z) (next - (o + z)))) 0
+
+  child : goodFrom h 8 ks b i (u .ranges) ≡ both (sound (F i) contents) (both blank (goodFrom h 8 ks b (i + 1) (own t ∷ u .ranges)))
+  unfolding sound
+  child =
+      let g : o + z - o ≡ z = omega arith in
+      rw g (good-outside h 8 ks b (fits u) (u .fixed .bytes) i (l′ u (t .less)) (u .ranges) (codec (F i)) (t .kid) refl (t .here) (t .number)
+      (ex t) o z next (sym (t .from)) (t .size) long stands)
+
+  pub any-bad : {r : Bool} → r ≡ sound (F i) contents → not r ≡ true → false ≡ goodFrom h 8 ks b 0 []
+  any-bad e q = sym (child ∙ rw (failed e q)) ∙ u .same
+
+  pub any-unpadded : {v : Bool} → v ≡ blank → not v ≡ true → false ≡ goodFrom h 8 ks b 0 []
+  any-unpadded e q = sym (child ∙ rw (failed e q) (both-false (sound (F i) contents))) ∙ u .same
+
+  goes : sound (F i) contents ≡ true → blank ≡ true → AnyAt h F ks b n known slots start (i + 1) (slot + 8) (sum + (next - o)) m′
+  unfolding total admitted placed
+  goes g p = record {
+    fixed = u .fixed;
+    judged = u .judged;
+    most = omega (arith, t .less);
+    slot-is = omega (arith, u .slot-is);
+    ranges = own t ∷ u .ranges;
+    shows =
+        shows-more m (u .ranges) (u .shows) (own t) (side .even, omega arith) (o / 8) (next / 8) refl (ap (λ (y : ℕ). y / 8) long)
+        (omega (arith, u .fixed .small, side .high)) m′ (s .maps);
+    even = ((side .even, omega arith), u .even);
+    adds = omega (arith, u .adds, long);
+    few = omega (arith, u .few, u .fixed .small, side .high);
+    same = sym (child ∙ rw (g, p)) ∙ u .same;
+  }
+
+  pub any-next : sound (F i) contents ≡ true → {v : Bool} → v ≡ blank → not v ≡ false
+      → AnyAt h F ks b n known slots start (i + 1) (slot + 8) (sum + (next - o)) m′
+  any-next g e q = goes g (passed e q)
+
+  slot-pos : slot ≡ h + bitmap n + 8 * i
+  slot-pos = omega (arith, u .slot-is, u .fixed .map)
+
+  -- it was judged before
+  pub any-known : i < known → AnyAt h F ks b n known slots start (i + 1) (slot + 8) (sum + (next - o)) m′
+  any-known l =
+      goes (known-at h F b n i slot slot-pos (t .number) (t .reads) o (t .from) z (t .size) (o + z) refl known (u .judged) l (t .here) (t .varies))
+      (known-padded h F b n i slot slot-pos (t .number) (t .reads) o (t .from) z (t .size) (o + z) refl known (u .judged) l (t .here) (t .varies) next (t .to))

@@ -1,15 +1,15 @@
 -- The children of a container as a loop over them meets them: one law for each thing that the loop may find. Assumes nothing.
-use mathlib.Core.Path.{_≡_, refl, sym, ap, _∙_, subst}
+use mathlib.Core.Path.{_≡_, refl, sym, ap, _∙_}
 use mathlib.Core.Bool.{Bool, true, false}
-use mathlib.Core.Option.{Option, none, some}
-use mathlib.Core.List.{List, [], _∷_, _++_}
+use mathlib.Core.Option.{Option, some}
+use mathlib.Core.List.{List, [], _∷_}
 use Prim.Native.Nat.{ℕ, zero, suc, _+_, _*_, _-_, _/_, _%_, _^_, _≤_, _<_}
 use native.Mathlib.Decide.{ℕ-discrete}
 use native.Mathlib.Nat.{mul-le-mul-right}
 use native.Mathlib.Numerals.{add-one}
 use native.Mathlib.Omega.{arith}
 use lib.Dec.{eqb}
-use lib.ListN.{length, take, drop, length-drop, length-take}
+use lib.ListN.{length, take, drop, length-drop}
 use lib.Seq.{drop-drop, take-take}
 use borrow.Author.Tests.{eq-eqb, ne-eqb, eqb-true, eqb-false}
 use Rattle.words.specs.Bytes.{Bytes, num, pad, bitmap, part}
@@ -24,7 +24,7 @@ use Rattle.layout.specs.Setting.{isSome}
 use Rattle.layout.proofs.Reader.{assert-yes}
 use Rattle.layout.proofs.Steps.{kidAt, reads-step, reads-end}
 use Rattle.checking.specs.Sound.{endsAt, goodFrom, both}
-use Rattle.checking.proofs.Tests.{assert-no, cut-some, ends-more, value-ends, both-false}
+use Rattle.checking.proofs.Tests.{assert-no, cut-some, ends-more, value-ends}
 
 -- a bit that is set is 1, and one that is not is 0
 bit-one : (m i : ℕ) → bitOf m i ≡ true → m / 2 ^ i % 2 ≡ 1

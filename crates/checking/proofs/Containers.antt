@@ -1,28 +1,26 @@
 -- Struct, list and map as code meets them: one law for each thing that it may find before, and in, their children. Assumes nothing.
-use mathlib.Core.Path.{_≡_, refl, sym, ap, _∙_, subst}
+use mathlib.Core.Path.{_≡_, refl, sym, ap, _∙_}
 use mathlib.Core.Bool.{Bool, true, false}
 use mathlib.Core.Option.{Option, none, some}
-use mathlib.Core.List.{List, [], _∷_, _++_}
-use Prim.Native.Nat.{ℕ, zero, suc, _+_, _*_, _-_, _/_, _%_, _^_, _≤_, _<_}
-use native.Mathlib.Decide.{decLe, decLt, ℕ-discrete}
+use mathlib.Core.List.{List, [], _∷_}
+use Prim.Native.Nat.{ℕ, _+_, _*_, _-_, _/_, _^_, _≤_, _<_}
+use native.Mathlib.Decide.{decLe, ℕ-discrete}
 use native.Mathlib.Omega.{arith}
 use lib.Dec.{eqb, ltb}
 use lib.ListN.{length, take, drop, replicate, length-drop, length-take, length-replicate}
 use lib.Seq.{drop-drop}
-use borrow.Author.Tests.{eq-eqb}
 use Rattle.words.specs.Bytes.{Bytes, num, pad, bitmap, part}
 use Rattle.words.proofs.Numbers.{bytes-take, bytes-drop}
-use Rattle.schema.specs.Types.{Ty, fix, text, li, ma, ro, Tys}
+use Rattle.schema.specs.Types.{Ty, li, ma, ro, Tys}
 use Rattle.layout.specs.Reader.{_>>=_, _>>_, assert, cut}
-use Rattle.layout.specs.Tiles.{Range, total}
+use Rattle.layout.specs.Tiles.{total}
 use Rattle.layout.specs.Cells.{Cell, node, parts}
-use Rattle.layout.specs.Layout.{Codec, Kid, kid, kidOf, slotOf, reads, front, bodyGet, struct, array, pair, list, codec, kids, decode}
+use Rattle.layout.specs.Layout.{Kid, kid, slotOf, reads, front, bodyGet, struct, array, pair, list, codec, kids, decode}
 use Rattle.layout.specs.Setting.{isSome}
-use Rattle.layout.proofs.Reader.{when-some}
 use Rattle.layout.proofs.Containers.{lays-decode}
 use Rattle.layout.proofs.Walked.{list-says}
 use Rattle.checking.specs.Sound.{sound, endsAt, goodFrom, both}
-use Rattle.checking.proofs.Tests.{assert-no, equal-some, less-some, cut-some, cut-none, ends-some}
+use Rattle.checking.proofs.Tests.{equal-some, less-some, cut-some, cut-none, ends-some}
 
 some-map : {A B : Type 0} (m : Option A) (f : A → B) → isSome (m >>= λ x. some (f x)) ≡ isSome m
 some-map none f = refl

@@ -18,7 +18,7 @@ use Rattle.schema.specs.Kinds.{placeAt}
 use Rattle.schema.specs.Walk.{typeAt}
 use Rattle.schema.proofs.Table.{width-pos, place-fixed}
 use Rattle.schema.proofs.Places.{typed-place, fixed-of, text-of}
-use Rattle.layout.specs.Layout.{number, string, inside, kidOf, slotOf, front, limit, codec}
+use Rattle.layout.specs.Layout.{number, string, kidOf, slotOf, front, limit, codec}
 use Rattle.layout.specs.Setting.{isSome}
 use Rattle.checking.specs.Sound.{sound, goodFrom}
 use Rattle.checking.specs.Room.{ListRoom, Items, Holding, texts, bools, elements}

@@ -1,29 +1,29 @@
 -- Lists of strings, of bools and of numbers. Assumes nothing.
-use mathlib.Core.Path.{_≡_, refl, sym, ap, _∙_, subst}
+use mathlib.Core.Path.{_≡_, refl, sym, ap, _∙_}
 use mathlib.Core.Bool.{Bool, true, false}
-use mathlib.Core.Option.{Option, none, some}
-use mathlib.Core.List.{List, [], _∷_}
+use mathlib.Core.Option.{none, some}
+use mathlib.Core.List.{List, []}
 use Prim.Native.Nat.{ℕ, zero, suc, _+_, _*_, _-_, _/_, _%_, _^_, _≤_, _<_}
 use native.Mathlib.Nat.{zero-div, mul-le-mul-right}
-use native.Mathlib.Decide.{ℕ-discrete, decLt}
+use native.Mathlib.Decide.{decLt}
 use native.Mathlib.Omega.{arith}
 use lib.Dec.{eqb, ltb}
 use lib.ListN.{length, getD, replicate, length-replicate, getD-replicate}
 use borrow.Author.Tests.{eq-eqb, lt-ltb, le-ltb}
-use Rattle.words.specs.Bytes.{Bytes, num, pad, bitmap, part}
+use Rattle.words.specs.Bytes.{Bytes, num, bitmap, part}
 use Rattle.words.specs.Bits.{bitOf, bit}
 use Rattle.words.specs.Reads.{Reads}
 use Rattle.words.proofs.Parts.{length-part, bytes-part}
-use Rattle.words.proofs.NumLaws.{num-one, part-lt}
+use Rattle.words.proofs.NumLaws.{num-one}
 use Rattle.words.proofs.BitLaws.{bit-num}
-use Rattle.layout.specs.Layout.{Codec, Kid, number, string, inside, outside, kidOf, front}
+use Rattle.schema.specs.Types.{text, st}
+use Rattle.layout.specs.Layout.{Codec, Kid, number, string, inside, outside, front, codec}
 use Rattle.layout.specs.Cells.{leaf}
 use Rattle.layout.specs.Setting.{isSome}
 use Rattle.layout.specs.Reader.{assert, _>>_}
-use Rattle.layout.proofs.Reader.{assert-yes}
 use Rattle.layout.proofs.Steps.{nobody, kidAt}
 use Rattle.layout.specs.Tiles.{total}
-use Rattle.checking.specs.Sound.{goodFrom, both}
+use Rattle.checking.specs.Sound.{sound, goodFrom, both}
 use Rattle.checking.specs.Room.{ListRoom, NoNulls, texts, bools}
 use Rattle.checking.proofs.Tests.{less-some, equal-some}
 use Rattle.checking.proofs.Children.{good-end, good-null, good-inside}
@@ -41,6 +41,19 @@ text-kid n i h = getD-replicate n i (outside string) nobody h
 pub text-fine : (u : List ℕ) → isSome (string .get u) ≡ true
 unfolding string
 text-fine u = refl
+
+-- the same by the type of a string
+pub text-outside : (n i : ℕ) → i < n → kidAt (texts n) i ≡ outside (codec (text st))
+unfolding codec
+text-outside n i h = text-kid n i h
+
+pub text-varies : codec (text st) .wide ≡ none
+unfolding codec string
+text-varies = refl
+
+pub text-sound : (u : List ℕ) → sound (text st) u ≡ true
+unfolding sound codec
+text-sound u = text-fine u
 
 -- ---- a bitmap word for 64 elements
 

@@ -1,8 +1,8 @@
 -- A loop over children with slots of 8 bytes: its invariant, and one law for each way through its body. Assumes nothing.
 use mathlib.Core.Path.{_≡_, refl, sym, ap, _∙_, subst}
-use mathlib.Core.Bool.{Bool, true, false, not}
+use mathlib.Core.Bool.{Bool, true, false}
 use mathlib.Core.List.{List, [], _∷_}
-use Prim.Native.Nat.{ℕ, zero, suc, _+_, _*_, _-_, _/_, _%_, _^_, _≤_, _<_}
+use Prim.Native.Nat.{ℕ, _+_, _*_, _-_, _/_, _%_, _^_, _≤_, _<_}
 use native.Mathlib.Omega.{arith}
 use lib.Dec.{eqb}
 use lib.ListN.{length}
@@ -129,6 +129,3 @@ module _ (h : ℕ) (ks : List Kid) (b : List ℕ) (n slots start : ℕ) (d : Slo
               sum = omega (arith, a .sum, padded);
               same = sym (child ∙ rw (q, sym ev ∙ t)) ∙ a .same;
             }
-
-            pub next-most : cur ≤ stop
-            next-most = omega arith

@@ -1,15 +1,14 @@
 -- The maps of taken units: what the loops over them do, and what their bits are then. Assumes nothing.
-use mathlib.Core.Path.{_≡_, refl, sym, ap, _∙_}
-use mathlib.Core.Logic.{_⊎_, inl, inr}
-use mathlib.Core.Bool.{Bool, true, false, not, cond}
+use mathlib.Core.Path.{_≡_, refl, sym, _∙_}
+use mathlib.Core.Bool.{Bool, true, false, cond}
 use mathlib.Core.List.{List}
-use Prim.Native.Nat.{ℕ, zero, suc, _+_, _*_, _-_, _/_, _%_, _≤_, _<_}
+use Prim.Native.Nat.{ℕ, zero, suc, _+_, _-_, _/_, _%_, _≤_, _<_}
 use native.Mathlib.Decide.{decLt, ℕ-discrete}
 use native.Mathlib.Numerals.{add-one}
 use native.Mathlib.Omega.{arith}
 use lib.ListN.{length}
 use Rattle.words.specs.Bits.{bit, putBit}
-use Rattle.words.proofs.BitLaws.{bit-put, bit-put-other, bit-run, length-put}
+use Rattle.words.proofs.BitLaws.{length-put}
 use Rattle.checking.specs.Sound.{both}
 use Rattle.checking.specs.Maps.{clearFrom, marked, admits, taken, admitted, places, placed}
 use Rattle.checking.proofs.Tests.{both-false}
@@ -63,10 +62,22 @@ module _ (m : List ℕ) (a b : ℕ) where
     unfolding admits admitted
     admit-over f = (rw (ne-eqb a b ne, rw (add-one a) at f) (sym (both-false (clearFrom m 0 a (b - a)))), refl)
 
-    pub admit-full : clearFrom m 0 a (b - a) ≡ true → clearFrom m 528 (a + 1) (b - (a + 1)) ≡ true → (m₁ m₂ : List ℕ) → m₁ ≡ marked m 0 a (b - a) → m₂ ≡ marked m₁ 264 (a + 1) (b - (a + 1))
+    pub admit-full : clearFrom m 0 a (b - a) ≡ true → clearFrom m 528 (a + 1) (b - (a + 1)) ≡ true → (m₁ m₂ : List ℕ) → m₁ ≡ marked m 0 a (b - a)
+        → m₂ ≡ marked m₁ 264 (a + 1) (b - (a + 1))
         → (true ≡ admits m a b) × (m₂ ≡ admitted m a b true)
     unfolding admits admitted taken
     admit-full f g m₁ m₂ e h = (rw (ne-eqb a b ne, f, rw (add-one a) at g), rw (ne-eqb a b ne) (h ∙ rw (e, add-one a)))
+
+  -- one unit
+  module _ (one : a + 1 ≡ b) where
+    pub admit-unit-taken : bit m 0 a ≡ true → (false ≡ admits m a b) × (m ≡ admitted m a b false)
+    admit-unit-taken f = admit-taken (λ e. omega arith) (clear-set m 0 a b (omega arith) f)
+
+    pub admit-unit : bit m 0 a ≡ false → (m′ : List ℕ) → m′ ≡ putBit m 0 a true → (true ≡ admits m a b) × (m′ ≡ admitted m a b true)
+    admit-unit f m′ g =
+        let e = marked-step m 0 a b (omega arith) ∙ marked-end (putBit m 0 a true) 0 (a + 1) b (omega arith) in
+        admit-full (λ e. omega arith) (clear-step m 0 a b (omega arith) f ∙ clear-end m 0 (a + 1) b (omega arith)) (clear-end m 528 (a + 1) b (omega arith))
+        m′ m′ (g ∙ sym e) (sym (marked-end m′ 264 (a + 1) b (omega arith)))
 
 -- ---- the place of a value
 
@@ -85,7 +96,8 @@ module _ (m : List ℕ) (start len from next : ℕ) where
       unfolding places placed admitted
       place-long h = (rw (le-ltb from start lo, eq-eqb (from % 8) 0 ev, lt-ltb len next h), refl)
 
-      pub place-beside : next ≤ len → (r : Bool) (m′ : List ℕ) → r ≡ admits m (from / 8) (next / 8) → m′ ≡ admitted m (from / 8) (next / 8) r → (r ≡ places m start len from next) × (m′ ≡ placed m from next r)
+      pub place-beside : next ≤ len → (r : Bool) (m′ : List ℕ) → r ≡ admits m (from / 8) (next / 8) → m′ ≡ admitted m (from / 8) (next / 8) r
+          → (r ≡ places m start len from next) × (m′ ≡ placed m from next r)
       unfolding places placed
       place-beside h r m′ e f = (rw (le-ltb from start lo, eq-eqb (from % 8) 0 ev, le-ltb len next h) e, f)
 
@@ -109,18 +121,26 @@ module _ (m : List ℕ) (start len from next : ℕ) where
   unfolding places
   places-yes e = go (decLt from start) (ℕ-discrete (from % 8) 0) (decLt len next) e
     where
-      go : Dec (from < start) → Dec (from % 8 ≡ 0) → Dec (len < next) → cond (ltb from start) false (cond (eqb (from % 8) 0) (cond (ltb len next) false (admits m (from / 8) (next / 8))) false) ≡ true → Beside
+      go : Dec (from < start) → Dec (from % 8 ≡ 0) → Dec (len < next) → cond (ltb from start) false
+          (cond (eqb (from % 8) 0) (cond (ltb len next) false (admits m (from / 8) (next / 8))) false) ≡ true → Beside
       go (yes a) b c e = absurd (clash (rw (lt-ltb from start a) at e))
       go (no a) (no b) c e = absurd (clash (rw (le-ltb from start (omega arith), ne-eqb (from % 8) 0 b) at e))
       go (no a) (yes b) (yes c) e = absurd (clash (rw (le-ltb from start (omega arith), eq-eqb (from % 8) 0 b, lt-ltb len next c) at e))
-      go (no a) (yes b) (no c) e = record { low = omega arith; even = b; high = omega arith; admits = rw (le-ltb from start (omega arith), eq-eqb (from % 8) 0 b, le-ltb len next (omega arith)) at e }
+      go (no a) (yes b) (no c) e = record {
+        low = omega arith;
+        even = b;
+        high = omega arith;
+        admits = rw (le-ltb from start (omega arith), eq-eqb (from % 8) 0 b, le-ltb len next (omega arith)) at e;
+      }
 
   pub places-no : places m start len from next ≡ false → Refused
   unfolding places
   places-no e = go (decLt from start) (ℕ-discrete (from % 8) 0) (decLt len next) e
     where
-      go : Dec (from < start) → Dec (from % 8 ≡ 0) → Dec (len < next) → cond (ltb from start) false (cond (eqb (from % 8) 0) (cond (ltb len next) false (admits m (from / 8) (next / 8))) false) ≡ false → Refused
+      go : Dec (from < start) → Dec (from % 8 ≡ 0) → Dec (len < next) → cond (ltb from start) false
+          (cond (eqb (from % 8) 0) (cond (ltb len next) false (admits m (from / 8) (next / 8))) false) ≡ false → Refused
       go (yes a) b c e = below a
       go (no a) (no b) c e = odd b
       go (no a) (yes b) (yes c) e = beyond c
-      go (no a) (yes b) (no c) e = meets (omega arith) b (omega arith) (rw (le-ltb from start (omega arith), eq-eqb (from % 8) 0 b, le-ltb len next (omega arith)) at e)
+      go (no a) (yes b) (no c) e = meets (omega arith) b (omega arith)
+          (rw (le-ltb from start (omega arith), eq-eqb (from % 8) 0 b, le-ltb len next (omega arith)) at e)

@@ -4,7 +4,7 @@ use mathlib.Core.Path.{_≡_, refl, sym, ap, _∙_, subst}
 use mathlib.Core.Logic.{_↔_, _⊎_, inl, inr}
 use mathlib.Core.Bool.{Bool, true, false, not, cond}
 use mathlib.Core.List.{List, [], _∷_}
-use Prim.Native.Nat.{ℕ, zero, suc, _+_, _*_, _-_, _/_, _%_, _^_, _≤_, _<_}
+use Prim.Native.Nat.{ℕ, zero, suc, _+_, _-_, _/_, _%_, _^_, _≤_, _<_}
 use native.Mathlib.Nat.{zero-div}
 use native.Mathlib.Decide.{decLt, decLe, ℕ-discrete}
 use native.Mathlib.Omega.{arith}
@@ -12,12 +12,12 @@ use lib.Dec.{eqb}
 use lib.ListN.{length, getD, length-replicate, getD-replicate}
 use borrow.Author.Tests.{eq-eqb, ne-eqb, not-true, not-false}
 use Rattle.words.specs.Bytes.{zeros}
-use Rattle.words.specs.Bits.{bitOf, bit, withBit, putBit}
+use Rattle.words.specs.Bits.{bit, withBit, putBit}
 use Rattle.words.proofs.BitLaws.{bit-put, bit-put-other, bit-run, length-put}
 use Rattle.layout.specs.Tiles.{Range, Aparts}
 use Rattle.layout.proofs.Units.{Covers, Inner, Empty, NoneOf, Even, AllEven, Free, free-is-apart}
 use Rattle.checking.specs.Sound.{both}
-use Rattle.checking.specs.Maps.{clearFrom, marked, admits, taken, admitted}
+use Rattle.checking.specs.Maps.{clearFrom, marked, admits, taken}
 use Rattle.checking.proofs.Marks.{length-marked}
 
 clash : true ≡ false → ⊥
@@ -30,7 +30,8 @@ unfolding clearFrom
 clear-all m at a zero q e h k = absurd (omega arith)
 clear-all m at a (suc n) q e h k = go (bit m at a) refl (ℕ-discrete q a) e (λ l x. clear-all m at (suc a) n q x l (omega arith))
   where
-    go : (v : Bool) → bit m at a ≡ v → Dec (q ≡ a) → both (not v) (clearFrom m at (suc a) n) ≡ true → (suc a ≤ q → clearFrom m at (suc a) n ≡ true → bit m at q ≡ false) → bit m at q ≡ false
+    go : (v : Bool) → bit m at a ≡ v → Dec (q ≡ a) → both (not v) (clearFrom m at (suc a) n) ≡ true
+        → (suc a ≤ q → clearFrom m at (suc a) n ≡ true → bit m at q ≡ false) → bit m at q ≡ false
     go true f d x r = absurd (clash (sym x))
     go false f (yes z) x r = ap (bit m at) z ∙ f
     go false f (no z) x r = r (omega arith) x
@@ -47,7 +48,8 @@ unfolding clearFrom
 clear-some m at a zero e = absurd (clash e)
 clear-some m at a (suc n) e = go (bit m at a) refl e (λ x. clear-some m at (suc a) n x)
   where
-    go : (v : Bool) → bit m at a ≡ v → both (not v) (clearFrom m at (suc a) n) ≡ false → (clearFrom m at (suc a) n ≡ false → Some m at (suc a) n) → Some m at a (suc n)
+    go : (v : Bool) → bit m at a ≡ v → both (not v) (clearFrom m at (suc a) n) ≡ false → (clearFrom m at (suc a) n ≡ false → Some m at (suc a) n)
+        → Some m at a (suc n)
     go true f x r = record { unit = a; low = omega arith; high = omega arith; set = f }
     go false f x r = let s = r x in record { unit = s .unit; low = omega (arith, s .low); high = omega (arith, s .high); set = s .set }
 
@@ -69,10 +71,12 @@ marked-out at m a (suc n) q h k o =
 marked-in : (at : ℕ) (m : List ℕ) (a n q : ℕ) → at + 257 ≤ length m → a + n ≤ 2048 → a ≤ q → q < a + n → bit (marked m at a n) at q ≡ true
 unfolding marked
 marked-in at m a zero q h k lo hi = absurd (omega arith)
-marked-in at m a (suc n) q h k lo hi = go (ℕ-discrete q a) (λ x. marked-in at (putBit m at a true) (suc a) n q (omega (arith, length-put m at a true)) (omega arith) x (omega arith))
+marked-in at m a (suc n) q h k lo hi = go (ℕ-discrete q a) (λ x. marked-in at (putBit m at a true) (suc a) n q (omega (arith, length-put m at a true))
+    (omega arith) x (omega arith))
   where
     go : Dec (q ≡ a) → (suc a ≤ q → bit (marked (putBit m at a true) at (suc a) n) at q ≡ true) → bit (marked (putBit m at a true) at (suc a) n) at q ≡ true
-    go (yes z) f = marked-out at (putBit m at a true) (suc a) n q (omega (arith, length-put m at a true)) (omega arith) (inl (omega arith)) ∙ ap (bit (putBit m at a true) at) z ∙ bit-put m at a true (omega arith)
+    go (yes z) f = marked-out at (putBit m at a true) (suc a) n q (omega (arith, length-put m at a true)) (omega arith) (inl (omega arith))
+        ∙ ap (bit (putBit m at a true) at) z ∙ bit-put m at a true (omega arith)
     go (no z) f = f (omega arith)
 
 -- the two bitmaps lie apart
@@ -89,7 +93,8 @@ put-elsewhere at to m a q o h k l = bit-run m (at + a / 8) (withBit (getD m (at 
 marked-elsewhere : (at to : ℕ) (m : List ℕ) (a n q : ℕ) → Other at to → at + 257 ≤ length m → a + n ≤ 2048 → q ≤ 2048 → bit (marked m at a n) to q ≡ bit m to q
 unfolding marked
 marked-elsewhere at to m a zero q o h k l = refl
-marked-elsewhere at to m a (suc n) q o h k l = marked-elsewhere at to (putBit m at a true) (suc a) n q o (omega (arith, length-put m at a true)) (omega arith) l ∙ put-elsewhere at to m a q o h (omega arith) l
+marked-elsewhere at to m a (suc n) q o h k l = marked-elsewhere at to (putBit m at a true) (suc a) n q o (omega (arith, length-put m at a true))
+    (omega arith) l ∙ put-elsewhere at to m a q o h (omega arith) l
 
 -- ---- what the maps show
 
@@ -114,8 +119,10 @@ shows-start = record {
 }
 
 -- one more range, which holds of the units from lo up to hi
-shown-more : (P : Range → ℕ → Type 0) (m m′ : List ℕ) (at : ℕ) (rs : List Range) (r : Range) (lo hi : ℕ) → ((q : ℕ) → P r q → (lo ≤ q) × (q < hi)) → ((q : ℕ) → lo ≤ q → q < hi → P r q)
-    → ((q : ℕ) → q ≤ 2048 → lo ≤ q → q < hi → bit m′ at q ≡ true) → ((q : ℕ) → q ≤ 2048 → (q < lo) ⊎ (hi ≤ q) → bit m′ at q ≡ bit m at q) → Shown P m at rs → Shown P m′ at (r ∷ rs)
+shown-more : (P : Range → ℕ → Type 0) (m m′ : List ℕ) (at : ℕ) (rs : List Range) (r : Range) (lo hi : ℕ) → ((q : ℕ) → P r q → (lo ≤ q) × (q < hi))
+    → ((q : ℕ) → lo ≤ q → q < hi → P r q)
+    → ((q : ℕ) → q ≤ 2048 → lo ≤ q → q < hi → bit m′ at q ≡ true) → ((q : ℕ) → q ≤ 2048 → (q < lo) ⊎ (hi ≤ q) → bit m′ at q ≡ bit m at q) → Shown P m at rs
+    → Shown P m′ at (r ∷ rs)
 shown-more P m m′ at rs r lo hi f g i o s q h = go (decLe lo q) (decLt q hi)
   where
     go : Dec (lo ≤ q) → Dec (q < hi) → (bit m′ at q ≡ false) ↔ NoneOf P (r ∷ rs) q
@@ -124,7 +131,8 @@ shown-more P m m′ at rs r lo hi f g i o s q h = go (decLe lo q) (decLt q hi)
     go (no l) u = let b = o q h (inl (omega arith)) in (λ e. (λ p. l (f q p .0), s q h .0 (sym b ∙ e)), λ p. b ∙ s q h .1 (p .1))
 
 -- a range that takes the units from a up to b
-module _ (m : List ℕ) (rs : List Range) (s : Shows m rs) (r : Range) (e : Even r) (a b : ℕ) (ea : a ≡ r .start / 8) (eb : b ≡ (r .start + r .size) / 8) (hi : b ≤ 2048) where
+module _ (m : List ℕ) (rs : List Range) (s : Shows m rs) (r : Range) (e : Even r) (a b : ℕ) (ea : a ≡ r .start / 8) (eb : b ≡ (r .start + r .size) / 8)
+    (hi : b ≤ 2048) where
   long : length m ≡ 792
   long = s .long
 
@@ -147,8 +155,10 @@ module _ (m : List ℕ) (rs : List Range) (s : Shows m rs) (r : Range) (e : Even
       go (no z) f =
           let g = two _ _ (rw (ne-eqb a b z) at f) in
           record {
-            units = λ q c. s .covers q (omega (arith, c .0, c .1, e .0, e .1)) .0 (clear-all m 0 a (b - a) q (g .0) (omega (arith, c .0)) (omega (arith, c .1, e .0, e .1)));
-            bounds = λ q c. s .empty q (omega (arith, c .0, c .1, e .0, e .1)) .0 (clear-all m 528 (suc a) (b - suc a) q (g .1) (omega (arith, c .0, e .0)) (omega (arith, c .0, c .1, e .0, e .1)));
+            units = λ q c. s .covers q (omega (arith, c .0, c .1, e .0, e .1)) .0
+                (clear-all m 0 a (b - a) q (g .0) (omega (arith, c .0)) (omega (arith, c .1, e .0, e .1)));
+            bounds = λ q c. s .empty q (omega (arith, c .0, c .1, e .0, e .1)) .0
+                (clear-all m 528 (suc a) (b - suc a) q (g .1) (omega (arith, c .0, e .0)) (omega (arith, c .0, c .1, e .0, e .1)));
             point = λ q c. absurd (z (omega (arith, c .0)));
           }
 
@@ -193,11 +203,14 @@ module _ (m : List ℕ) (rs : List Range) (s : Shows m rs) (r : Range) (e : Even
       go : Dec (a ≡ b) → Shows (cond (eqb a b) (putBit m 528 a true) (marked (marked m 0 a (b - a)) 264 (suc a) (b - suc a))) (r ∷ rs)
       go (yes z) = rw (eq-eqb a b z) (record {
         long = length-put m 528 a true ∙ long;
-        covers = shown-more Covers m (putBit m 528 a true) 0 rs r a a (λ q c. absurd (omega (arith, c .0, c .1, e .0, e .1))) (λ q l u. absurd (omega arith)) (λ q h l u. absurd (omega arith))
+        covers = shown-more Covers m (putBit m 528 a true) 0 rs r a a (λ q c. absurd (omega (arith, c .0, c .1, e .0, e .1)))
+            (λ q l u. absurd (omega arith)) (λ q h l u. absurd (omega arith))
             (λ q h o. put-elsewhere 528 0 m a q (inr (omega arith)) (omega (arith, long)) (omega arith) h) (s .covers);
-        inner = shown-more Inner m (putBit m 528 a true) 264 rs r a a (λ q c. absurd (omega (arith, c .0, c .1, e .0, e .1))) (λ q l u. absurd (omega arith)) (λ q h l u. absurd (omega arith))
+        inner = shown-more Inner m (putBit m 528 a true) 264 rs r a a (λ q c. absurd (omega (arith, c .0, c .1, e .0, e .1)))
+            (λ q l u. absurd (omega arith)) (λ q h l u. absurd (omega arith))
             (λ q h o. put-elsewhere 528 264 m a q (inr (omega arith)) (omega (arith, long)) (omega arith) h) (s .inner);
-        empty = shown-more Empty m (putBit m 528 a true) 528 rs r a (suc a) (λ q c. (omega (arith, c .1), omega (arith, c .1))) (λ q l u. (omega (arith, e .0, e .1), omega (arith, e .0)))
+        empty = shown-more Empty m (putBit m 528 a true) 528 rs r a (suc a) (λ q c. (omega (arith, c .1), omega (arith, c .1)))
+            (λ q l u. (omega (arith, e .0, e .1), omega (arith, e .0)))
             (λ q h l u. (let w : q ≡ a = omega arith in ap (bit (putBit m 528 a true) 528) w ∙ bit-put m 528 a true (omega (arith, long))))
             (λ q h o. bit-put-other m 528 a true (omega (arith, long)) q (λ w. at-a o w)) (s .empty);
       })
@@ -210,14 +223,21 @@ module _ (m : List ℕ) (rs : List Range) (s : Shows m rs) (r : Range) (e : Even
           let l₁ : length m₁ ≡ 792 = length-marked m 0 a (b - a) ∙ long in
           rw (ne-eqb a b z) (record {
             long = length-marked m₁ 264 (suc a) (b - suc a) ∙ l₁;
-            covers = shown-more Covers m (marked m₁ 264 (suc a) (b - suc a)) 0 rs r a b (λ q c. (omega (arith, c .0), omega (arith, c .1, e .0, e .1))) (λ q l u. (omega (arith, e .0), omega (arith, e .0, e .1)))
-                (λ q h l u. marked-elsewhere 264 0 m₁ (suc a) (b - suc a) q (inr (omega arith)) (omega arith) (omega arith) h ∙ marked-in 0 m a (b - a) q (omega (arith, long)) (omega arith) l (omega arith))
-                (λ q h o. marked-elsewhere 264 0 m₁ (suc a) (b - suc a) q (inr (omega arith)) (omega arith) (omega arith) h ∙ marked-out 0 m a (b - a) q (omega (arith, long)) (omega arith) (upto o)) (s .covers);
-            inner = shown-more Inner m (marked m₁ 264 (suc a) (b - suc a)) 264 rs r (suc a) b (λ q c. (omega (arith, c .0, e .0), omega (arith, c .1, e .0, e .1))) (λ q l u. (omega (arith, e .0), omega (arith, e .0, e .1)))
+            covers = shown-more Covers m (marked m₁ 264 (suc a) (b - suc a)) 0 rs r a b (λ q c. (omega (arith, c .0), omega (arith, c .1, e .0, e .1)))
+                (λ q l u. (omega (arith, e .0), omega (arith, e .0, e .1)))
+                (λ q h l u. marked-elsewhere 264 0 m₁ (suc a) (b - suc a) q (inr (omega arith)) (omega arith) (omega arith) h
+                ∙ marked-in 0 m a (b - a) q (omega (arith, long)) (omega arith) l (omega arith))
+                (λ q h o. marked-elsewhere 264 0 m₁ (suc a) (b - suc a) q (inr (omega arith)) (omega arith) (omega arith) h
+                ∙ marked-out 0 m a (b - a) q (omega (arith, long)) (omega arith) (upto o)) (s .covers);
+            inner = shown-more Inner m (marked m₁ 264 (suc a) (b - suc a)) 264 rs r (suc a) b
+                (λ q c. (omega (arith, c .0, e .0), omega (arith, c .1, e .0, e .1))) (λ q l u. (omega (arith, e .0), omega (arith, e .0, e .1)))
                 (λ q h l u. marked-in 264 m₁ (suc a) (b - suc a) q (omega arith) (omega arith) l (omega arith))
-                (λ q h o. marked-out 264 m₁ (suc a) (b - suc a) q (omega arith) (omega arith) (upto′ o) ∙ marked-elsewhere 0 264 m a (b - a) q (inl (omega arith)) (omega (arith, long)) (omega arith) h) (s .inner);
-            empty = shown-more Empty m (marked m₁ 264 (suc a) (b - suc a)) 528 rs r a a (λ q c. absurd (z (omega (arith, c .0)))) (λ q l u. absurd (omega arith)) (λ q h l u. absurd (omega arith))
-                (λ q h o. marked-elsewhere 264 528 m₁ (suc a) (b - suc a) q (inl (omega arith)) (omega arith) (omega arith) h ∙ marked-elsewhere 0 528 m a (b - a) q (inl (omega arith)) (omega (arith, long)) (omega arith) h) (s .empty);
+                (λ q h o. marked-out 264 m₁ (suc a) (b - suc a) q (omega arith) (omega arith) (upto′ o)
+                ∙ marked-elsewhere 0 264 m a (b - a) q (inl (omega arith)) (omega (arith, long)) (omega arith) h) (s .inner);
+            empty = shown-more Empty m (marked m₁ 264 (suc a) (b - suc a)) 528 rs r a a (λ q c. absurd (z (omega (arith, c .0))))
+                (λ q l u. absurd (omega arith)) (λ q h l u. absurd (omega arith))
+                (λ q h o. marked-elsewhere 264 528 m₁ (suc a) (b - suc a) q (inl (omega arith)) (omega arith) (omega arith) h
+                ∙ marked-elsewhere 0 528 m a (b - a) q (inl (omega arith)) (omega (arith, long)) (omega arith) h) (s .empty);
           })
         where
           upto : {q : ℕ} → (q < a) ⊎ (b ≤ q) → (q < a) ⊎ (a + (b - a) ≤ q)

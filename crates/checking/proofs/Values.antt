@@ -2,27 +2,38 @@
 -- Assumes nothing.
 use mathlib.Core.Path.{_≡_, refl, sym, ap, _∙_, subst}
 use mathlib.Core.Bool.{Bool, true, false}
-use mathlib.Core.Option.{Option, none, some}
+use mathlib.Core.Option.{Option, none}
 use mathlib.Core.List.{List, []}
 use Prim.Native.Nat.{ℕ, zero, suc, _+_, _*_, _-_, _/_, _%_, _^_, _≤_, _<_}
 use native.Mathlib.Decide.{decLt}
 use native.Mathlib.Numerals.{add-one}
 use native.Mathlib.Omega.{arith}
 use lib.Dec.{eqb, ltb}
-use lib.ListN.{length, getD, replicate, take, drop, length-replicate, getD-replicate, length-take, length-drop}
-use lib.Seq.{take-take, take-length}
+use lib.ListN.{length, getD, length-replicate, getD-replicate}
 use Rattle.words.specs.Bytes.{Bytes, num, pad, bitmap, part}
 use Rattle.words.specs.Bits.{bit}
 use Rattle.words.specs.Reads.{Reads}
-use Rattle.words.proofs.Numbers.{bytes-take, bytes-drop}
-use Rattle.schema.specs.Types.{Ty, fix, text, li, ma, ro, Tys, fixedAt, textAt, width, place, field, count}
+use Rattle.schema.specs.Types.{Ty, fix, ro, Tys, fixedAt, width, place, field, count}
 use Rattle.schema.specs.Kinds.{placeAt, Marked}
-use Rattle.schema.specs.Walk.{Typed, typeAt, TypedAll, typesAt, nextAt, fieldAt, ListAt, MapAt, StructAt}
+use Rattle.schema.specs.Walk.{Typed, typeAt, typesAt, nextAt, fieldAt, ListAt, MapAt, StructAt}
 use Rattle.schema.proofs.Table.{width-8}
 use Rattle.schema.proofs.Laws.{byte-room}
-use Rattle.schema.proofs.Typing.{typed-deep, typed-room, typed-count, field-typed}
-use Rattle.schema.proofs.Places.{typed-marked, typed-place, place-li, place-ma, place-ro, fixed-of, text-of, holding-of, Holding as HoldingType, list, map, struct}
-use Rattle.layout.specs.Layout.{Codec, Kid, number, string, inside, outside, kidOf, kid, slotOf, array, pair, codec, kids, limit, decode}
+use Rattle.schema.proofs.Typing.{typed-deep, typed-count, field-typed}
+use Rattle.schema.proofs.Places.{
+  typed-marked,
+  typed-place,
+  place-li,
+  place-ma,
+  place-ro,
+  fixed-of,
+  text-of,
+  holding-of,
+  Holding as HoldingType,
+  list,
+  map,
+  struct,
+}
+use Rattle.layout.specs.Layout.{Codec, number, string, inside, outside, kidOf, kid, slotOf, array, pair, codec, kids, limit}
 use Rattle.layout.specs.Layout as Layout
 use Rattle.layout.specs.Tiles.{Range}
 use Rattle.layout.specs.Setting.{isSome}
@@ -30,12 +41,11 @@ use Rattle.layout.proofs.Containers.{kids-count}
 use Rattle.layout.proofs.Steps.{nobody, kidAt}
 use Rattle.layout.proofs.Walked.{kids-at}
 use Rattle.checking.specs.Sound.{sound, goodFrom, both}
-use Rattle.checking.specs.Room.{Holding, Container, Items, Pair, Fields, FieldRoom, fieldGood, either, elements, Known}
-use Rattle.checking.proofs.Tests.{both-false}
+use Rattle.checking.specs.Room.{Container, Items, Fields, fieldGood, either, elements}
 use Rattle.checking.proofs.Children.{good-null, good-inside}
-use Rattle.checking.proofs.Containers.{struct-short, struct-past, struct-good, list-short, map-short, map-unfit, map-is}
+use Rattle.checking.proofs.Containers.{struct-short, struct-past, struct-good}
 use Rattle.checking.proofs.Loops.{Slots, At, at-long}
-use Rattle.checking.proofs.Anywhere.{AnyAt}
+use Rattle.checking.proofs.Cursor.{AtCursor}
 
 -- ---- a container by its place
 
@@ -78,10 +88,6 @@ kid-outside : (w : ℕ) (o : Option ℕ) (c : Codec) → o ≡ none → kidOf w 
 unfolding kidOf
 kid-outside w o c e = rw e
 
-slot-eight : (o : Option ℕ) → o ≡ none → slotOf o ≡ 8
-unfolding slotOf
-slot-eight o e = rw e
-
 -- ---- the items of a list
 
 module _ (s : List ℕ) (at d k : ℕ) (b : List ℕ) (n : ℕ) (i : Items s at d k b n) (hb : Bytes b) where
@@ -108,10 +114,17 @@ module _ (s : List ℕ) (at d k : ℕ) (b : List ℕ) (n : ℕ) (i : Items s at 
   pub item-at : (j : ℕ) → j < n → kidAt (elements t n) j ≡ outside (codec t)
   item-at j h = getD-replicate n j (kid (slotOf (codec t .wide)) (codec t)) nobody h ∙ item-kid
 
+module _ {s : List ℕ} {at d k : ℕ} {b : List ℕ} {n : ℕ} (i : Items s at d k b n) where
+  -- an item's bytes, handed to a call
+  pub item-part : {p : List ℕ} → length p ≤ 16384 → Container s at d k p
+  item-part l = record { typed = i .typed; place = i .place; holds = i .holds; small = l }
+
+  pub item-falls : {m : ℕ} → d * 8 + 1 ≡ m → d * 8 < m
+  item-falls e = omega arith
+
 -- before item i: the loop's state, and what is known of the items before it
-pub record ItemAt (t : Ty) (b : List ℕ) (n slots start i slot cur : ℕ) : Type 0 where
-  pub state : At 8 (elements t n) b n slots start i slot cur
-  pub known : Known 8 (λ _. t) b n i
+abbrev pub ItemAt : Ty → List ℕ → ℕ → ℕ → ℕ → ℕ → ℕ → ℕ → Type 0
+ItemAt t b n slots start i slot cur = AtCursor 8 (λ _. t) (elements t n) b n slots start i slot cur
 
 -- a part handed to a call: what it answers of the part
 pub part-sound : (t : Ty) (p : List ℕ) (r : Bool) → r ≡ sound t p → isSome (codec t .get p) ≡ r
@@ -128,17 +141,6 @@ pub field-next : (s : List ℕ) (d i at : ℕ) → nextAt s (fieldAt s at d i) d
 unfolding fieldAt
 field-next s d zero at = refl
 field-next s d (suc i) at = field-next s d i (nextAt s at d)
-
--- before field i: where its type stands, and what is left
-pub record FieldAt (s : List ℕ) (first d n : ℕ) (b : List ℕ) (slots start at i slot cur : ℕ) : Type 0 where
-  pub type : at ≡ fieldAt s first d i
-  pub state : At 0 (kids (typesAt s first d n)) b n slots start i slot cur
-  pub known : Known 0 (field (typesAt s first d n)) b n i
-
--- the same where values stand in any order
-pub record AnyField (s : List ℕ) (first d n : ℕ) (b : List ℕ) (slots start at i slot sum : ℕ) (m : List ℕ) : Type 0 where
-  pub type : at ≡ fieldAt s first d i
-  pub state : AnyAt 0 (kids (typesAt s first d n)) b n slots start i slot sum m
 
 module _ (s : List ℕ) (first n d : ℕ) (b : List ℕ) (f : Fields s first n d b) (hb : Bytes b) where
   abbrev ts : Tys
@@ -228,27 +230,27 @@ module _ (s : List ℕ) (first n d : ℕ) (b : List ℕ) (f : Fields s first n d
               ∙ assoc (isSome (number w (limit (fixedAt k)) .get (part b slot w))) (eqb (num (part b (slot + w) (8 - w))) 0) (goodFrom 0 8 (kids ts) b (i + 1) rs)
 
       -- a fixed width, and one that varies
-      pub field-wide : k < 7 → codec (field ts i) .wide ≡ some (width (fixedAt k))
-      unfolding codec number
-      field-wide h = ap (λ (t : Ty). codec t .wide) (sym (law .1) ∙ fixed-of (typeAt s at d) k kp h)
+      pub field-fix : k < 7 → field ts i ≡ fix (fixedAt k)
+      field-fix h = sym (law .1) ∙ fixed-of (typeAt s at d) k kp h
 
-      pub field-none : 9 ≤ k → codec (field ts i) .wide ≡ none
-      field-none h = ap (λ (t : Ty). codec t .wide) (sym (law .1)) ∙ container-wide (typeAt s at d) k (holding-of (typeAt s at d) k kp h)
+      pub field-none : 7 ≤ k → codec (field ts i) .wide ≡ none
+      unfolding codec string
+      field-none lo = ap (λ (t : Ty). codec t .wide) (sym (law .1)) ∙ go (decLt k 9)
+        where
+          go : Dec (k < 9) → codec (typeAt s at d) .wide ≡ none
+          go (yes h) = ap (λ (t : Ty). codec t .wide) (text-of (typeAt s at d) k kp lo h)
+          go (no h) = container-wide (typeAt s at d) k (holding-of (typeAt s at d) k kp (omega arith))
 
       -- a string is sound whatever it is
       pub field-fine : 7 ≤ k → k < 9 → (u : List ℕ) → sound (field ts i) u ≡ true
       unfolding sound codec string
       field-fine lo hi u = ap (λ (t : Ty). sound t u) (sym (law .1) ∙ text-of (typeAt s at d) k kp lo hi)
 
-      -- a container is judged by its type
-      pub field-sound : (u : List ℕ) (r : Bool) → r ≡ sound (typeAt s at d) u → r ≡ true → sound (field ts i) u ≡ true
-      field-sound u r e g = ap (λ (t : Ty). sound t u) (sym (law .1)) ∙ sym e ∙ g
+      -- a value elsewhere, by its type
+      pub field-kid : 7 ≤ k → kidAt (kids ts) i ≡ outside (codec (field ts i))
+      field-kid lo = kids-at ts i (omega (arith, kids-n)) ∙ kid-outside 8 (codec (field ts i) .wide) (codec (field ts i)) (field-none lo)
 
-      pub field-known : (u : List ℕ) → sound (field ts i) u ≡ true → isSome (codec (typeAt s at d) .get u) ≡ true
-      unfolding sound
-      field-known u g = ap (λ (t : Ty). isSome (codec t .get u)) (law .1) ∙ g
-
-      -- a value elsewhere, whichever it is
+      -- and by its codec, whichever that is
       pub record Outside : Type 1 where
         pub own : Codec
         pub kid₀ : kidAt (kids ts) i ≡ outside own

@@ -8,7 +8,7 @@ use lib.Dec.{eqb}
 use lib.ListN.{length, replicate}
 use Rattle.words.specs.Bytes.{num, pad, bitmap, part}
 use Rattle.words.specs.Bits.{bit}
-use Rattle.schema.specs.Types.{Fixed, width, Ty, ro, field}
+use Rattle.schema.specs.Types.{Fixed, width, Ty, fix, ro, field}
 use Rattle.schema.specs.Kinds.{placeAt}
 use Rattle.schema.specs.Walk.{Typed, TypedAll, typeAt, typesAt}
 use Rattle.layout.specs.Layout.{Kid, outside, inside, string, number, limit, kid, slotOf, codec}
@@ -99,9 +99,19 @@ elements t n = replicate n (kid (slotOf (codec t .wide)) (codec t))
 abbrev pub pointed : List ℕ → ℕ → List ℕ
 pointed b slot = part b (num (part b slot 8) / 2 ^ 32) (num (part b slot 8) % 2 ^ 32)
 
--- The n children of b, behind a header of h bytes, have the types F: those before number i that vary are sound where their slots say.
+-- from where they stop, the padding up to a multiple of 8
+abbrev pub upToEight : List ℕ → ℕ → List ℕ
+upToEight b stop = part b stop (pad stop - stop)
+
+abbrev pub padding : List ℕ → ℕ → List ℕ
+padding b slot = upToEight b (num (part b slot 8) / 2 ^ 32 + num (part b slot 8) % 2 ^ 32)
+
+-- The n children of b, behind a header of h bytes, have the types F. Of those before number i that are not null, one that varies is sound
+-- where its slot says, with zeros for padding, and one of a fixed width is good in its slot (only a struct has such slots).
 pub record Known (h : ℕ) (F : ℕ → Ty) (b : List ℕ) (n i : ℕ) : Type 0 where
   pub sound : (j : ℕ) → j < i → bit b h j ≡ false → codec (F j) .wide ≡ none → sound (F j) (pointed b (h + bitmap n + 8 * j)) ≡ true
+  pub padded : (j : ℕ) → j < i → bit b h j ≡ false → codec (F j) .wide ≡ none → num (padding b (h + bitmap n + 8 * j)) ≡ 0
+  pub fixed : (j : ℕ) → j < i → bit b h j ≡ false → (f : Fixed) → F j ≡ fix f → fieldGood f b j (h + bitmap n + 8 * j) ≡ true
 
 -- the same of a struct's n fields, whose fixed part lies in b
 pub record FieldsKnown (s : List ℕ) (first n d : ℕ) (b : List ℕ) (i : ℕ) : Type 0 where

@@ -4,10 +4,8 @@ ghost use mathlib.Core.Path.{_≡_};
 ghost use mathlib.Core.List.{[]};
 ghost use Prim.Native.Nat.{_+_, _*_, _-_, _≤_, _<_};
 ghost use lib.ListN.{length};
-ghost use Rattle.words.specs.Bytes.{bitmap};
 ghost use Rattle.schema.specs.Types.{ro, li, ma, fixedAt};
-ghost use Rattle.schema.specs.Kinds.{placeAt};
-ghost use Rattle.schema.specs.Walk.{Typed, typeAt, typesAt, nextAt};
+ghost use Rattle.schema.specs.Walk.{typeAt, typesAt};
 ghost use Rattle.checking.specs.Sound.{sound, goodFrom};
 ghost use Rattle.checking.specs.Room.{FieldRoom, fieldGood, Holding, Container, Items, StructItems, Pair, Fields, elements, Known, FieldsKnown};
 ghost use Rattle.layout.specs.Layout.{kids};
@@ -173,8 +171,8 @@ fn check_items(s: &[u8], at: usize, depth: usize, k: usize, b: &[u8], n: usize) 
     cur == b.len()
 }
 
-// The elements of a list that holds containers, in any order: each apart from those before it, and no byte left over. What the elements
-// before number known hold was judged before.
+// The elements of a list that holds containers, in any order: each apart from those before it, and no byte left over. Those before number
+// known were judged before.
 fn any_items(s: &[u8], at: usize, depth: usize, k: usize, b: &[u8], n: usize, known: usize) -> bool
     requires { ⌜ Items (now s) at depth k (now b) n ⌝ }
     requires { ⌜ Known 8 (λ _. typeAt (now s) at depth) (now b) n known ⌝ }
@@ -199,9 +197,6 @@ fn any_items(s: &[u8], at: usize, depth: usize, k: usize, b: &[u8], n: usize, kn
         if !maps::place(&mut map, start, b.len(), from, next) {
             return false;
         }
-        if !words::sizes::pad_clear(b, end, next) {
-            return false;
-        }
         if i < known {
             sum += next - from;
             slot += 8;
@@ -209,6 +204,9 @@ fn any_items(s: &[u8], at: usize, depth: usize, k: usize, b: &[u8], n: usize, kn
             continue;
         }
         if !check_value(s, at, depth, k, &b[from..end]) {
+            return false;
+        }
+        if !words::sizes::pad_clear(b, end, next) {
             return false;
         }
         sum += next - from;
@@ -306,7 +304,7 @@ fn check_struct(s: &[u8], first: usize, n: usize, depth: usize, b: &[u8]) -> boo
     cur == b.len()
 }
 
-// The fields of a struct, in any order, whose size and bitmap were judged before, and what the fields before number known hold.
+// The fields of a struct, in any order, whose size and bitmap were judged before, and so were the fields before number known.
 fn any_struct(s: &[u8], first: usize, n: usize, depth: usize, b: &[u8], known: usize) -> bool
     requires { ⌜ Fields (now s) first n depth (now b) ⌝ }
     requires { ⌜ FieldsKnown (now s) first n depth (now b) known ⌝ }
@@ -322,6 +320,12 @@ fn any_struct(s: &[u8], first: usize, n: usize, depth: usize, b: &[u8], known: u
     while i < n {
         let k = schema::marks::place_at(s, at);
         if k < 7 {
+            if i < known {
+                at += 2;
+                slot += 8;
+                i += 1;
+                continue;
+            }
             if !check_field(b, i, slot, k) {
                 return false;
             }
@@ -344,22 +348,25 @@ fn any_struct(s: &[u8], first: usize, n: usize, depth: usize, b: &[u8], known: u
         if !maps::place(&mut map, start, b.len(), from, next) {
             return false;
         }
-        if !words::sizes::pad_clear(b, end, next) {
-            return false;
-        }
-        if k < 9 {
-            sum += next - from;
-            slot += 8;
-            i += 1;
-            continue;
-        }
         if i < known {
             sum += next - from;
             slot += 8;
             i += 1;
             continue;
         }
+        if k < 9 {
+            if !words::sizes::pad_clear(b, end, next) {
+                return false;
+            }
+            sum += next - from;
+            slot += 8;
+            i += 1;
+            continue;
+        }
         if !check_value(s, here, depth, k, &b[from..end]) {
+            return false;
+        }
+        if !words::sizes::pad_clear(b, end, next) {
             return false;
         }
         sum += next - from;

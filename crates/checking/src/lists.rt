@@ -5,7 +5,8 @@ ghost use mathlib.Core.List.{[]};
 ghost use Prim.Native.Nat.{_+_, _*_, _/_, _≤_, _<_};
 ghost use lib.ListN.{length};
 ghost use Rattle.checking.specs.Sound.{goodFrom};
-ghost use Rattle.checking.specs.Room.{ListRoom, NoNulls, NoNullsIf, texts, bools};
+ghost use Rattle.checking.specs.Room.{ListRoom, NoNulls, NoNullsIf, texts, bools, Known};
+ghost use Rattle.schema.specs.Types.{text, st};
 
 // Whether no bitmap word of n elements has a bit: one load for 64 elements.
 fn no_nulls(b: &[u8], n: usize) -> bool
@@ -22,9 +23,10 @@ fn no_nulls(b: &[u8], n: usize) -> bool
     true
 }
 
-// Strings in any order: each apart from those before it, and no byte left over.
-fn any_texts(b: &[u8], n: usize, slots: usize, start: usize) -> bool
+// Strings in any order: each apart from those before it, and no byte left over. Those before number known were judged before.
+fn any_texts(b: &[u8], n: usize, slots: usize, start: usize, known: usize) -> bool
     requires { ⌜ ListRoom (now b) 8 n slots start ⌝ }
+    requires { ⌜ Known 8 (λ _. text st) (now b) n known ⌝ }
     ensures { λ r. ⌜ r ≡ goodFrom 8 8 (texts n) (now (b .entry)) 0 [] ⌝ }
 {
     let mut map = [0u8; 792];
@@ -43,6 +45,12 @@ fn any_texts(b: &[u8], n: usize, slots: usize, start: usize) -> bool
         let next = words::sizes::pad_size(end);
         if !crate::maps::place(&mut map, start, b.len(), from, next) {
             return false;
+        }
+        if i < known {
+            sum += next - from;
+            slot += 8;
+            i += 1;
+            continue;
         }
         if !words::sizes::pad_clear(b, end, next) {
             return false;
@@ -66,7 +74,7 @@ fn full_texts(b: &[u8], n: usize, slots: usize, start: usize) -> bool
     while i < n {
         let x = words::nums::get8(b, slot);
         if words::slots::slot_offset(x) as usize != cur {
-            return any_texts(b, n, slots, start);
+            return any_texts(b, n, slots, start, i);
         }
         let end = cur + words::slots::slot_size(x) as usize;
         let next = words::sizes::pad_size(end);
@@ -99,7 +107,7 @@ fn some_texts(b: &[u8], n: usize, slots: usize, start: usize) -> bool
         }
         let x = words::nums::get8(b, slot);
         if words::slots::slot_offset(x) as usize != cur {
-            return any_texts(b, n, slots, start);
+            return any_texts(b, n, slots, start, i);
         }
         let end = cur + words::slots::slot_size(x) as usize;
         let next = words::sizes::pad_size(end);

@@ -45,6 +45,14 @@ fn admit(m: &mut [u8], a: usize, b: usize) -> bool
         words::nulls::set_null(m, 528, a);
         return true;
     }
+    // Most values take one unit, and nothing can stand inside one.
+    if a + 1 == b {
+        if words::nulls::is_null(m, 0, a) {
+            return false;
+        }
+        words::nulls::set_null(m, 0, a);
+        return true;
+    }
     if !clear(m, 0, a, b) {
         return false;
     }

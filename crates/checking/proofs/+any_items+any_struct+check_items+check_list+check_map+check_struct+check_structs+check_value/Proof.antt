@@ -1,27 +1,118 @@
 -- The cycle of `checking` meets its contracts: remaining depth falls along the calls, and each loop leads to the end that it started with.
 -- Assumes nothing.
-use mathlib.Core.Path.{_≡_, refl, sym, ap, _∙_}
-use Prim.Native.Nat.{_+_, _*_, _-_, _/_}
+use mathlib.Core.Path.{refl, sym, ap, _∙_}
+use Prim.Native.Nat.{_+_, _*_, _-_}
 use native.Mathlib.Omega.{arith}
 use lib.ListN.{length-take, length-drop}
 use borrow.Author.Tests.{not-true, not-false}
-use Rattle.words.specs.Bytes.{bitmap}
 use Rattle.words.proofs.Numbers.{bytes-of}
-use Rattle.schema.specs.Types.{ro, field}
 use Rattle.schema.specs.Walk.{typeAt, typesAt}
-use Rattle.schema.proofs.Places.{typed-marked, leaf-next, place-ro}
+use Rattle.schema.proofs.Places.{typed-marked, place-ro}
 use Rattle.schema.proofs.Laws.{byte-room}
 use Rattle.schema.proofs.Typing.{typed-deep}
 use Rattle.layout.specs.Layout.{string, codec, kids}
 use Rattle.checking.specs.Room.{elements}
 use Rattle.checking.proofs.Containers.{list-short}
-use Rattle.checking.proofs.Elements.{list-many, width-small, list-out, list-bits, list-gap, bools-room, list-bools, list-numbers, texts-room, list-texts, items-room, list-items}
-use Rattle.checking.proofs.Values.{value-deep, value-mark, value-list, value-map, value-struct, count-room, as-sound, item-none, items-slots, item-at, ItemAt, part-sound, FieldAt, AnyField, field-first, fields-short, fields-bits, fields-good, fields-slots, field-here, field-type, field-marked, field-on, field-string, field-container, field-judged, field-wide, field-none, field-fine, field-sound, field-known, field-outside, long-either}
+use Rattle.checking.proofs.Elements.{
+  list-many,
+  width-small,
+  list-out,
+  list-bits,
+  list-gap,
+  bools-room,
+  list-bools,
+  list-numbers,
+  texts-room,
+  list-texts,
+  items-room,
+  list-items,
+}
+use Rattle.checking.proofs.Values.{
+  value-deep,
+  value-mark,
+  value-list,
+  value-map,
+  value-struct,
+  count-room,
+  as-sound,
+  item-none,
+  items-slots,
+  item-at,
+  item-part,
+  item-falls,
+  ItemAt,
+  part-sound,
+  fields-short,
+  fields-bits,
+  fields-good,
+  fields-slots,
+  field-here,
+  field-marked,
+  field-string,
+  field-container,
+  field-judged,
+  long-either,
+}
 use Rattle.checking.proofs.Arrays.{maps-short, maps-unfit, maps-keys, maps-values, maps-counts, keys-room, values-room}
-use Rattle.checking.proofs.Leaves.{text-fine}
-use Rattle.checking.proofs.Loops.{At, at-start, at-end, slot-room, bit-room, at-null, at-same, at-wrong, at-long, at-bad, at-unpadded, at-next}
-use Rattle.checking.proofs.Anywhere.{AnyAt, any-start, any-end, any-slot, any-bit, any-small, any-null, any-same, any-wrong, any-order, any-off, any-within, any-behind, any-bad, any-unpadded, any-next, sum-room, pad-eight, stop-in}
-use Rattle.checking.proofs.Knowing.{known-start, known-null, known-fixed, known-next, known-at}
+use Rattle.checking.proofs.Loops.{at-end, slot-room, bit-room, at-wrong, at-long, at-bad, at-unpadded}
+use Rattle.checking.proofs.Anywhere.{
+  AnyAt,
+  Told,
+  Stood,
+  passed,
+  slot-end,
+  stop-fits,
+  any-start,
+  any-end,
+  any-map,
+  any-bit,
+  any-slot,
+  any-slot-on,
+  any-on,
+  any-less,
+  any-null,
+  any-place,
+  any-off,
+  any-stood,
+  stood-order,
+  stood-slot-on,
+  stood-on,
+  stood-less,
+  stood-sum,
+  stood-pad,
+  stood-part,
+  stood-end,
+  stood-short,
+  any-bad,
+  any-unpadded,
+  any-next,
+  any-known,
+}
+use Rattle.checking.proofs.Cursor.{Here, order-start, order-null, here-next}
+use Rattle.checking.proofs.StructLoops.{
+  FieldAt,
+  AnyField,
+  reached-typed,
+  reached-marked,
+  reached-falls,
+  reached-sound,
+  reached-kid,
+  reached-varies,
+  reached-text,
+  reached-part,
+  order-fields,
+  in-order,
+  order-reached,
+  order-field,
+  order-leaf,
+  any-fields,
+  any-reached,
+  any-field,
+  any-leaf-room,
+  any-leaf-wrong,
+  any-leaf,
+  any-leaf-known,
+}
 use Prim.Native.Nat.{ℕ, _<_}
 use borrow.Fn.Kinds.{In}
 use borrow.Fn.PlainCycle.{Measures, is, falls, and}
@@ -168,16 +259,61 @@ check-value-below t =
     and 2 check-value-kinds.ps (falls 2 check-value-kinds.ps _<_ μ-check-value t) check-value.Pre
 
 abbrev any-items-Inv-loop : any-items-lts.InvT-loop
-any-items-Inv-loop s at depth k b n known slots start map₀ i₀ slot₀ sum₀ map i slot sum = AnyAt 8 (elements (typeAt s at depth) n) b n slots start i slot sum map
+any-items-Inv-loop s at depth k b n known slots start map₀ i₀ slot₀ sum₀ map i slot sum =
+    AnyAt 8 (λ _. typeAt s at depth) (elements (typeAt s at depth) n) b n known slots start i slot sum map
 
 abbrev any-items-μ-loop : any-items-lts.MeasureT-loop
 any-items-μ-loop s at depth k b n known slots start map₀ i₀ slot₀ sum₀ map i slot sum = n - i
 
 abbrev any-items-calls : ℕ → any-items-lts.Claims
-any-items-calls t = (bitmap-size-reads.Asked, bitmap-size-reads.Learnt, is-null-reads.Asked, is-null-reads.Learnt, get8-reads.Asked, get8-reads.Learnt, slot-offset-reads.Asked, slot-offset-reads.Learnt, slot-size-reads.Asked, slot-size-reads.Learnt, pad-size-reads.Asked, pad-size-reads.Learnt, place-reads.Asked, place-reads.Learnt, pad-clear-reads.Asked, pad-clear-reads.Learnt, check-value-below t, check-value.Post)
+any-items-calls t = (
+  bitmap-size-reads.Asked,
+  bitmap-size-reads.Learnt,
+  is-null-reads.Asked,
+  is-null-reads.Learnt,
+  get8-reads.Asked,
+  get8-reads.Learnt,
+  slot-offset-reads.Asked,
+  slot-offset-reads.Learnt,
+  slot-size-reads.Asked,
+  slot-size-reads.Learnt,
+  pad-size-reads.Asked,
+  pad-size-reads.Learnt,
+  place-reads.Asked,
+  place-reads.Learnt,
+  check-value-below t,
+  check-value.Post,
+  pad-clear-reads.Asked,
+  pad-clear-reads.Learnt,
+)
 
 abbrev any-struct-calls : ℕ → any-struct-lts.Claims
-any-struct-calls t = (bitmap-size-reads.Asked, bitmap-size-reads.Learnt, place-at-reads.Asked, place-at-reads.Learnt, check-field-reads.Asked, check-field-reads.Learnt, next-type-reads.Asked, next-type-reads.Learnt, is-null-reads.Asked, is-null-reads.Learnt, get8-reads.Asked, get8-reads.Learnt, slot-offset-reads.Asked, slot-offset-reads.Learnt, slot-size-reads.Asked, slot-size-reads.Learnt, pad-size-reads.Asked, pad-size-reads.Learnt, place-reads.Asked, place-reads.Learnt, pad-clear-reads.Asked, pad-clear-reads.Learnt, check-value-below t, check-value.Post)
+any-struct-calls t = (
+  bitmap-size-reads.Asked,
+  bitmap-size-reads.Learnt,
+  place-at-reads.Asked,
+  place-at-reads.Learnt,
+  check-field-reads.Asked,
+  check-field-reads.Learnt,
+  next-type-reads.Asked,
+  next-type-reads.Learnt,
+  is-null-reads.Asked,
+  is-null-reads.Learnt,
+  get8-reads.Asked,
+  get8-reads.Learnt,
+  slot-offset-reads.Asked,
+  slot-offset-reads.Learnt,
+  slot-size-reads.Asked,
+  slot-size-reads.Learnt,
+  pad-size-reads.Asked,
+  pad-size-reads.Learnt,
+  place-reads.Asked,
+  place-reads.Learnt,
+  pad-clear-reads.Asked,
+  pad-clear-reads.Learnt,
+  check-value-below t,
+  check-value.Post,
+)
 
 abbrev check-items-calls : ℕ → check-items-lts.Claims
 check-items-calls t = (bitmap-size-reads.Asked, bitmap-size-reads.Learnt, is-null-reads.Asked, is-null-reads.Learnt, get8-reads.Asked, get8-reads.Learnt, slot-offset-reads.Asked, slot-offset-reads.Learnt, any-items-below t, any-items.Post, slot-size-reads.Asked, slot-size-reads.Learnt, pad-size-reads.Asked, pad-size-reads.Learnt, check-value-below t, check-value.Post, pad-clear-reads.Asked, pad-clear-reads.Learnt)
@@ -197,7 +333,8 @@ check-structs-calls t = (bitmap-size-reads.Asked, bitmap-size-reads.Learnt, is-n
 abbrev check-value-calls : ℕ → check-value-lts.Claims
 check-value-calls t = (check-list-below t, check-list.Post, next-reads.Asked, next-reads.Learnt, check-map-below t, check-map.Post, wide-reads.Asked, wide-reads.Learnt, check-struct-below t, check-struct.Post)
 
-any-items-bitmap-size-requires : (t : ℕ) → any-items-lts.Need-bitmap-size-requires (any-items-calls t) (any-items-at t) any-items.Post any-items-Inv-loop any-items-μ-loop
+any-items-bitmap-size-requires :
+    (t : ℕ) → any-items-lts.Need-bitmap-size-requires (any-items-calls t) (any-items-at t) any-items.Post any-items-Inv-loop any-items-μ-loop
 any-items-bitmap-size-requires t c κs = omega (arith, c .before .before .pre .1 .0 .room, c .before .before .pre .1 .0 .small)
 
 any-items-add-slots : (t : ℕ) → any-items-lts.Need-add-slots (any-items-calls t) (any-items-at t) any-items.Post any-items-Inv-loop any-items-μ-loop
@@ -210,114 +347,161 @@ any-items-add-start : (t : ℕ) → any-items-lts.Need-add-start (any-items-call
 any-items-add-start t c = omega (arith, c .before .before .before .pre .1 .0 .room, c .before .before .before .pre .1 .0 .small, c .bitmap-size .ensures)
 
 any-items-loop-holds : (t : ℕ) → any-items-lts.Need-loop-holds (any-items-calls t) (any-items-at t) any-items.Post any-items-Inv-loop any-items-μ-loop
-any-items-loop-holds t c = let A = c .before .before .before .args in let S = A .s .now in let B = A .b .now in let P = c .before .before .before .pre .1 .0 in let HB = bytes-of B (λ i. c .before .shared-slice-known2 .given i .fits) in let T = typeAt S (A .at) (A .depth) in let D = items-slots S (A .at) (A .depth) (A .k) B (A .n) P HB (8 + c .bitmap-size .result) (8 + c .bitmap-size .result + 8 * A .n) (ap (λ (x : ℕ). 8 + x) (c .bitmap-size .ensures)) refl in any-start 8 (elements T (A .n)) B (A .n) (8 + c .bitmap-size .result) (8 + c .bitmap-size .result + 8 * A .n) D
+any-items-loop-holds t c =
+    any-start
+    (items-slots _ _ _ _ _ _ (c .before .before .before .pre .1 .0) (bytes-of _ (λ i. c .before .shared-slice-known2 .given i .fits)) _ _
+    (ap (λ (x : ℕ). 8 + x) (c .bitmap-size .ensures)) refl)
+    (c .before .before .before .pre .1 .1)
 
-any-items-is-null-requires : (t : ℕ) → any-items-lts.Need-is-null-requires (any-items-calls t) (any-items-at t) any-items.Post any-items-Inv-loop any-items-μ-loop
-any-items-is-null-requires t c κs = let A = c .before .before .before .before .before .args in let S = A .s .now in let B = A .b .now in let P = c .before .before .before .before .before .pre .1 .0 in let HB = bytes-of B (λ i. c .before .before .before .shared-slice-known2 .given i .fits) in let T = typeAt S (A .at) (A .depth) in let D = items-slots S (A .at) (A .depth) (A .k) B (A .n) P HB (8 + c .before .before .bitmap-size .result) (8 + c .before .before .bitmap-size .result + 8 * A .n) (ap (λ (x : ℕ). 8 + x) (c .before .before .bitmap-size .ensures)) refl in any-bit 8 (elements T (A .n)) B (A .n) (8 + c .before .before .bitmap-size .result) (8 + c .before .before .bitmap-size .result + 8 * A .n) D (c .before .loop .i) (c .before .loop .slot) (c .before .loop .sum) (c .before .loop .map) (c .before .loop .inv) (c .loop-test .taken)
+any-items-is-null-requires :
+    (t : ℕ) → any-items-lts.Need-is-null-requires (any-items-calls t) (any-items-at t) any-items.Post any-items-Inv-loop any-items-μ-loop
+any-items-is-null-requires t c κs = any-bit (c .before .loop .inv) (c .loop-test .taken)
 
 any-items-add-slot : (t : ℕ) → any-items-lts.Need-add-slot (any-items-calls t) (any-items-at t) any-items.Post any-items-Inv-loop any-items-μ-loop
-any-items-add-slot t c = let r = c .before .before .before .loop .inv in omega (arith, r .slot-is, c .before .before .before .before .before .before .before .pre .1 .0 .room, c .before .before .before .before .before .before .before .pre .1 .0 .small, c .before .before .before .before .bitmap-size .ensures)
+any-items-add-slot t c = any-slot-on (c .before .before .before .loop .inv) (c .before .before .loop-test .taken)
 
 any-items-add-i : (t : ℕ) → any-items-lts.Need-add-i (any-items-calls t) (any-items-at t) any-items.Post any-items-Inv-loop any-items-μ-loop
-any-items-add-i t c = omega arith
+any-items-add-i t c = any-on (c .before .before .before .loop .inv) (c .before .before .loop-test .taken)
 
 any-items-loop-less : (t : ℕ) → any-items-lts.Need-loop-less (any-items-calls t) (any-items-at t) any-items.Post any-items-Inv-loop any-items-μ-loop
-any-items-loop-less t c = omega arith
+any-items-loop-less t c = any-less (c .before .before .before .loop .inv) (c .before .before .loop-test .taken)
 
 any-items-loop-again : (t : ℕ) → any-items-lts.Need-loop-again (any-items-calls t) (any-items-at t) any-items.Post any-items-Inv-loop any-items-μ-loop
-any-items-loop-again t c = let A = c .before .before .before .before .before .before .before .args in let S = A .s .now in let B = A .b .now in let P = c .before .before .before .before .before .before .before .pre .1 .0 in let HB = bytes-of B (λ i. c .before .before .before .before .before .shared-slice-known2 .given i .fits) in let T = typeAt S (A .at) (A .depth) in let D = items-slots S (A .at) (A .depth) (A .k) B (A .n) P HB (8 + c .before .before .before .before .bitmap-size .result) (8 + c .before .before .before .before .bitmap-size .result + 8 * A .n) (ap (λ (x : ℕ). 8 + x) (c .before .before .before .before .bitmap-size .ensures)) refl in any-null 8 (elements T (A .n)) B (A .n) (8 + c .before .before .before .before .bitmap-size .result) (8 + c .before .before .before .before .bitmap-size .result + 8 * A .n) D (c .before .before .before .loop .i) (c .before .before .before .loop .slot) (c .before .before .before .loop .sum) (c .before .before .before .loop .map) (c .before .before .before .loop .inv) (c .before .before .loop-test .taken) (sym (c .before .is-null .ensures) ∙ c .if1 .taken)
+any-items-loop-again t c = any-null (c .before .before .before .loop .inv) (c .before .before .loop-test .taken) (c .before .is-null .ensures) (c .if1 .taken)
 
 any-items-get8-requires : (t : ℕ) → any-items-lts.Need-get8-requires (any-items-calls t) (any-items-at t) any-items.Post any-items-Inv-loop any-items-μ-loop
-any-items-get8-requires t c κs = let A = c .before .before .before .before .before .before .before .args in let S = A .s .now in let B = A .b .now in let P = c .before .before .before .before .before .before .before .pre .1 .0 in let HB = bytes-of B (λ i. c .before .before .before .before .before .shared-slice-known2 .given i .fits) in let T = typeAt S (A .at) (A .depth) in let D = items-slots S (A .at) (A .depth) (A .k) B (A .n) P HB (8 + c .before .before .before .before .bitmap-size .result) (8 + c .before .before .before .before .bitmap-size .result + 8 * A .n) (ap (λ (x : ℕ). 8 + x) (c .before .before .before .before .bitmap-size .ensures)) refl in omega (arith, any-slot 8 (elements T (A .n)) B (A .n) (8 + c .before .before .before .before .bitmap-size .result) (8 + c .before .before .before .before .bitmap-size .result + 8 * A .n) D (c .before .before .before .loop .i) (c .before .before .before .loop .slot) (c .before .before .before .loop .sum) (c .before .before .before .loop .map) (c .before .before .before .loop .inv) (c .before .before .loop-test .taken), D .room)
+any-items-get8-requires t c κs = any-slot (c .before .before .before .loop .inv) (c .before .before .loop-test .taken)
 
-any-items-slot-offset-requires : (t : ℕ) → any-items-lts.Need-slot-offset-requires (any-items-calls t) (any-items-at t) any-items.Post any-items-Inv-loop any-items-μ-loop
+any-items-slot-offset-requires :
+    (t : ℕ) → any-items-lts.Need-slot-offset-requires (any-items-calls t) (any-items-at t) any-items.Post any-items-Inv-loop any-items-μ-loop
 any-items-slot-offset-requires t c κs = tt
 
-any-items-slot-size-requires : (t : ℕ) → any-items-lts.Need-slot-size-requires (any-items-calls t) (any-items-at t) any-items.Post any-items-Inv-loop any-items-μ-loop
+any-items-slot-size-requires :
+    (t : ℕ) → any-items-lts.Need-slot-size-requires (any-items-calls t) (any-items-at t) any-items.Post any-items-Inv-loop any-items-μ-loop
 any-items-slot-size-requires t c κs = tt
 
 any-items-add-end : (t : ℕ) → any-items-lts.Need-add-end (any-items-calls t) (any-items-at t) any-items.Post any-items-Inv-loop any-items-μ-loop
-any-items-add-end t c = omega (arith, c .before .slot-offset .ensures, c .slot-size .ensures)
+any-items-add-end t c = stop-fits (c .before .before .get8 .ensures) (c .before .slot-offset .ensures) (c .slot-size .ensures)
 
-any-items-pad-size-requires : (t : ℕ) → any-items-lts.Need-pad-size-requires (any-items-calls t) (any-items-at t) any-items.Post any-items-Inv-loop any-items-μ-loop
-any-items-pad-size-requires t c κs = omega (arith, c .before .slot-offset .ensures, c .slot-size .ensures)
+any-items-pad-size-requires :
+    (t : ℕ) → any-items-lts.Need-pad-size-requires (any-items-calls t) (any-items-at t) any-items.Post any-items-Inv-loop any-items-μ-loop
+any-items-pad-size-requires t c κs = slot-end (c .before .before .get8 .ensures) (c .before .slot-offset .ensures) (c .slot-size .ensures)
 
-any-items-slice-aggregate-place : (t : ℕ) → any-items-lts.Need-slice-aggregate-place (any-items-calls t) (any-items-at t) any-items.Post any-items-Inv-loop any-items-μ-loop
-any-items-slice-aggregate-place t c = sym (c .before .before .before .before .before .before .before .before .loop .inv .shows .long)
+-- what the item's slot says
+any-items-told : (t : ℕ) (c : any-items-lts.After-pad-size (any-items-calls t) (any-items-at t) any-items.Post any-items-Inv-loop any-items-μ-loop)
+    → Told (c .before .before .before .before .before .before .before .loop .inv) (c .before .before .slot-offset .result) (c .before .slot-size .result)
+    (c .pad-size .result)
+any-items-told t c = record {
+  less = c .before .before .before .before .before .before .loop-test .taken;
+  kid =
+      item-at _ _ _ _ _ _ (c .before .before .before .before .before .before .before .before .before .before .before .pre .1 .0)
+      (c .before .before .before .before .before .before .before .loop .inv .fixed .bytes) _
+      (c .before .before .before .before .before .before .loop-test .taken);
+  varies =
+      item-none _ _ _ _ _ _ (c .before .before .before .before .before .before .before .before .before .before .before .pre .1 .0)
+      (c .before .before .before .before .before .before .before .loop .inv .fixed .bytes);
+  here = sym (c .before .before .before .before .before .is-null .ensures) ∙ c .before .before .before .before .if1 .left;
+  number = c .before .before .before .get8 .result;
+  reads = c .before .before .before .get8 .ensures;
+  from = c .before .before .slot-offset .ensures;
+  size = c .before .slot-size .ensures;
+  to = c .pad-size .ensures;
+}
+
+any-items-slice-aggregate-place :
+    (t : ℕ) → any-items-lts.Need-slice-aggregate-place (any-items-calls t) (any-items-at t) any-items.Post any-items-Inv-loop any-items-μ-loop
+any-items-slice-aggregate-place t c = any-map (c .before .before .before .before .before .before .before .before .loop .inv)
 
 any-items-place-requires : (t : ℕ) → any-items-lts.Need-place-requires (any-items-calls t) (any-items-at t) any-items.Post any-items-Inv-loop any-items-μ-loop
-any-items-place-requires t c κs = let A = c .before .before .before .before .before .before .before .before .before .before .before .before .args in let S = A .s .now in let B = A .b .now in let P = c .before .before .before .before .before .before .before .before .before .before .before .before .pre .1 .0 in let HB = bytes-of B (λ i. c .before .before .before .before .before .before .before .before .before .before .shared-slice-known2 .given i .fits) in let T = typeAt S (A .at) (A .depth) in let D = items-slots S (A .at) (A .depth) (A .k) B (A .n) P HB (8 + c .before .before .before .before .before .before .before .before .before .bitmap-size .result) (8 + c .before .before .before .before .before .before .before .before .before .bitmap-size .result + 8 * A .n) (ap (λ (x : ℕ). 8 + x) (c .before .before .before .before .before .before .before .before .before .bitmap-size .ensures)) refl in (any-order 8 (elements T (A .n)) B (A .n) (8 + c .before .before .before .before .before .before .before .before .before .bitmap-size .result) (8 + c .before .before .before .before .before .before .before .before .before .bitmap-size .result + 8 * A .n) D (c .before .before .before .before .before .before .before .before .loop .i) (c .before .before .before .before .before .before .before .before .loop .slot) (c .before .before .before .before .before .before .before .before .loop .sum) (c .before .before .before .before .before .before .before .before .loop .map) (c .before .before .before .before .before .before .before .before .loop .inv) (c .before .before .before .before .before .before .before .loop-test .taken) (codec T) (item-at S (A .at) (A .depth) (A .k) B (A .n) P HB (c .before .before .before .before .before .before .before .before .loop .i) (c .before .before .before .before .before .before .before .loop-test .taken)) (sym (c .before .before .before .before .before .before .is-null .ensures) ∙ c .before .before .before .before .before .if1 .left) (c .before .before .before .before .get8 .result) (c .before .before .before .before .get8 .ensures) (c .before .before .before .slot-offset .result) (c .before .before .before .slot-offset .ensures) (c .before .before .slot-size .result) (c .before .before .slot-size .ensures) (c .before .before .before .slot-offset .result + c .before .before .slot-size .result) (c .before .pad-size .result) refl (c .before .pad-size .ensures), D .small, c .before .before .before .before .before .before .before .before .loop .inv .shows .long)
+any-items-place-requires t c κs = any-place (any-items-told t (c .before))
 
 any-items-returns : (t : ℕ) → any-items-lts.Need-returns (any-items-calls t) (any-items-at t) any-items.Post any-items-Inv-loop any-items-μ-loop
-any-items-returns t c = let A = c .before .before .before .before .before .before .before .before .before .before .before .before .before .before .before .args in let S = A .s .now in let B = A .b .now in let P = c .before .before .before .before .before .before .before .before .before .before .before .before .before .before .before .pre .1 .0 in let HB = bytes-of B (λ i. c .before .before .before .before .before .before .before .before .before .before .before .before .before .shared-slice-known2 .given i .fits) in let T = typeAt S (A .at) (A .depth) in let D = items-slots S (A .at) (A .depth) (A .k) B (A .n) P HB (8 + c .before .before .before .before .before .before .before .before .before .before .before .before .bitmap-size .result) (8 + c .before .before .before .before .before .before .before .before .before .before .before .before .bitmap-size .result + 8 * A .n) (ap (λ (x : ℕ). 8 + x) (c .before .before .before .before .before .before .before .before .before .before .before .before .bitmap-size .ensures)) refl in any-off 8 (elements T (A .n)) B (A .n) (8 + c .before .before .before .before .before .before .before .before .before .before .before .before .bitmap-size .result) (8 + c .before .before .before .before .before .before .before .before .before .before .before .before .bitmap-size .result + 8 * A .n) D (c .before .before .before .before .before .before .before .before .before .before .before .loop .i) (c .before .before .before .before .before .before .before .before .before .before .before .loop .slot) (c .before .before .before .before .before .before .before .before .before .before .before .loop .sum) (c .before .before .before .before .before .before .before .before .before .before .before .loop .map) (c .before .before .before .before .before .before .before .before .before .before .before .loop .inv) (c .before .before .before .before .before .before .before .before .before .before .loop-test .taken) (codec T) (item-at S (A .at) (A .depth) (A .k) B (A .n) P HB (c .before .before .before .before .before .before .before .before .before .before .before .loop .i) (c .before .before .before .before .before .before .before .before .before .before .loop-test .taken)) (sym (c .before .before .before .before .before .before .before .before .before .is-null .ensures) ∙ c .before .before .before .before .before .before .before .before .if1 .left) (c .before .before .before .before .before .before .before .get8 .result) (c .before .before .before .before .before .before .before .get8 .ensures) (c .before .before .before .before .before .before .slot-offset .result) (c .before .before .before .before .before .before .slot-offset .ensures) (c .before .before .before .before .before .slot-size .result) (c .before .before .before .before .before .slot-size .ensures) (c .before .before .before .before .before .before .slot-offset .result + c .before .before .before .before .before .slot-size .result) (c .before .before .before .before .pad-size .result) refl (c .before .before .before .before .pad-size .ensures) (c .before .before .place .result) (c .before .before .place .ensures .0) (not-true _ (c .if2 .taken))
+any-items-returns t c = any-off (any-items-told t (c .before .before .before .before)) (c .before .before .place .ensures .0) (c .if2 .taken)
 
-any-items-pad-clear-requires : (t : ℕ) → any-items-lts.Need-pad-clear-requires (any-items-calls t) (any-items-at t) any-items.Post any-items-Inv-loop any-items-μ-loop
-any-items-pad-clear-requires t c κs = let A = c .before .before .before .before .before .before .before .before .before .before .before .before .before .before .before .args in let S = A .s .now in let B = A .b .now in let P = c .before .before .before .before .before .before .before .before .before .before .before .before .before .before .before .pre .1 .0 in let HB = bytes-of B (λ i. c .before .before .before .before .before .before .before .before .before .before .before .before .before .shared-slice-known2 .given i .fits) in let T = typeAt S (A .at) (A .depth) in let D = items-slots S (A .at) (A .depth) (A .k) B (A .n) P HB (8 + c .before .before .before .before .before .before .before .before .before .before .before .before .bitmap-size .result) (8 + c .before .before .before .before .before .before .before .before .before .before .before .before .bitmap-size .result + 8 * A .n) (ap (λ (x : ℕ). 8 + x) (c .before .before .before .before .before .before .before .before .before .before .before .before .bitmap-size .ensures)) refl in let w = any-within 8 (elements T (A .n)) B (A .n) (8 + c .before .before .before .before .before .before .before .before .before .before .before .before .bitmap-size .result) (8 + c .before .before .before .before .before .before .before .before .before .before .before .before .bitmap-size .result + 8 * A .n) D (c .before .before .before .before .before .before .before .before .before .before .before .loop .i) (c .before .before .before .before .before .before .before .before .before .before .before .loop .slot) (c .before .before .before .before .before .before .before .before .before .before .before .loop .sum) (c .before .before .before .before .before .before .before .before .before .before .before .loop .map) (c .before .before .before .before .before .before .before .before .before .before .before .loop .inv) (c .before .before .before .before .before .before .before .before .before .before .loop-test .taken) (codec T) (item-at S (A .at) (A .depth) (A .k) B (A .n) P HB (c .before .before .before .before .before .before .before .before .before .before .before .loop .i) (c .before .before .before .before .before .before .before .before .before .before .loop-test .taken)) (sym (c .before .before .before .before .before .before .before .before .before .is-null .ensures) ∙ c .before .before .before .before .before .before .before .before .if1 .left) (c .before .before .before .before .before .before .before .get8 .result) (c .before .before .before .before .before .before .before .get8 .ensures) (c .before .before .before .before .before .before .slot-offset .result) (c .before .before .before .before .before .before .slot-offset .ensures) (c .before .before .before .before .before .slot-size .result) (c .before .before .before .before .before .slot-size .ensures) (c .before .before .before .before .before .before .slot-offset .result + c .before .before .before .before .before .slot-size .result) (c .before .before .before .before .pad-size .result) refl (c .before .before .before .before .pad-size .ensures) (c .before .before .place .result) (c .before .before .place .ensures .0) (not-false _ (c .if2 .left)) in let v = any-behind 8 (elements T (A .n)) B (A .n) (8 + c .before .before .before .before .before .before .before .before .before .before .before .before .bitmap-size .result) (8 + c .before .before .before .before .before .before .before .before .before .before .before .before .bitmap-size .result + 8 * A .n) D (c .before .before .before .before .before .before .before .before .before .before .before .loop .i) (c .before .before .before .before .before .before .before .before .before .before .before .loop .slot) (c .before .before .before .before .before .before .before .before .before .before .before .loop .sum) (c .before .before .before .before .before .before .before .before .before .before .before .loop .map) (c .before .before .before .before .before .before .before .before .before .before .before .loop .inv) (c .before .before .before .before .before .before .before .before .before .before .loop-test .taken) (codec T) (item-at S (A .at) (A .depth) (A .k) B (A .n) P HB (c .before .before .before .before .before .before .before .before .before .before .before .loop .i) (c .before .before .before .before .before .before .before .before .before .before .loop-test .taken)) (sym (c .before .before .before .before .before .before .before .before .before .is-null .ensures) ∙ c .before .before .before .before .before .before .before .before .if1 .left) (c .before .before .before .before .before .before .before .get8 .result) (c .before .before .before .before .before .before .before .get8 .ensures) (c .before .before .before .before .before .before .slot-offset .result) (c .before .before .before .before .before .before .slot-offset .ensures) (c .before .before .before .before .before .slot-size .result) (c .before .before .before .before .before .slot-size .ensures) (c .before .before .before .before .before .before .slot-offset .result + c .before .before .before .before .before .slot-size .result) (c .before .before .before .before .pad-size .result) refl (c .before .before .before .before .pad-size .ensures) (c .before .before .place .result) (c .before .before .place .ensures .0) (not-false _ (c .if2 .left)) in (pad-eight (8 + c .before .before .before .before .before .before .before .before .before .before .before .before .bitmap-size .result + 8 * A .n) (c .before .before .before .before .before .before .slot-offset .result) _ (c .before .before .before .before .pad-size .result) (c .before .before .before .before .before .slot-size .result) (omega (arith, D .map, D .data₀)) v (c .before .before .before .before .pad-size .ensures) refl, w, omega (arith, D .small), c .before .before .before .before .pad-size .ensures)
-
-any-items-returns-2 : (t : ℕ) → any-items-lts.Need-returns-2 (any-items-calls t) (any-items-at t) any-items.Post any-items-Inv-loop any-items-μ-loop
-any-items-returns-2 t c = let A = c .before .before .before .before .before .before .before .before .before .before .before .before .before .before .before .before .before .args in let S = A .s .now in let B = A .b .now in let P = c .before .before .before .before .before .before .before .before .before .before .before .before .before .before .before .before .before .pre .1 .0 in let HB = bytes-of B (λ i. c .before .before .before .before .before .before .before .before .before .before .before .before .before .before .before .shared-slice-known2 .given i .fits) in let T = typeAt S (A .at) (A .depth) in let D = items-slots S (A .at) (A .depth) (A .k) B (A .n) P HB (8 + c .before .before .before .before .before .before .before .before .before .before .before .before .before .before .bitmap-size .result) (8 + c .before .before .before .before .before .before .before .before .before .before .before .before .before .before .bitmap-size .result + 8 * A .n) (ap (λ (x : ℕ). 8 + x) (c .before .before .before .before .before .before .before .before .before .before .before .before .before .before .bitmap-size .ensures)) refl in any-unpadded 8 (elements T (A .n)) B (A .n) (8 + c .before .before .before .before .before .before .before .before .before .before .before .before .before .before .bitmap-size .result) (8 + c .before .before .before .before .before .before .before .before .before .before .before .before .before .before .bitmap-size .result + 8 * A .n) D (c .before .before .before .before .before .before .before .before .before .before .before .before .before .loop .i) (c .before .before .before .before .before .before .before .before .before .before .before .before .before .loop .slot) (c .before .before .before .before .before .before .before .before .before .before .before .before .before .loop .sum) (c .before .before .before .before .before .before .before .before .before .before .before .before .before .loop .map) (c .before .before .before .before .before .before .before .before .before .before .before .before .before .loop .inv) (c .before .before .before .before .before .before .before .before .before .before .before .before .loop-test .taken) (codec T) (item-at S (A .at) (A .depth) (A .k) B (A .n) P HB (c .before .before .before .before .before .before .before .before .before .before .before .before .before .loop .i) (c .before .before .before .before .before .before .before .before .before .before .before .before .loop-test .taken)) (sym (c .before .before .before .before .before .before .before .before .before .before .before .is-null .ensures) ∙ c .before .before .before .before .before .before .before .before .before .before .if1 .left) (c .before .before .before .before .before .before .before .before .before .get8 .result) (c .before .before .before .before .before .before .before .before .before .get8 .ensures) (c .before .before .before .before .before .before .before .before .slot-offset .result) (c .before .before .before .before .before .before .before .before .slot-offset .ensures) (c .before .before .before .before .before .before .before .slot-size .result) (c .before .before .before .before .before .before .before .slot-size .ensures) (c .before .before .before .before .before .before .before .before .slot-offset .result + c .before .before .before .before .before .before .before .slot-size .result) (c .before .before .before .before .before .before .pad-size .result) refl (c .before .before .before .before .before .before .pad-size .ensures) (c .before .before .before .before .place .result) (c .before .before .before .before .place .ensures .0) (not-false _ (c .before .before .if2 .left)) (c .before .pad-clear .result) (c .before .pad-clear .ensures) (not-true _ (c .if3 .taken))
+-- and that the item may stand there
+any-items-stood : (t : ℕ) (c : any-items-lts.Else2 (any-items-calls t) (any-items-at t) any-items.Post any-items-Inv-loop any-items-μ-loop)
+    → Stood (any-items-told t (c .before .before .before .before)) (c .before .before .place .last .0)
+any-items-stood t c =
+    any-stood (any-items-told t (c .before .before .before .before)) (c .before .before .place .ensures .0) (c .if2 .left)
+    (c .before .before .place .ensures .1)
 
 any-items-sub-sum : (t : ℕ) → any-items-lts.Need-sub-sum (any-items-calls t) (any-items-at t) any-items.Post any-items-Inv-loop any-items-μ-loop
-any-items-sub-sum t c = let A = c .before .before .before .before .before .before .before .before .before .before .before .before .before .before .before .before .before .before .args in let S = A .s .now in let B = A .b .now in let P = c .before .before .before .before .before .before .before .before .before .before .before .before .before .before .before .before .before .before .pre .1 .0 in let HB = bytes-of B (λ i. c .before .before .before .before .before .before .before .before .before .before .before .before .before .before .before .before .shared-slice-known2 .given i .fits) in let T = typeAt S (A .at) (A .depth) in let D = items-slots S (A .at) (A .depth) (A .k) B (A .n) P HB (8 + c .before .before .before .before .before .before .before .before .before .before .before .before .before .before .before .bitmap-size .result) (8 + c .before .before .before .before .before .before .before .before .before .before .before .before .before .before .before .bitmap-size .result + 8 * A .n) (ap (λ (x : ℕ). 8 + x) (c .before .before .before .before .before .before .before .before .before .before .before .before .before .before .before .bitmap-size .ensures)) refl in any-order 8 (elements T (A .n)) B (A .n) (8 + c .before .before .before .before .before .before .before .before .before .before .before .before .before .before .before .bitmap-size .result) (8 + c .before .before .before .before .before .before .before .before .before .before .before .before .before .before .before .bitmap-size .result + 8 * A .n) D (c .before .before .before .before .before .before .before .before .before .before .before .before .before .before .loop .i) (c .before .before .before .before .before .before .before .before .before .before .before .before .before .before .loop .slot) (c .before .before .before .before .before .before .before .before .before .before .before .before .before .before .loop .sum) (c .before .before .before .before .before .before .before .before .before .before .before .before .before .before .loop .map) (c .before .before .before .before .before .before .before .before .before .before .before .before .before .before .loop .inv) (c .before .before .before .before .before .before .before .before .before .before .before .before .before .loop-test .taken) (codec T) (item-at S (A .at) (A .depth) (A .k) B (A .n) P HB (c .before .before .before .before .before .before .before .before .before .before .before .before .before .before .loop .i) (c .before .before .before .before .before .before .before .before .before .before .before .before .before .loop-test .taken)) (sym (c .before .before .before .before .before .before .before .before .before .before .before .before .is-null .ensures) ∙ c .before .before .before .before .before .before .before .before .before .before .before .if1 .left) (c .before .before .before .before .before .before .before .before .before .before .get8 .result) (c .before .before .before .before .before .before .before .before .before .before .get8 .ensures) (c .before .before .before .before .before .before .before .before .before .slot-offset .result) (c .before .before .before .before .before .before .before .before .before .slot-offset .ensures) (c .before .before .before .before .before .before .before .before .slot-size .result) (c .before .before .before .before .before .before .before .before .slot-size .ensures) (c .before .before .before .before .before .before .before .before .before .slot-offset .result + c .before .before .before .before .before .before .before .before .slot-size .result) (c .before .before .before .before .before .before .before .pad-size .result) refl (c .before .before .before .before .before .before .before .pad-size .ensures)
+any-items-sub-sum t c = stood-order (any-items-stood t (c .before))
 
 any-items-add-sum : (t : ℕ) → any-items-lts.Need-add-sum (any-items-calls t) (any-items-at t) any-items.Post any-items-Inv-loop any-items-μ-loop
-any-items-add-sum t c = let A = c .before .before .before .before .before .before .before .before .before .before .before .before .before .before .before .before .before .before .args in let S = A .s .now in let B = A .b .now in let P = c .before .before .before .before .before .before .before .before .before .before .before .before .before .before .before .before .before .before .pre .1 .0 in let HB = bytes-of B (λ i. c .before .before .before .before .before .before .before .before .before .before .before .before .before .before .before .before .shared-slice-known2 .given i .fits) in let T = typeAt S (A .at) (A .depth) in let D = items-slots S (A .at) (A .depth) (A .k) B (A .n) P HB (8 + c .before .before .before .before .before .before .before .before .before .before .before .before .before .before .before .bitmap-size .result) (8 + c .before .before .before .before .before .before .before .before .before .before .before .before .before .before .before .bitmap-size .result + 8 * A .n) (ap (λ (x : ℕ). 8 + x) (c .before .before .before .before .before .before .before .before .before .before .before .before .before .before .before .bitmap-size .ensures)) refl in let w = any-within 8 (elements T (A .n)) B (A .n) (8 + c .before .before .before .before .before .before .before .before .before .before .before .before .before .before .before .bitmap-size .result) (8 + c .before .before .before .before .before .before .before .before .before .before .before .before .before .before .before .bitmap-size .result + 8 * A .n) D (c .before .before .before .before .before .before .before .before .before .before .before .before .before .before .loop .i) (c .before .before .before .before .before .before .before .before .before .before .before .before .before .before .loop .slot) (c .before .before .before .before .before .before .before .before .before .before .before .before .before .before .loop .sum) (c .before .before .before .before .before .before .before .before .before .before .before .before .before .before .loop .map) (c .before .before .before .before .before .before .before .before .before .before .before .before .before .before .loop .inv) (c .before .before .before .before .before .before .before .before .before .before .before .before .before .loop-test .taken) (codec T) (item-at S (A .at) (A .depth) (A .k) B (A .n) P HB (c .before .before .before .before .before .before .before .before .before .before .before .before .before .before .loop .i) (c .before .before .before .before .before .before .before .before .before .before .before .before .before .loop-test .taken)) (sym (c .before .before .before .before .before .before .before .before .before .before .before .before .is-null .ensures) ∙ c .before .before .before .before .before .before .before .before .before .before .before .if1 .left) (c .before .before .before .before .before .before .before .before .before .before .get8 .result) (c .before .before .before .before .before .before .before .before .before .before .get8 .ensures) (c .before .before .before .before .before .before .before .before .before .slot-offset .result) (c .before .before .before .before .before .before .before .before .before .slot-offset .ensures) (c .before .before .before .before .before .before .before .before .slot-size .result) (c .before .before .before .before .before .before .before .before .slot-size .ensures) (c .before .before .before .before .before .before .before .before .before .slot-offset .result + c .before .before .before .before .before .before .before .before .slot-size .result) (c .before .before .before .before .before .before .before .pad-size .result) refl (c .before .before .before .before .before .before .before .pad-size .ensures) (c .before .before .before .before .before .place .result) (c .before .before .before .before .before .place .ensures .0) (not-false _ (c .before .before .before .if2 .left)) in let g = sum-room (c .before .before .before .before .before .before .before .before .before .before .before .before .before .before .loop .sum) (c .before .before .before .before .before .before .before .pad-size .result) (c .before .before .before .before .before .before .before .before .before .slot-offset .result) (any-small 8 (elements T (A .n)) B (A .n) (8 + c .before .before .before .before .before .before .before .before .before .before .before .before .before .before .before .bitmap-size .result) (8 + c .before .before .before .before .before .before .before .before .before .before .before .before .before .before .before .bitmap-size .result + 8 * A .n) D (c .before .before .before .before .before .before .before .before .before .before .before .before .before .before .loop .i) (c .before .before .before .before .before .before .before .before .before .before .before .before .before .before .loop .slot) (c .before .before .before .before .before .before .before .before .before .before .before .before .before .before .loop .sum) (c .before .before .before .before .before .before .before .before .before .before .before .before .before .before .loop .map) (c .before .before .before .before .before .before .before .before .before .before .before .before .before .before .loop .inv) (c .before .before .before .before .before .before .before .before .before .before .before .before .before .loop-test .taken)) w (D .small) in omega (arith, g)
+any-items-add-sum t c = stood-sum (any-items-stood t (c .before))
 
 any-items-add-slot-2 : (t : ℕ) → any-items-lts.Need-add-slot-2 (any-items-calls t) (any-items-at t) any-items.Post any-items-Inv-loop any-items-μ-loop
-any-items-add-slot-2 t c = let r = c .before .before .before .before .before .before .before .before .before .before .before .before .before .before .loop .inv in omega (arith, r .slot-is, c .before .before .before .before .before .before .before .before .before .before .before .before .before .before .before .before .before .before .pre .1 .0 .room, c .before .before .before .before .before .before .before .before .before .before .before .before .before .before .before .before .before .before .pre .1 .0 .small, c .before .before .before .before .before .before .before .before .before .before .before .before .before .before .before .bitmap-size .ensures)
+any-items-add-slot-2 t c = stood-slot-on (any-items-stood t (c .before))
 
 any-items-add-i-2 : (t : ℕ) → any-items-lts.Need-add-i-2 (any-items-calls t) (any-items-at t) any-items.Post any-items-Inv-loop any-items-μ-loop
-any-items-add-i-2 t c = omega arith
+any-items-add-i-2 t c = stood-on (any-items-stood t (c .before))
 
 any-items-loop-less-2 : (t : ℕ) → any-items-lts.Need-loop-less-2 (any-items-calls t) (any-items-at t) any-items.Post any-items-Inv-loop any-items-μ-loop
-any-items-loop-less-2 t c = omega arith
+any-items-loop-less-2 t c = stood-less (any-items-stood t (c .before))
 
 any-items-loop-again-2 : (t : ℕ) → any-items-lts.Need-loop-again-2 (any-items-calls t) (any-items-at t) any-items.Post any-items-Inv-loop any-items-μ-loop
-any-items-loop-again-2 t c = let A = c .before .before .before .before .before .before .before .before .before .before .before .before .before .before .before .before .before .before .args in let S = A .s .now in let B = A .b .now in let P = c .before .before .before .before .before .before .before .before .before .before .before .before .before .before .before .before .before .before .pre .1 .0 in let HB = bytes-of B (λ i. c .before .before .before .before .before .before .before .before .before .before .before .before .before .before .before .before .shared-slice-known2 .given i .fits) in let T = typeAt S (A .at) (A .depth) in let D = items-slots S (A .at) (A .depth) (A .k) B (A .n) P HB (8 + c .before .before .before .before .before .before .before .before .before .before .before .before .before .before .before .bitmap-size .result) (8 + c .before .before .before .before .before .before .before .before .before .before .before .before .before .before .before .bitmap-size .result + 8 * A .n) (ap (λ (x : ℕ). 8 + x) (c .before .before .before .before .before .before .before .before .before .before .before .before .before .before .before .bitmap-size .ensures)) refl in any-next 8 (elements T (A .n)) B (A .n) (8 + c .before .before .before .before .before .before .before .before .before .before .before .before .before .before .before .bitmap-size .result) (8 + c .before .before .before .before .before .before .before .before .before .before .before .before .before .before .before .bitmap-size .result + 8 * A .n) D (c .before .before .before .before .before .before .before .before .before .before .before .before .before .before .loop .i) (c .before .before .before .before .before .before .before .before .before .before .before .before .before .before .loop .slot) (c .before .before .before .before .before .before .before .before .before .before .before .before .before .before .loop .sum) (c .before .before .before .before .before .before .before .before .before .before .before .before .before .before .loop .map) (c .before .before .before .before .before .before .before .before .before .before .before .before .before .before .loop .inv) (c .before .before .before .before .before .before .before .before .before .before .before .before .before .loop-test .taken) (codec T) (item-at S (A .at) (A .depth) (A .k) B (A .n) P HB (c .before .before .before .before .before .before .before .before .before .before .before .before .before .before .loop .i) (c .before .before .before .before .before .before .before .before .before .before .before .before .before .loop-test .taken)) (sym (c .before .before .before .before .before .before .before .before .before .before .before .before .is-null .ensures) ∙ c .before .before .before .before .before .before .before .before .before .before .before .if1 .left) (c .before .before .before .before .before .before .before .before .before .before .get8 .result) (c .before .before .before .before .before .before .before .before .before .before .get8 .ensures) (c .before .before .before .before .before .before .before .before .before .slot-offset .result) (c .before .before .before .before .before .before .before .before .before .slot-offset .ensures) (c .before .before .before .before .before .before .before .before .slot-size .result) (c .before .before .before .before .before .before .before .before .slot-size .ensures) (c .before .before .before .before .before .before .before .before .before .slot-offset .result + c .before .before .before .before .before .before .before .before .slot-size .result) (c .before .before .before .before .before .before .before .pad-size .result) refl (c .before .before .before .before .before .before .before .pad-size .ensures) (c .before .before .before .before .before .place .result) (c .before .before .before .before .before .place .ensures .0) (not-false _ (c .before .before .before .if2 .left)) _ (c .before .before .before .before .before .place .ensures .1) (part-sound T _ _ (sym (known-at 8 (λ _. T) B (A .n) (c .before .before .before .before .before .before .before .before .before .before .before .before .before .before .loop .i) (c .before .before .before .before .before .before .before .before .before .before .before .before .before .before .loop .slot) (omega (arith, c .before .before .before .before .before .before .before .before .before .before .before .before .before .before .loop .inv .slot-is, c .before .before .before .before .before .before .before .before .before .before .before .before .before .before .before .bitmap-size .ensures)) (c .before .before .before .before .before .before .before .before .before .before .get8 .result) (c .before .before .before .before .before .before .before .before .before .before .get8 .ensures) (c .before .before .before .before .before .before .before .before .before .slot-offset .result) (c .before .before .before .before .before .before .before .before .before .slot-offset .ensures) (c .before .before .before .before .before .before .before .before .slot-size .result) (c .before .before .before .before .before .before .before .before .slot-size .ensures) (c .before .before .before .before .before .before .before .before .before .slot-offset .result + c .before .before .before .before .before .before .before .before .slot-size .result) refl (A .known) (c .before .before .before .before .before .before .before .before .before .before .before .before .before .before .before .before .before .before .pre .1 .1) (c .if4 .taken) (sym (c .before .before .before .before .before .before .before .before .before .before .before .before .is-null .ensures) ∙ c .before .before .before .before .before .before .before .before .before .before .before .if1 .left) (item-none S (A .at) (A .depth) (A .k) B (A .n) P HB)))) (c .before .before .pad-clear .result) (c .before .before .pad-clear .ensures) (not-false _ (c .before .if3 .left))
+any-items-loop-again-2 t c = any-known (any-items-stood t (c .before)) (c .if3 .taken)
 
 any-items-sub-check-value : (t : ℕ) → any-items-lts.Need-sub-check-value (any-items-calls t) (any-items-at t) any-items.Post any-items-Inv-loop any-items-μ-loop
-any-items-sub-check-value t c = omega arith
+any-items-sub-check-value t c = stood-part (any-items-stood t (c .before))
 
-any-items-part-check-value-start : (t : ℕ) → any-items-lts.Need-part-check-value-start (any-items-calls t) (any-items-at t) any-items.Post any-items-Inv-loop any-items-μ-loop
-any-items-part-check-value-start t c = omega arith
+any-items-part-check-value-start :
+    (t : ℕ) → any-items-lts.Need-part-check-value-start (any-items-calls t) (any-items-at t) any-items.Post any-items-Inv-loop any-items-μ-loop
+any-items-part-check-value-start t c = stood-part (any-items-stood t (c .before))
 
-any-items-part-check-value-end : (t : ℕ) → any-items-lts.Need-part-check-value-end (any-items-calls t) (any-items-at t) any-items.Post any-items-Inv-loop any-items-μ-loop
-any-items-part-check-value-end t c = let A = c .before .before .before .before .before .before .before .before .before .before .before .before .before .before .before .before .before .before .args in let S = A .s .now in let B = A .b .now in let P = c .before .before .before .before .before .before .before .before .before .before .before .before .before .before .before .before .before .before .pre .1 .0 in let HB = bytes-of B (λ i. c .before .before .before .before .before .before .before .before .before .before .before .before .before .before .before .before .shared-slice-known2 .given i .fits) in let T = typeAt S (A .at) (A .depth) in let D = items-slots S (A .at) (A .depth) (A .k) B (A .n) P HB (8 + c .before .before .before .before .before .before .before .before .before .before .before .before .before .before .before .bitmap-size .result) (8 + c .before .before .before .before .before .before .before .before .before .before .before .before .before .before .before .bitmap-size .result + 8 * A .n) (ap (λ (x : ℕ). 8 + x) (c .before .before .before .before .before .before .before .before .before .before .before .before .before .before .before .bitmap-size .ensures)) refl in let w = any-within 8 (elements T (A .n)) B (A .n) (8 + c .before .before .before .before .before .before .before .before .before .before .before .before .before .before .before .bitmap-size .result) (8 + c .before .before .before .before .before .before .before .before .before .before .before .before .before .before .before .bitmap-size .result + 8 * A .n) D (c .before .before .before .before .before .before .before .before .before .before .before .before .before .before .loop .i) (c .before .before .before .before .before .before .before .before .before .before .before .before .before .before .loop .slot) (c .before .before .before .before .before .before .before .before .before .before .before .before .before .before .loop .sum) (c .before .before .before .before .before .before .before .before .before .before .before .before .before .before .loop .map) (c .before .before .before .before .before .before .before .before .before .before .before .before .before .before .loop .inv) (c .before .before .before .before .before .before .before .before .before .before .before .before .before .loop-test .taken) (codec T) (item-at S (A .at) (A .depth) (A .k) B (A .n) P HB (c .before .before .before .before .before .before .before .before .before .before .before .before .before .before .loop .i) (c .before .before .before .before .before .before .before .before .before .before .before .before .before .loop-test .taken)) (sym (c .before .before .before .before .before .before .before .before .before .before .before .before .is-null .ensures) ∙ c .before .before .before .before .before .before .before .before .before .before .before .if1 .left) (c .before .before .before .before .before .before .before .before .before .before .get8 .result) (c .before .before .before .before .before .before .before .before .before .before .get8 .ensures) (c .before .before .before .before .before .before .before .before .before .slot-offset .result) (c .before .before .before .before .before .before .before .before .before .slot-offset .ensures) (c .before .before .before .before .before .before .before .before .slot-size .result) (c .before .before .before .before .before .before .before .before .slot-size .ensures) (c .before .before .before .before .before .before .before .before .before .slot-offset .result + c .before .before .before .before .before .before .before .before .slot-size .result) (c .before .before .before .before .before .before .before .pad-size .result) refl (c .before .before .before .before .before .before .before .pad-size .ensures) (c .before .before .before .before .before .place .result) (c .before .before .before .before .before .place .ensures .0) (not-false _ (c .before .before .before .if2 .left)) in stop-in _ (c .before .before .before .before .before .before .before .pad-size .result) _ (c .before .before .before .before .before .before .before .pad-size .ensures) w
+any-items-part-check-value-end :
+    (t : ℕ) → any-items-lts.Need-part-check-value-end (any-items-calls t) (any-items-at t) any-items.Post any-items-Inv-loop any-items-μ-loop
+any-items-part-check-value-end t c = stood-end (any-items-stood t (c .before))
 
-any-items-check-value-requires : (t : ℕ) → any-items-lts.Need-check-value-requires (any-items-calls t) (any-items-at t) any-items.Post any-items-Inv-loop any-items-μ-loop
-any-items-check-value-requires t c κs = let A = c .before .before .before .before .before .before .before .before .before .before .before .before .before .before .before .before .before .before .before .args in let S = A .s .now in let B = A .b .now in let P = c .before .before .before .before .before .before .before .before .before .before .before .before .before .before .before .before .before .before .before .pre .1 .0 in let HB = bytes-of B (λ i. c .before .before .before .before .before .before .before .before .before .before .before .before .before .before .before .before .before .shared-slice-known2 .given i .fits) in let T = typeAt S (A .at) (A .depth) in let D = items-slots S (A .at) (A .depth) (A .k) B (A .n) P HB (8 + c .before .before .before .before .before .before .before .before .before .before .before .before .before .before .before .before .bitmap-size .result) (8 + c .before .before .before .before .before .before .before .before .before .before .before .before .before .before .before .before .bitmap-size .result + 8 * A .n) (ap (λ (x : ℕ). 8 + x) (c .before .before .before .before .before .before .before .before .before .before .before .before .before .before .before .before .bitmap-size .ensures)) refl in (omega arith, record { typed = P .typed; place = P .place; holds = P .holds; small = rw length-take (omega (arith, P .small, length-drop (c .before .before .before .before .before .before .before .before .before .before .slot-offset .result) B)) })
+any-items-check-value-requires :
+    (t : ℕ) → any-items-lts.Need-check-value-requires (any-items-calls t) (any-items-at t) any-items.Post any-items-Inv-loop any-items-μ-loop
+any-items-check-value-requires t c κs =
+    let p = c .before .before .before .before .before .before .before .before .before .before .before .before .before .before .before .before .before .pre in
+    (item-falls (p .1 .0) (p .0), item-part (p .1 .0) (stood-short (any-items-stood t (c .before .before))))
+
+any-items-returns-2 : (t : ℕ) → any-items-lts.Need-returns-2 (any-items-calls t) (any-items-at t) any-items.Post any-items-Inv-loop any-items-μ-loop
+any-items-returns-2 t c = any-bad (any-items-stood t (c .before .before .before .before)) (c .before .check-value .ensures) (c .if4 .taken)
+
+any-items-pad-clear-requires :
+    (t : ℕ) → any-items-lts.Need-pad-clear-requires (any-items-calls t) (any-items-at t) any-items.Post any-items-Inv-loop any-items-μ-loop
+any-items-pad-clear-requires t c κs = stood-pad (any-items-stood t (c .before .before .before .before))
 
 any-items-returns-3 : (t : ℕ) → any-items-lts.Need-returns-3 (any-items-calls t) (any-items-at t) any-items.Post any-items-Inv-loop any-items-μ-loop
-any-items-returns-3 t c = let A = c .before .before .before .before .before .before .before .before .before .before .before .before .before .before .before .before .before .before .before .before .before .args in let S = A .s .now in let B = A .b .now in let P = c .before .before .before .before .before .before .before .before .before .before .before .before .before .before .before .before .before .before .before .before .before .pre .1 .0 in let HB = bytes-of B (λ i. c .before .before .before .before .before .before .before .before .before .before .before .before .before .before .before .before .before .before .before .shared-slice-known2 .given i .fits) in let T = typeAt S (A .at) (A .depth) in let D = items-slots S (A .at) (A .depth) (A .k) B (A .n) P HB (8 + c .before .before .before .before .before .before .before .before .before .before .before .before .before .before .before .before .before .before .bitmap-size .result) (8 + c .before .before .before .before .before .before .before .before .before .before .before .before .before .before .before .before .before .before .bitmap-size .result + 8 * A .n) (ap (λ (x : ℕ). 8 + x) (c .before .before .before .before .before .before .before .before .before .before .before .before .before .before .before .before .before .before .bitmap-size .ensures)) refl in any-bad 8 (elements T (A .n)) B (A .n) (8 + c .before .before .before .before .before .before .before .before .before .before .before .before .before .before .before .before .before .before .bitmap-size .result) (8 + c .before .before .before .before .before .before .before .before .before .before .before .before .before .before .before .before .before .before .bitmap-size .result + 8 * A .n) D (c .before .before .before .before .before .before .before .before .before .before .before .before .before .before .before .before .before .loop .i) (c .before .before .before .before .before .before .before .before .before .before .before .before .before .before .before .before .before .loop .slot) (c .before .before .before .before .before .before .before .before .before .before .before .before .before .before .before .before .before .loop .sum) (c .before .before .before .before .before .before .before .before .before .before .before .before .before .before .before .before .before .loop .map) (c .before .before .before .before .before .before .before .before .before .before .before .before .before .before .before .before .before .loop .inv) (c .before .before .before .before .before .before .before .before .before .before .before .before .before .before .before .before .loop-test .taken) (codec T) (item-at S (A .at) (A .depth) (A .k) B (A .n) P HB (c .before .before .before .before .before .before .before .before .before .before .before .before .before .before .before .before .before .loop .i) (c .before .before .before .before .before .before .before .before .before .before .before .before .before .before .before .before .loop-test .taken)) (sym (c .before .before .before .before .before .before .before .before .before .before .before .before .before .before .before .is-null .ensures) ∙ c .before .before .before .before .before .before .before .before .before .before .before .before .before .before .if1 .left) (c .before .before .before .before .before .before .before .before .before .before .before .before .before .get8 .result) (c .before .before .before .before .before .before .before .before .before .before .before .before .before .get8 .ensures) (c .before .before .before .before .before .before .before .before .before .before .before .before .slot-offset .result) (c .before .before .before .before .before .before .before .before .before .before .before .before .slot-offset .ensures) (c .before .before .before .before .before .before .before .before .before .before .before .slot-size .result) (c .before .before .before .before .before .before .before .before .before .before .before .slot-size .ensures) (c .before .before .before .before .before .before .before .before .before .before .before .before .slot-offset .result + c .before .before .before .before .before .before .before .before .before .before .before .slot-size .result) (c .before .before .before .before .before .before .before .before .before .before .pad-size .result) refl (c .before .before .before .before .before .before .before .before .before .before .pad-size .ensures) (c .before .before .before .before .before .before .before .before .place .result) (c .before .before .before .before .before .before .before .before .place .ensures .0) (not-false _ (c .before .before .before .before .before .before .if2 .left)) (part-sound T _ _ (c .before .check-value .ensures) ∙ not-true _ (c .if5 .taken))
+any-items-returns-3 t c = any-unpadded (any-items-stood t (c .before .before .before .before .before .before)) (c .before .pad-clear .ensures) (c .if5 .taken)
 
 any-items-sub-sum-2 : (t : ℕ) → any-items-lts.Need-sub-sum-2 (any-items-calls t) (any-items-at t) any-items.Post any-items-Inv-loop any-items-μ-loop
-any-items-sub-sum-2 t c = let A = c .before .before .before .before .before .before .before .before .before .before .before .before .before .before .before .before .before .before .before .before .before .args in let S = A .s .now in let B = A .b .now in let P = c .before .before .before .before .before .before .before .before .before .before .before .before .before .before .before .before .before .before .before .before .before .pre .1 .0 in let HB = bytes-of B (λ i. c .before .before .before .before .before .before .before .before .before .before .before .before .before .before .before .before .before .before .before .shared-slice-known2 .given i .fits) in let T = typeAt S (A .at) (A .depth) in let D = items-slots S (A .at) (A .depth) (A .k) B (A .n) P HB (8 + c .before .before .before .before .before .before .before .before .before .before .before .before .before .before .before .before .before .before .bitmap-size .result) (8 + c .before .before .before .before .before .before .before .before .before .before .before .before .before .before .before .before .before .before .bitmap-size .result + 8 * A .n) (ap (λ (x : ℕ). 8 + x) (c .before .before .before .before .before .before .before .before .before .before .before .before .before .before .before .before .before .before .bitmap-size .ensures)) refl in any-order 8 (elements T (A .n)) B (A .n) (8 + c .before .before .before .before .before .before .before .before .before .before .before .before .before .before .before .before .before .before .bitmap-size .result) (8 + c .before .before .before .before .before .before .before .before .before .before .before .before .before .before .before .before .before .before .bitmap-size .result + 8 * A .n) D (c .before .before .before .before .before .before .before .before .before .before .before .before .before .before .before .before .before .loop .i) (c .before .before .before .before .before .before .before .before .before .before .before .before .before .before .before .before .before .loop .slot) (c .before .before .before .before .before .before .before .before .before .before .before .before .before .before .before .before .before .loop .sum) (c .before .before .before .before .before .before .before .before .before .before .before .before .before .before .before .before .before .loop .map) (c .before .before .before .before .before .before .before .before .before .before .before .before .before .before .before .before .before .loop .inv) (c .before .before .before .before .before .before .before .before .before .before .before .before .before .before .before .before .loop-test .taken) (codec T) (item-at S (A .at) (A .depth) (A .k) B (A .n) P HB (c .before .before .before .before .before .before .before .before .before .before .before .before .before .before .before .before .before .loop .i) (c .before .before .before .before .before .before .before .before .before .before .before .before .before .before .before .before .loop-test .taken)) (sym (c .before .before .before .before .before .before .before .before .before .before .before .before .before .before .before .is-null .ensures) ∙ c .before .before .before .before .before .before .before .before .before .before .before .before .before .before .if1 .left) (c .before .before .before .before .before .before .before .before .before .before .before .before .before .get8 .result) (c .before .before .before .before .before .before .before .before .before .before .before .before .before .get8 .ensures) (c .before .before .before .before .before .before .before .before .before .before .before .before .slot-offset .result) (c .before .before .before .before .before .before .before .before .before .before .before .before .slot-offset .ensures) (c .before .before .before .before .before .before .before .before .before .before .before .slot-size .result) (c .before .before .before .before .before .before .before .before .before .before .before .slot-size .ensures) (c .before .before .before .before .before .before .before .before .before .before .before .before .slot-offset .result + c .before .before .before .before .before .before .before .before .before .before .before .slot-size .result) (c .before .before .before .before .before .before .before .before .before .before .pad-size .result) refl (c .before .before .before .before .before .before .before .before .before .before .pad-size .ensures)
+any-items-sub-sum-2 t c = stood-order (any-items-stood t (c .before .before .before .before .before .before))
 
 any-items-add-sum-2 : (t : ℕ) → any-items-lts.Need-add-sum-2 (any-items-calls t) (any-items-at t) any-items.Post any-items-Inv-loop any-items-μ-loop
-any-items-add-sum-2 t c = let A = c .before .before .before .before .before .before .before .before .before .before .before .before .before .before .before .before .before .before .before .before .before .args in let S = A .s .now in let B = A .b .now in let P = c .before .before .before .before .before .before .before .before .before .before .before .before .before .before .before .before .before .before .before .before .before .pre .1 .0 in let HB = bytes-of B (λ i. c .before .before .before .before .before .before .before .before .before .before .before .before .before .before .before .before .before .before .before .shared-slice-known2 .given i .fits) in let T = typeAt S (A .at) (A .depth) in let D = items-slots S (A .at) (A .depth) (A .k) B (A .n) P HB (8 + c .before .before .before .before .before .before .before .before .before .before .before .before .before .before .before .before .before .before .bitmap-size .result) (8 + c .before .before .before .before .before .before .before .before .before .before .before .before .before .before .before .before .before .before .bitmap-size .result + 8 * A .n) (ap (λ (x : ℕ). 8 + x) (c .before .before .before .before .before .before .before .before .before .before .before .before .before .before .before .before .before .before .bitmap-size .ensures)) refl in let w = any-within 8 (elements T (A .n)) B (A .n) (8 + c .before .before .before .before .before .before .before .before .before .before .before .before .before .before .before .before .before .before .bitmap-size .result) (8 + c .before .before .before .before .before .before .before .before .before .before .before .before .before .before .before .before .before .before .bitmap-size .result + 8 * A .n) D (c .before .before .before .before .before .before .before .before .before .before .before .before .before .before .before .before .before .loop .i) (c .before .before .before .before .before .before .before .before .before .before .before .before .before .before .before .before .before .loop .slot) (c .before .before .before .before .before .before .before .before .before .before .before .before .before .before .before .before .before .loop .sum) (c .before .before .before .before .before .before .before .before .before .before .before .before .before .before .before .before .before .loop .map) (c .before .before .before .before .before .before .before .before .before .before .before .before .before .before .before .before .before .loop .inv) (c .before .before .before .before .before .before .before .before .before .before .before .before .before .before .before .before .loop-test .taken) (codec T) (item-at S (A .at) (A .depth) (A .k) B (A .n) P HB (c .before .before .before .before .before .before .before .before .before .before .before .before .before .before .before .before .before .loop .i) (c .before .before .before .before .before .before .before .before .before .before .before .before .before .before .before .before .loop-test .taken)) (sym (c .before .before .before .before .before .before .before .before .before .before .before .before .before .before .before .is-null .ensures) ∙ c .before .before .before .before .before .before .before .before .before .before .before .before .before .before .if1 .left) (c .before .before .before .before .before .before .before .before .before .before .before .before .before .get8 .result) (c .before .before .before .before .before .before .before .before .before .before .before .before .before .get8 .ensures) (c .before .before .before .before .before .before .before .before .before .before .before .before .slot-offset .result) (c .before .before .before .before .before .before .before .before .before .before .before .before .slot-offset .ensures) (c .before .before .before .before .before .before .before .before .before .before .before .slot-size .result) (c .before .before .before .before .before .before .before .before .before .before .before .slot-size .ensures) (c .before .before .before .before .before .before .before .before .before .before .before .before .slot-offset .result + c .before .before .before .before .before .before .before .before .before .before .before .slot-size .result) (c .before .before .before .before .before .before .before .before .before .before .pad-size .result) refl (c .before .before .before .before .before .before .before .before .before .before .pad-size .ensures) (c .before .before .before .before .before .before .before .before .place .result) (c .before .before .before .before .before .before .before .before .place .ensures .0) (not-false _ (c .before .before .before .before .before .before .if2 .left)) in let g = sum-room (c .before .before .before .before .before .before .before .before .before .before .before .before .before .before .before .before .before .loop .sum) (c .before .before .before .before .before .before .before .before .before .before .pad-size .result) (c .before .before .before .before .before .before .before .before .before .before .before .before .slot-offset .result) (any-small 8 (elements T (A .n)) B (A .n) (8 + c .before .before .before .before .before .before .before .before .before .before .before .before .before .before .before .before .before .before .bitmap-size .result) (8 + c .before .before .before .before .before .before .before .before .before .before .before .before .before .before .before .before .before .before .bitmap-size .result + 8 * A .n) D (c .before .before .before .before .before .before .before .before .before .before .before .before .before .before .before .before .before .loop .i) (c .before .before .before .before .before .before .before .before .before .before .before .before .before .before .before .before .before .loop .slot) (c .before .before .before .before .before .before .before .before .before .before .before .before .before .before .before .before .before .loop .sum) (c .before .before .before .before .before .before .before .before .before .before .before .before .before .before .before .before .before .loop .map) (c .before .before .before .before .before .before .before .before .before .before .before .before .before .before .before .before .before .loop .inv) (c .before .before .before .before .before .before .before .before .before .before .before .before .before .before .before .before .loop-test .taken)) w (D .small) in omega (arith, g)
+any-items-add-sum-2 t c = stood-sum (any-items-stood t (c .before .before .before .before .before .before))
 
 any-items-add-slot-3 : (t : ℕ) → any-items-lts.Need-add-slot-3 (any-items-calls t) (any-items-at t) any-items.Post any-items-Inv-loop any-items-μ-loop
-any-items-add-slot-3 t c = let r = c .before .before .before .before .before .before .before .before .before .before .before .before .before .before .before .before .before .loop .inv in omega (arith, r .slot-is, c .before .before .before .before .before .before .before .before .before .before .before .before .before .before .before .before .before .before .before .before .before .pre .1 .0 .room, c .before .before .before .before .before .before .before .before .before .before .before .before .before .before .before .before .before .before .before .before .before .pre .1 .0 .small, c .before .before .before .before .before .before .before .before .before .before .before .before .before .before .before .before .before .before .bitmap-size .ensures)
+any-items-add-slot-3 t c = stood-slot-on (any-items-stood t (c .before .before .before .before .before .before))
 
 any-items-add-i-3 : (t : ℕ) → any-items-lts.Need-add-i-3 (any-items-calls t) (any-items-at t) any-items.Post any-items-Inv-loop any-items-μ-loop
-any-items-add-i-3 t c = omega arith
+any-items-add-i-3 t c = stood-on (any-items-stood t (c .before .before .before .before .before .before))
 
 any-items-loop-less-3 : (t : ℕ) → any-items-lts.Need-loop-less-3 (any-items-calls t) (any-items-at t) any-items.Post any-items-Inv-loop any-items-μ-loop
-any-items-loop-less-3 t c = omega arith
+any-items-loop-less-3 t c = stood-less (any-items-stood t (c .before .before .before .before .before .before))
 
 any-items-loop-again-3 : (t : ℕ) → any-items-lts.Need-loop-again-3 (any-items-calls t) (any-items-at t) any-items.Post any-items-Inv-loop any-items-μ-loop
-any-items-loop-again-3 t c = let A = c .before .before .before .before .before .before .before .before .before .before .before .before .before .before .before .before .before .before .before .before .before .args in let S = A .s .now in let B = A .b .now in let P = c .before .before .before .before .before .before .before .before .before .before .before .before .before .before .before .before .before .before .before .before .before .pre .1 .0 in let HB = bytes-of B (λ i. c .before .before .before .before .before .before .before .before .before .before .before .before .before .before .before .before .before .before .before .shared-slice-known2 .given i .fits) in let T = typeAt S (A .at) (A .depth) in let D = items-slots S (A .at) (A .depth) (A .k) B (A .n) P HB (8 + c .before .before .before .before .before .before .before .before .before .before .before .before .before .before .before .before .before .before .bitmap-size .result) (8 + c .before .before .before .before .before .before .before .before .before .before .before .before .before .before .before .before .before .before .bitmap-size .result + 8 * A .n) (ap (λ (x : ℕ). 8 + x) (c .before .before .before .before .before .before .before .before .before .before .before .before .before .before .before .before .before .before .bitmap-size .ensures)) refl in any-next 8 (elements T (A .n)) B (A .n) (8 + c .before .before .before .before .before .before .before .before .before .before .before .before .before .before .before .before .before .before .bitmap-size .result) (8 + c .before .before .before .before .before .before .before .before .before .before .before .before .before .before .before .before .before .before .bitmap-size .result + 8 * A .n) D (c .before .before .before .before .before .before .before .before .before .before .before .before .before .before .before .before .before .loop .i) (c .before .before .before .before .before .before .before .before .before .before .before .before .before .before .before .before .before .loop .slot) (c .before .before .before .before .before .before .before .before .before .before .before .before .before .before .before .before .before .loop .sum) (c .before .before .before .before .before .before .before .before .before .before .before .before .before .before .before .before .before .loop .map) (c .before .before .before .before .before .before .before .before .before .before .before .before .before .before .before .before .before .loop .inv) (c .before .before .before .before .before .before .before .before .before .before .before .before .before .before .before .before .loop-test .taken) (codec T) (item-at S (A .at) (A .depth) (A .k) B (A .n) P HB (c .before .before .before .before .before .before .before .before .before .before .before .before .before .before .before .before .before .loop .i) (c .before .before .before .before .before .before .before .before .before .before .before .before .before .before .before .before .loop-test .taken)) (sym (c .before .before .before .before .before .before .before .before .before .before .before .before .before .before .before .is-null .ensures) ∙ c .before .before .before .before .before .before .before .before .before .before .before .before .before .before .if1 .left) (c .before .before .before .before .before .before .before .before .before .before .before .before .before .get8 .result) (c .before .before .before .before .before .before .before .before .before .before .before .before .before .get8 .ensures) (c .before .before .before .before .before .before .before .before .before .before .before .before .slot-offset .result) (c .before .before .before .before .before .before .before .before .before .before .before .before .slot-offset .ensures) (c .before .before .before .before .before .before .before .before .before .before .before .slot-size .result) (c .before .before .before .before .before .before .before .before .before .before .before .slot-size .ensures) (c .before .before .before .before .before .before .before .before .before .before .before .before .slot-offset .result + c .before .before .before .before .before .before .before .before .before .before .before .slot-size .result) (c .before .before .before .before .before .before .before .before .before .before .pad-size .result) refl (c .before .before .before .before .before .before .before .before .before .before .pad-size .ensures) (c .before .before .before .before .before .before .before .before .place .result) (c .before .before .before .before .before .before .before .before .place .ensures .0) (not-false _ (c .before .before .before .before .before .before .if2 .left)) _ (c .before .before .before .before .before .before .before .before .place .ensures .1) (part-sound T _ _ (c .before .check-value .ensures) ∙ not-false _ (c .if5 .left)) (c .before .before .before .before .before .pad-clear .result) (c .before .before .before .before .before .pad-clear .ensures) (not-false _ (c .before .before .before .before .if3 .left))
+any-items-loop-again-3 t c =
+    any-next (any-items-stood t (c .before .before .before .before .before .before))
+    (passed (c .before .before .before .check-value .ensures) (c .before .before .if4 .left)) (c .before .pad-clear .ensures) (c .if5 .left)
 
 any-items-returns-4 : (t : ℕ) → any-items-lts.Need-returns-4 (any-items-calls t) (any-items-at t) any-items.Post any-items-Inv-loop any-items-μ-loop
-any-items-returns-4 t c = let A = c .before .before .before .before .before .args in let S = A .s .now in let B = A .b .now in let P = c .before .before .before .before .before .pre .1 .0 in let HB = bytes-of B (λ i. c .before .before .before .shared-slice-known2 .given i .fits) in let T = typeAt S (A .at) (A .depth) in let D = items-slots S (A .at) (A .depth) (A .k) B (A .n) P HB (8 + c .before .before .bitmap-size .result) (8 + c .before .before .bitmap-size .result + 8 * A .n) (ap (λ (x : ℕ). 8 + x) (c .before .before .bitmap-size .ensures)) refl in any-end 8 (elements T (A .n)) B (A .n) (8 + c .before .before .bitmap-size .result) (8 + c .before .before .bitmap-size .result + 8 * A .n) D (c .before .loop .i) (c .before .loop .slot) (c .before .loop .sum) (c .before .loop .map) (c .before .loop .inv) (omega arith)
+any-items-returns-4 t c = any-end (c .before .loop .inv) (c .loop-test .left)
 
 abbrev any-struct-Inv-loop : any-struct-lts.InvT-loop
-any-struct-Inv-loop s first n depth b known slots start map₀ at₀ i₀ slot₀ sum₀ map at i slot sum = AnyField s first depth n b slots start at i slot sum map
+any-struct-Inv-loop s first n depth b known slots start map₀ at₀ i₀ slot₀ sum₀ map at i slot sum =
+    AnyField s first depth n b known slots start at i slot sum map
 
 abbrev any-struct-μ-loop : any-struct-lts.MeasureT-loop
 any-struct-μ-loop s first n depth b known slots start map₀ at₀ i₀ slot₀ sum₀ map at i slot sum = n - i
 
-any-struct-bitmap-size-requires : (t : ℕ) → any-struct-lts.Need-bitmap-size-requires (any-struct-calls t) (any-struct-at t) any-struct.Post any-struct-Inv-loop any-struct-μ-loop
+any-struct-bitmap-size-requires :
+    (t : ℕ) → any-struct-lts.Need-bitmap-size-requires (any-struct-calls t) (any-struct-at t) any-struct.Post any-struct-Inv-loop any-struct-μ-loop
 any-struct-bitmap-size-requires t c κs = omega (arith, c .before .before .pre .1 .0 .high)
 
 any-struct-mul-start : (t : ℕ) → any-struct-lts.Need-mul-start (any-struct-calls t) (any-struct-at t) any-struct.Post any-struct-Inv-loop any-struct-μ-loop
@@ -327,151 +511,284 @@ any-struct-add-start : (t : ℕ) → any-struct-lts.Need-add-start (any-struct-c
 any-struct-add-start t c = omega (arith, c .before .before .before .pre .1 .0 .high, c .bitmap-size .ensures)
 
 any-struct-loop-holds : (t : ℕ) → any-struct-lts.Need-loop-holds (any-struct-calls t) (any-struct-at t) any-struct.Post any-struct-Inv-loop any-struct-μ-loop
-any-struct-loop-holds t c = let A = c .before .before .before .args in let S = A .s .now in let B = A .b .now in let P = c .before .before .before .pre .1 .0 in let HB = bytes-of B (λ i. c .before .shared-slice-known2 .given i .fits) in let F = c .bitmap-size .ensures in let TS = typesAt S (A .first) (A .depth) (A .n) in let K = kids TS in let D = fields-slots S (A .first) (A .n) (A .depth) B P HB (c .bitmap-size .result) (c .bitmap-size .result + 8 * A .n) F refl (omega (arith, F, c .before .before .before .pre .1 .1 .room)) in record { type = sym (field-first S (A .first) (A .depth)); state = any-start 0 K B (A .n) (c .bitmap-size .result) (c .bitmap-size .result + 8 * A .n) D }
+any-struct-loop-holds t c =
+    let p = c .before .before .before .pre .1 in
+    any-fields (p .0) (p .1) (bytes-of _ (λ i. c .before .shared-slice-known2 .given i .fits)) (c .bitmap-size .ensures)
 
-any-struct-place-at-requires : (t : ℕ) → any-struct-lts.Need-place-at-requires (any-struct-calls t) (any-struct-at t) any-struct.Post any-struct-Inv-loop any-struct-μ-loop
-any-struct-place-at-requires t c κs = let A = c .before .before .before .before .before .args in let S = A .s .now in let B = A .b .now in let P = c .before .before .before .before .before .pre .1 .0 in let HB = bytes-of B (λ i. c .before .before .before .shared-slice-known2 .given i .fits) in let F = c .before .before .bitmap-size .ensures in let TS = typesAt S (A .first) (A .depth) (A .n) in let K = kids TS in let D = fields-slots S (A .first) (A .n) (A .depth) B P HB (c .before .before .bitmap-size .result) (c .before .before .bitmap-size .result + 8 * A .n) F refl (omega (arith, F, c .before .before .before .before .before .pre .1 .1 .room)) in field-marked S (A .first) (A .n) (A .depth) B P HB (c .before .loop .at) (c .before .loop .i) (c .before .loop .inv .type) (c .loop-test .taken)
-
-any-struct-check-field-requires : (t : ℕ) → any-struct-lts.Need-check-field-requires (any-struct-calls t) (any-struct-at t) any-struct.Post any-struct-Inv-loop any-struct-μ-loop
-any-struct-check-field-requires t c κs = let A = c .before .before .before .before .before .before .before .args in let S = A .s .now in let B = A .b .now in let P = c .before .before .before .before .before .before .before .pre .1 .0 in let HB = bytes-of B (λ i. c .before .before .before .before .before .shared-slice-known2 .given i .fits) in let F = c .before .before .before .before .bitmap-size .ensures in let TS = typesAt S (A .first) (A .depth) (A .n) in let K = kids TS in let D = fields-slots S (A .first) (A .n) (A .depth) B P HB (c .before .before .before .before .bitmap-size .result) (c .before .before .before .before .bitmap-size .result + 8 * A .n) F refl (omega (arith, F, c .before .before .before .before .before .before .before .pre .1 .1 .room)) in record { small = P .small; fixed = c .if1 .taken; bit-room = any-bit 0 K B (A .n) (c .before .before .before .before .bitmap-size .result) (c .before .before .before .before .bitmap-size .result + 8 * A .n) D (c .before .before .before .loop .i) (c .before .before .before .loop .slot) (c .before .before .before .loop .sum) (c .before .before .before .loop .map) (c .before .before .before .loop .inv .state) (c .before .before .loop-test .taken); slot-room = omega (arith, any-slot 0 K B (A .n) (c .before .before .before .before .bitmap-size .result) (c .before .before .before .before .bitmap-size .result + 8 * A .n) D (c .before .before .before .loop .i) (c .before .before .before .loop .slot) (c .before .before .before .loop .sum) (c .before .before .before .loop .map) (c .before .before .before .loop .inv .state) (c .before .before .loop-test .taken), D .room) }
-
-any-struct-returns : (t : ℕ) → any-struct-lts.Need-returns (any-struct-calls t) (any-struct-at t) any-struct.Post any-struct-Inv-loop any-struct-μ-loop
-any-struct-returns t c = let A = c .before .before .before .before .before .before .before .before .before .args in let S = A .s .now in let B = A .b .now in let P = c .before .before .before .before .before .before .before .before .before .pre .1 .0 in let HB = bytes-of B (λ i. c .before .before .before .before .before .before .before .shared-slice-known2 .given i .fits) in let F = c .before .before .before .before .before .before .bitmap-size .ensures in let TS = typesAt S (A .first) (A .depth) (A .n) in let K = kids TS in let D = fields-slots S (A .first) (A .n) (A .depth) B P HB (c .before .before .before .before .before .before .bitmap-size .result) (c .before .before .before .before .before .before .bitmap-size .result + 8 * A .n) F refl (omega (arith, F, c .before .before .before .before .before .before .before .before .before .pre .1 .1 .room)) in any-wrong 0 K B (A .n) (c .before .before .before .before .before .before .bitmap-size .result) (c .before .before .before .before .before .before .bitmap-size .result + 8 * A .n) D (c .before .before .before .before .before .loop .i) (c .before .before .before .before .before .loop .slot) (c .before .before .before .before .before .loop .sum) (c .before .before .before .before .before .loop .map) (c .before .before .before .before .before .loop .inv .state) (c .before .before .before .before .loop-test .taken) _ (sym (c .before .check-field .ensures) ∙ not-true _ (c .if2 .taken)) (field-judged S (A .first) (A .n) (A .depth) B P HB (c .before .before .before .before .before .loop .at) (c .before .before .before .before .before .loop .i) (c .before .before .before .before .before .loop .inv .type) (c .before .before .before .before .loop-test .taken) (c .before .before .before .place-at .result) (c .before .before .before .place-at .ensures) (c .before .before .before .before .before .before .bitmap-size .result) (c .before .before .before .before .before .before .bitmap-size .result + 8 * A .n) (c .before .before .before .before .before .loop .slot) D (c .before .before .before .before .before .loop .inv .state .slot-is) (c .before .before .before .before .before .loop .inv .state .ranges) (c .before .before .if1 .taken))
+any-struct-place-at-requires :
+    (t : ℕ) → any-struct-lts.Need-place-at-requires (any-struct-calls t) (any-struct-at t) any-struct.Post any-struct-Inv-loop any-struct-μ-loop
+any-struct-place-at-requires t c κs = reached-marked (any-reached (c .before .loop .inv) (c .loop-test .taken))
 
 any-struct-add-at : (t : ℕ) → any-struct-lts.Need-add-at (any-struct-calls t) (any-struct-at t) any-struct.Post any-struct-Inv-loop any-struct-μ-loop
-any-struct-add-at t c = let A = c .before .before .before .before .before .before .before .before .before .args in let S = A .s .now in let B = A .b .now in let P = c .before .before .before .before .before .before .before .before .before .pre .1 .0 in let HB = bytes-of B (λ i. c .before .before .before .before .before .before .before .shared-slice-known2 .given i .fits) in let F = c .before .before .before .before .before .before .bitmap-size .ensures in let TS = typesAt S (A .first) (A .depth) (A .n) in let K = kids TS in let D = fields-slots S (A .first) (A .n) (A .depth) B P HB (c .before .before .before .before .before .before .bitmap-size .result) (c .before .before .before .before .before .before .bitmap-size .result + 8 * A .n) F refl (omega (arith, F, c .before .before .before .before .before .before .before .before .before .pre .1 .1 .room)) in omega (arith, field-marked S (A .first) (A .n) (A .depth) B P HB (c .before .before .before .before .before .loop .at) (c .before .before .before .before .before .loop .i) (c .before .before .before .before .before .loop .inv .type) (c .before .before .before .before .loop-test .taken) .room)
+any-struct-add-at t c =
+    omega (arith, reached-marked (any-reached (c .before .before .before .before .loop .inv) (c .before .before .before .loop-test .taken)) .room)
 
 any-struct-add-slot : (t : ℕ) → any-struct-lts.Need-add-slot (any-struct-calls t) (any-struct-at t) any-struct.Post any-struct-Inv-loop any-struct-μ-loop
-any-struct-add-slot t c = let r = c .before .before .before .before .before .loop .inv .state in omega (arith, r .slot-is, c .before .before .before .before .before .before .before .before .before .pre .1 .1 .room, c .before .before .before .before .before .before .before .before .before .pre .1 .0 .small, c .before .before .before .before .before .before .bitmap-size .ensures)
+any-struct-add-slot t c = any-slot-on (c .before .before .before .before .loop .inv .state) (c .before .before .before .loop-test .taken)
 
 any-struct-add-i : (t : ℕ) → any-struct-lts.Need-add-i (any-struct-calls t) (any-struct-at t) any-struct.Post any-struct-Inv-loop any-struct-μ-loop
-any-struct-add-i t c = omega arith
+any-struct-add-i t c = any-on (c .before .before .before .before .loop .inv .state) (c .before .before .before .loop-test .taken)
 
 any-struct-loop-less : (t : ℕ) → any-struct-lts.Need-loop-less (any-struct-calls t) (any-struct-at t) any-struct.Post any-struct-Inv-loop any-struct-μ-loop
-any-struct-loop-less t c = omega arith
+any-struct-loop-less t c = any-less (c .before .before .before .before .loop .inv .state) (c .before .before .before .loop-test .taken)
 
 any-struct-loop-again : (t : ℕ) → any-struct-lts.Need-loop-again (any-struct-calls t) (any-struct-at t) any-struct.Post any-struct-Inv-loop any-struct-μ-loop
-any-struct-loop-again t c = let A = c .before .before .before .before .before .before .before .before .before .args in let S = A .s .now in let B = A .b .now in let P = c .before .before .before .before .before .before .before .before .before .pre .1 .0 in let HB = bytes-of B (λ i. c .before .before .before .before .before .before .before .shared-slice-known2 .given i .fits) in let F = c .before .before .before .before .before .before .bitmap-size .ensures in let TS = typesAt S (A .first) (A .depth) (A .n) in let K = kids TS in let D = fields-slots S (A .first) (A .n) (A .depth) B P HB (c .before .before .before .before .before .before .bitmap-size .result) (c .before .before .before .before .before .before .bitmap-size .result + 8 * A .n) F refl (omega (arith, F, c .before .before .before .before .before .before .before .before .before .pre .1 .1 .room)) in record { type = field-on S (A .first) (A .n) (A .depth) B P HB (c .before .before .before .before .before .loop .at) (c .before .before .before .before .before .loop .i) (c .before .before .before .before .before .loop .inv .type) (c .before .before .before .before .loop-test .taken) _ (leaf-next S (c .before .before .before .before .before .loop .at) (A .depth) (c .before .before .before .place-at .result) (field-here S (A .first) (A .n) (A .depth) B P HB (c .before .before .before .before .before .loop .at) (c .before .before .before .before .before .loop .i) (c .before .before .before .before .before .loop .inv .type) (c .before .before .before .before .loop-test .taken)) (c .before .before .before .place-at .ensures) (omega (arith, c .before .before .if1 .taken))); state = any-same 0 K B (A .n) (c .before .before .before .before .before .before .bitmap-size .result) (c .before .before .before .before .before .before .bitmap-size .result + 8 * A .n) D (c .before .before .before .before .before .loop .i) (c .before .before .before .before .before .loop .slot) (c .before .before .before .before .before .loop .sum) (c .before .before .before .before .before .loop .map) (c .before .before .before .before .before .loop .inv .state) (c .before .before .before .before .loop-test .taken) _ (sym (c .before .check-field .ensures) ∙ not-false _ (c .if2 .left)) (field-judged S (A .first) (A .n) (A .depth) B P HB (c .before .before .before .before .before .loop .at) (c .before .before .before .before .before .loop .i) (c .before .before .before .before .before .loop .inv .type) (c .before .before .before .before .loop-test .taken) (c .before .before .before .place-at .result) (c .before .before .before .place-at .ensures) (c .before .before .before .before .before .before .bitmap-size .result) (c .before .before .before .before .before .before .bitmap-size .result + 8 * A .n) (c .before .before .before .before .before .loop .slot) D (c .before .before .before .before .before .loop .inv .state .slot-is) (c .before .before .before .before .before .loop .inv .state .ranges) (c .before .before .if1 .taken)) }
+any-struct-loop-again t c =
+    any-leaf-known (c .before .before .before .before .loop .inv) (c .before .before .before .loop-test .taken) (c .before .before .place-at .ensures)
+    (c .before .if1 .taken) (c .if2 .taken)
 
-any-struct-next-type-requires : (t : ℕ) → any-struct-lts.Need-next-type-requires (any-struct-calls t) (any-struct-at t) any-struct.Post any-struct-Inv-loop any-struct-μ-loop
-any-struct-next-type-requires t c κs = let A = c .before .before .before .before .before .before .before .args in let S = A .s .now in let B = A .b .now in let P = c .before .before .before .before .before .before .before .pre .1 .0 in let HB = bytes-of B (λ i. c .before .before .before .before .before .shared-slice-known2 .given i .fits) in let F = c .before .before .before .before .bitmap-size .ensures in let TS = typesAt S (A .first) (A .depth) (A .n) in let K = kids TS in let D = fields-slots S (A .first) (A .n) (A .depth) B P HB (c .before .before .before .before .bitmap-size .result) (c .before .before .before .before .bitmap-size .result + 8 * A .n) F refl (omega (arith, F, c .before .before .before .before .before .before .before .pre .1 .1 .room)) in (field-here S (A .first) (A .n) (A .depth) B P HB (c .before .before .before .loop .at) (c .before .before .before .loop .i) (c .before .before .before .loop .inv .type) (c .before .before .loop-test .taken), c .before .place-at .ensures)
+any-struct-check-field-requires :
+    (t : ℕ) → any-struct-lts.Need-check-field-requires (any-struct-calls t) (any-struct-at t) any-struct.Post any-struct-Inv-loop any-struct-μ-loop
+any-struct-check-field-requires t c κs =
+    any-leaf-room (c .before .before .before .before .loop .inv) (c .before .before .before .loop-test .taken) (c .before .before .place-at .ensures)
+    (c .before .if1 .taken)
 
-any-struct-is-null-requires : (t : ℕ) → any-struct-lts.Need-is-null-requires (any-struct-calls t) (any-struct-at t) any-struct.Post any-struct-Inv-loop any-struct-μ-loop
-any-struct-is-null-requires t c κs = let A = c .before .before .before .before .before .before .before .before .args in let S = A .s .now in let B = A .b .now in let P = c .before .before .before .before .before .before .before .before .pre .1 .0 in let HB = bytes-of B (λ i. c .before .before .before .before .before .before .shared-slice-known2 .given i .fits) in let F = c .before .before .before .before .before .bitmap-size .ensures in let TS = typesAt S (A .first) (A .depth) (A .n) in let K = kids TS in let D = fields-slots S (A .first) (A .n) (A .depth) B P HB (c .before .before .before .before .before .bitmap-size .result) (c .before .before .before .before .before .bitmap-size .result + 8 * A .n) F refl (omega (arith, F, c .before .before .before .before .before .before .before .before .pre .1 .1 .room)) in any-bit 0 K B (A .n) (c .before .before .before .before .before .bitmap-size .result) (c .before .before .before .before .before .bitmap-size .result + 8 * A .n) D (c .before .before .before .before .loop .i) (c .before .before .before .before .loop .slot) (c .before .before .before .before .loop .sum) (c .before .before .before .before .loop .map) (c .before .before .before .before .loop .inv .state) (c .before .before .before .loop-test .taken)
+any-struct-returns : (t : ℕ) → any-struct-lts.Need-returns (any-struct-calls t) (any-struct-at t) any-struct.Post any-struct-Inv-loop any-struct-μ-loop
+any-struct-returns t c =
+    any-leaf-wrong (c .before .before .before .before .before .before .loop .inv) (c .before .before .before .before .before .loop-test .taken)
+    (c .before .before .before .before .place-at .ensures) (c .before .before .before .if1 .taken)
+    (c .before .check-field .ensures) (c .if3 .taken)
+
+any-struct-add-at-2 : (t : ℕ) → any-struct-lts.Need-add-at-2 (any-struct-calls t) (any-struct-at t) any-struct.Post any-struct-Inv-loop any-struct-μ-loop
+any-struct-add-at-2 t c =
+    omega (
+      arith,
+      reached-marked (any-reached (c .before .before .before .before .before .before .loop .inv)
+          (c .before .before .before .before .before .loop-test .taken)) .room,
+    )
 
 any-struct-add-slot-2 : (t : ℕ) → any-struct-lts.Need-add-slot-2 (any-struct-calls t) (any-struct-at t) any-struct.Post any-struct-Inv-loop any-struct-μ-loop
-any-struct-add-slot-2 t c = let r = c .before .before .before .before .before .before .loop .inv .state in omega (arith, r .slot-is, c .before .before .before .before .before .before .before .before .before .before .pre .1 .1 .room, c .before .before .before .before .before .before .before .before .before .before .pre .1 .0 .small, c .before .before .before .before .before .before .before .bitmap-size .ensures)
+any-struct-add-slot-2 t c =
+    any-slot-on (c .before .before .before .before .before .before .loop .inv .state) (c .before .before .before .before .before .loop-test .taken)
 
 any-struct-add-i-2 : (t : ℕ) → any-struct-lts.Need-add-i-2 (any-struct-calls t) (any-struct-at t) any-struct.Post any-struct-Inv-loop any-struct-μ-loop
-any-struct-add-i-2 t c = omega arith
+any-struct-add-i-2 t c =
+    any-on (c .before .before .before .before .before .before .loop .inv .state) (c .before .before .before .before .before .loop-test .taken)
 
 any-struct-loop-less-2 : (t : ℕ) → any-struct-lts.Need-loop-less-2 (any-struct-calls t) (any-struct-at t) any-struct.Post any-struct-Inv-loop any-struct-μ-loop
-any-struct-loop-less-2 t c = omega arith
+any-struct-loop-less-2 t c =
+    any-less (c .before .before .before .before .before .before .loop .inv .state) (c .before .before .before .before .before .loop-test .taken)
 
-any-struct-loop-again-2 : (t : ℕ) → any-struct-lts.Need-loop-again-2 (any-struct-calls t) (any-struct-at t) any-struct.Post any-struct-Inv-loop any-struct-μ-loop
-any-struct-loop-again-2 t c = let A = c .before .before .before .before .before .before .before .before .before .before .args in let S = A .s .now in let B = A .b .now in let P = c .before .before .before .before .before .before .before .before .before .before .pre .1 .0 in let HB = bytes-of B (λ i. c .before .before .before .before .before .before .before .before .shared-slice-known2 .given i .fits) in let F = c .before .before .before .before .before .before .before .bitmap-size .ensures in let TS = typesAt S (A .first) (A .depth) (A .n) in let K = kids TS in let D = fields-slots S (A .first) (A .n) (A .depth) B P HB (c .before .before .before .before .before .before .before .bitmap-size .result) (c .before .before .before .before .before .before .before .bitmap-size .result + 8 * A .n) F refl (omega (arith, F, c .before .before .before .before .before .before .before .before .before .before .pre .1 .1 .room)) in record { type = field-on S (A .first) (A .n) (A .depth) B P HB (c .before .before .before .before .before .before .loop .at) (c .before .before .before .before .before .before .loop .i) (c .before .before .before .before .before .before .loop .inv .type) (c .before .before .before .before .before .loop-test .taken) _ (c .before .before .next-type .ensures); state = any-null 0 K B (A .n) (c .before .before .before .before .before .before .before .bitmap-size .result) (c .before .before .before .before .before .before .before .bitmap-size .result + 8 * A .n) D (c .before .before .before .before .before .before .loop .i) (c .before .before .before .before .before .before .loop .slot) (c .before .before .before .before .before .before .loop .sum) (c .before .before .before .before .before .before .loop .map) (c .before .before .before .before .before .before .loop .inv .state) (c .before .before .before .before .before .loop-test .taken) (sym (c .before .is-null .ensures) ∙ c .if3 .taken) }
+any-struct-loop-again-2 :
+    (t : ℕ) → any-struct-lts.Need-loop-again-2 (any-struct-calls t) (any-struct-at t) any-struct.Post any-struct-Inv-loop any-struct-μ-loop
+any-struct-loop-again-2 t c =
+    any-leaf (c .before .before .before .before .before .before .loop .inv) (c .before .before .before .before .before .loop-test .taken)
+    (c .before .before .before .before .place-at .ensures) (c .before .before .before .if1 .taken)
+    (c .before .check-field .ensures) (c .if3 .left)
 
-any-struct-get8-requires : (t : ℕ) → any-struct-lts.Need-get8-requires (any-struct-calls t) (any-struct-at t) any-struct.Post any-struct-Inv-loop any-struct-μ-loop
-any-struct-get8-requires t c κs = let A = c .before .before .before .before .before .before .before .before .before .before .args in let S = A .s .now in let B = A .b .now in let P = c .before .before .before .before .before .before .before .before .before .before .pre .1 .0 in let HB = bytes-of B (λ i. c .before .before .before .before .before .before .before .before .shared-slice-known2 .given i .fits) in let F = c .before .before .before .before .before .before .before .bitmap-size .ensures in let TS = typesAt S (A .first) (A .depth) (A .n) in let K = kids TS in let D = fields-slots S (A .first) (A .n) (A .depth) B P HB (c .before .before .before .before .before .before .before .bitmap-size .result) (c .before .before .before .before .before .before .before .bitmap-size .result + 8 * A .n) F refl (omega (arith, F, c .before .before .before .before .before .before .before .before .before .before .pre .1 .1 .room)) in omega (arith, any-slot 0 K B (A .n) (c .before .before .before .before .before .before .before .bitmap-size .result) (c .before .before .before .before .before .before .before .bitmap-size .result + 8 * A .n) D (c .before .before .before .before .before .before .loop .i) (c .before .before .before .before .before .before .loop .slot) (c .before .before .before .before .before .before .loop .sum) (c .before .before .before .before .before .before .loop .map) (c .before .before .before .before .before .before .loop .inv .state) (c .before .before .before .before .before .loop-test .taken), D .room)
+any-struct-next-type-requires :
+    (t : ℕ) → any-struct-lts.Need-next-type-requires (any-struct-calls t) (any-struct-at t) any-struct.Post any-struct-Inv-loop any-struct-μ-loop
+any-struct-next-type-requires t c κs =
+    (reached-typed (any-reached (c .before .before .before .loop .inv) (c .before .before .loop-test .taken)), c .before .place-at .ensures)
 
-any-struct-slot-offset-requires : (t : ℕ) → any-struct-lts.Need-slot-offset-requires (any-struct-calls t) (any-struct-at t) any-struct.Post any-struct-Inv-loop any-struct-μ-loop
+any-struct-is-null-requires :
+    (t : ℕ) → any-struct-lts.Need-is-null-requires (any-struct-calls t) (any-struct-at t) any-struct.Post any-struct-Inv-loop any-struct-μ-loop
+any-struct-is-null-requires t c κs = any-bit (c .before .before .before .before .loop .inv .state) (c .before .before .before .loop-test .taken)
+
+any-struct-add-slot-3 : (t : ℕ) → any-struct-lts.Need-add-slot-3 (any-struct-calls t) (any-struct-at t) any-struct.Post any-struct-Inv-loop any-struct-μ-loop
+any-struct-add-slot-3 t c =
+    any-slot-on (c .before .before .before .before .before .before .loop .inv .state) (c .before .before .before .before .before .loop-test .taken)
+
+any-struct-add-i-3 : (t : ℕ) → any-struct-lts.Need-add-i-3 (any-struct-calls t) (any-struct-at t) any-struct.Post any-struct-Inv-loop any-struct-μ-loop
+any-struct-add-i-3 t c =
+    any-on (c .before .before .before .before .before .before .loop .inv .state) (c .before .before .before .before .before .loop-test .taken)
+
+any-struct-loop-less-3 : (t : ℕ) → any-struct-lts.Need-loop-less-3 (any-struct-calls t) (any-struct-at t) any-struct.Post any-struct-Inv-loop any-struct-μ-loop
+any-struct-loop-less-3 t c =
+    any-less (c .before .before .before .before .before .before .loop .inv .state) (c .before .before .before .before .before .loop-test .taken)
+
+any-struct-loop-again-3 :
+    (t : ℕ) → any-struct-lts.Need-loop-again-3 (any-struct-calls t) (any-struct-at t) any-struct.Post any-struct-Inv-loop any-struct-μ-loop
+any-struct-loop-again-3 t c =
+    let l = c .before .before .before .before .before .loop-test .taken in
+    any-field (c .before .before .before .before .before .before .loop .inv) l (c .before .before .next-type .ensures)
+    (any-null (c .before .before .before .before .before .before .loop .inv .state) l (c .before .is-null .ensures) (c .if4 .taken))
+
+any-struct-get8-requires :
+    (t : ℕ) → any-struct-lts.Need-get8-requires (any-struct-calls t) (any-struct-at t) any-struct.Post any-struct-Inv-loop any-struct-μ-loop
+any-struct-get8-requires t c κs =
+    any-slot (c .before .before .before .before .before .before .loop .inv .state) (c .before .before .before .before .before .loop-test .taken)
+
+any-struct-slot-offset-requires :
+    (t : ℕ) → any-struct-lts.Need-slot-offset-requires (any-struct-calls t) (any-struct-at t) any-struct.Post any-struct-Inv-loop any-struct-μ-loop
 any-struct-slot-offset-requires t c κs = tt
 
-any-struct-slot-size-requires : (t : ℕ) → any-struct-lts.Need-slot-size-requires (any-struct-calls t) (any-struct-at t) any-struct.Post any-struct-Inv-loop any-struct-μ-loop
+any-struct-slot-size-requires :
+    (t : ℕ) → any-struct-lts.Need-slot-size-requires (any-struct-calls t) (any-struct-at t) any-struct.Post any-struct-Inv-loop any-struct-μ-loop
 any-struct-slot-size-requires t c κs = tt
 
 any-struct-add-end : (t : ℕ) → any-struct-lts.Need-add-end (any-struct-calls t) (any-struct-at t) any-struct.Post any-struct-Inv-loop any-struct-μ-loop
-any-struct-add-end t c = omega (arith, c .before .slot-offset .ensures, c .slot-size .ensures)
+any-struct-add-end t c = stop-fits (c .before .before .get8 .ensures) (c .before .slot-offset .ensures) (c .slot-size .ensures)
 
-any-struct-pad-size-requires : (t : ℕ) → any-struct-lts.Need-pad-size-requires (any-struct-calls t) (any-struct-at t) any-struct.Post any-struct-Inv-loop any-struct-μ-loop
-any-struct-pad-size-requires t c κs = omega (arith, c .before .slot-offset .ensures, c .slot-size .ensures)
+any-struct-pad-size-requires :
+    (t : ℕ) → any-struct-lts.Need-pad-size-requires (any-struct-calls t) (any-struct-at t) any-struct.Post any-struct-Inv-loop any-struct-μ-loop
+any-struct-pad-size-requires t c κs = slot-end (c .before .before .get8 .ensures) (c .before .slot-offset .ensures) (c .slot-size .ensures)
 
-any-struct-slice-aggregate-place : (t : ℕ) → any-struct-lts.Need-slice-aggregate-place (any-struct-calls t) (any-struct-at t) any-struct.Post any-struct-Inv-loop any-struct-μ-loop
-any-struct-slice-aggregate-place t c = sym (c .before .before .before .before .before .before .before .before .before .before .before .loop .inv .state .shows .long)
+-- what the field's slot says
+any-struct-told : (t : ℕ) (c : any-struct-lts.After-pad-size (any-struct-calls t) (any-struct-at t) any-struct.Post any-struct-Inv-loop any-struct-μ-loop)
+    → Told (c .before .before .before .before .before .before .before .before .before .before .loop .inv .state) (c .before .before .slot-offset .result)
+    (c .before .slot-size .result) (c .pad-size .result)
+any-struct-told t c = record {
+  less = c .before .before .before .before .before .before .before .before .before .loop-test .taken;
+  kid =
+      reached-kid (any-reached (c .before .before .before .before .before .before .before .before .before .before .loop .inv)
+      (c .before .before .before .before .before .before .before .before .before .loop-test .taken))
+      (c .before .before .before .before .before .before .before .before .place-at .ensures)
+      (c .before .before .before .before .before .before .before .if1 .left);
+  varies =
+      reached-varies (any-reached (c .before .before .before .before .before .before .before .before .before .before .loop .inv)
+      (c .before .before .before .before .before .before .before .before .before .loop-test .taken))
+      (c .before .before .before .before .before .before .before .before .place-at .ensures)
+      (c .before .before .before .before .before .before .before .if1 .left);
+  here = sym (c .before .before .before .before .before .is-null .ensures) ∙ c .before .before .before .before .if4 .left;
+  number = c .before .before .before .get8 .result;
+  reads = c .before .before .before .get8 .ensures;
+  from = c .before .before .slot-offset .ensures;
+  size = c .before .slot-size .ensures;
+  to = c .pad-size .ensures;
+}
 
-any-struct-place-requires : (t : ℕ) → any-struct-lts.Need-place-requires (any-struct-calls t) (any-struct-at t) any-struct.Post any-struct-Inv-loop any-struct-μ-loop
-any-struct-place-requires t c κs = let A = c .before .before .before .before .before .before .before .before .before .before .before .before .before .before .before .args in let S = A .s .now in let B = A .b .now in let P = c .before .before .before .before .before .before .before .before .before .before .before .before .before .before .before .pre .1 .0 in let HB = bytes-of B (λ i. c .before .before .before .before .before .before .before .before .before .before .before .before .before .shared-slice-known2 .given i .fits) in let F = c .before .before .before .before .before .before .before .before .before .before .before .before .bitmap-size .ensures in let TS = typesAt S (A .first) (A .depth) (A .n) in let K = kids TS in let D = fields-slots S (A .first) (A .n) (A .depth) B P HB (c .before .before .before .before .before .before .before .before .before .before .before .before .bitmap-size .result) (c .before .before .before .before .before .before .before .before .before .before .before .before .bitmap-size .result + 8 * A .n) F refl (omega (arith, F, c .before .before .before .before .before .before .before .before .before .before .before .before .before .before .before .pre .1 .1 .room)) in let q = field-outside S (A .first) (A .n) (A .depth) B P HB (c .before .before .before .before .before .before .before .before .before .before .before .loop .at) (c .before .before .before .before .before .before .before .before .before .before .before .loop .i) (c .before .before .before .before .before .before .before .before .before .before .before .loop .inv .type) (c .before .before .before .before .before .before .before .before .before .before .loop-test .taken) (c .before .before .before .before .before .before .before .before .before .place-at .result) (c .before .before .before .before .before .before .before .before .before .place-at .ensures) (omega (arith, c .before .before .before .before .before .before .before .before .if1 .left)) in (any-order 0 K B (A .n) (c .before .before .before .before .before .before .before .before .before .before .before .before .bitmap-size .result) (c .before .before .before .before .before .before .before .before .before .before .before .before .bitmap-size .result + 8 * A .n) D (c .before .before .before .before .before .before .before .before .before .before .before .loop .i) (c .before .before .before .before .before .before .before .before .before .before .before .loop .slot) (c .before .before .before .before .before .before .before .before .before .before .before .loop .sum) (c .before .before .before .before .before .before .before .before .before .before .before .loop .map) (c .before .before .before .before .before .before .before .before .before .before .before .loop .inv .state) (c .before .before .before .before .before .before .before .before .before .before .loop-test .taken) (q .own) (q .kid₀) (sym (c .before .before .before .before .before .before .is-null .ensures) ∙ c .before .before .before .before .before .if3 .left) (c .before .before .before .before .get8 .result) (c .before .before .before .before .get8 .ensures) (c .before .before .before .slot-offset .result) (c .before .before .before .slot-offset .ensures) (c .before .before .slot-size .result) (c .before .before .slot-size .ensures) (c .before .before .before .slot-offset .result + c .before .before .slot-size .result) (c .before .pad-size .result) refl (c .before .pad-size .ensures), D .small, c .before .before .before .before .before .before .before .before .before .before .before .loop .inv .state .shows .long)
+any-struct-slice-aggregate-place :
+    (t : ℕ) → any-struct-lts.Need-slice-aggregate-place (any-struct-calls t) (any-struct-at t) any-struct.Post any-struct-Inv-loop any-struct-μ-loop
+any-struct-slice-aggregate-place t c = any-map (c .before .before .before .before .before .before .before .before .before .before .before .loop .inv .state)
+
+any-struct-place-requires :
+    (t : ℕ) → any-struct-lts.Need-place-requires (any-struct-calls t) (any-struct-at t) any-struct.Post any-struct-Inv-loop any-struct-μ-loop
+any-struct-place-requires t c κs = any-place (any-struct-told t (c .before))
 
 any-struct-returns-2 : (t : ℕ) → any-struct-lts.Need-returns-2 (any-struct-calls t) (any-struct-at t) any-struct.Post any-struct-Inv-loop any-struct-μ-loop
-any-struct-returns-2 t c = let A = c .before .before .before .before .before .before .before .before .before .before .before .before .before .before .before .before .before .before .args in let S = A .s .now in let B = A .b .now in let P = c .before .before .before .before .before .before .before .before .before .before .before .before .before .before .before .before .before .before .pre .1 .0 in let HB = bytes-of B (λ i. c .before .before .before .before .before .before .before .before .before .before .before .before .before .before .before .before .shared-slice-known2 .given i .fits) in let F = c .before .before .before .before .before .before .before .before .before .before .before .before .before .before .before .bitmap-size .ensures in let TS = typesAt S (A .first) (A .depth) (A .n) in let K = kids TS in let D = fields-slots S (A .first) (A .n) (A .depth) B P HB (c .before .before .before .before .before .before .before .before .before .before .before .before .before .before .before .bitmap-size .result) (c .before .before .before .before .before .before .before .before .before .before .before .before .before .before .before .bitmap-size .result + 8 * A .n) F refl (omega (arith, F, c .before .before .before .before .before .before .before .before .before .before .before .before .before .before .before .before .before .before .pre .1 .1 .room)) in let q = field-outside S (A .first) (A .n) (A .depth) B P HB (c .before .before .before .before .before .before .before .before .before .before .before .before .before .before .loop .at) (c .before .before .before .before .before .before .before .before .before .before .before .before .before .before .loop .i) (c .before .before .before .before .before .before .before .before .before .before .before .before .before .before .loop .inv .type) (c .before .before .before .before .before .before .before .before .before .before .before .before .before .loop-test .taken) (c .before .before .before .before .before .before .before .before .before .before .before .before .place-at .result) (c .before .before .before .before .before .before .before .before .before .before .before .before .place-at .ensures) (omega (arith, c .before .before .before .before .before .before .before .before .before .before .before .if1 .left)) in any-off 0 K B (A .n) (c .before .before .before .before .before .before .before .before .before .before .before .before .before .before .before .bitmap-size .result) (c .before .before .before .before .before .before .before .before .before .before .before .before .before .before .before .bitmap-size .result + 8 * A .n) D (c .before .before .before .before .before .before .before .before .before .before .before .before .before .before .loop .i) (c .before .before .before .before .before .before .before .before .before .before .before .before .before .before .loop .slot) (c .before .before .before .before .before .before .before .before .before .before .before .before .before .before .loop .sum) (c .before .before .before .before .before .before .before .before .before .before .before .before .before .before .loop .map) (c .before .before .before .before .before .before .before .before .before .before .before .before .before .before .loop .inv .state) (c .before .before .before .before .before .before .before .before .before .before .before .before .before .loop-test .taken) (q .own) (q .kid₀) (sym (c .before .before .before .before .before .before .before .before .before .is-null .ensures) ∙ c .before .before .before .before .before .before .before .before .if3 .left) (c .before .before .before .before .before .before .before .get8 .result) (c .before .before .before .before .before .before .before .get8 .ensures) (c .before .before .before .before .before .before .slot-offset .result) (c .before .before .before .before .before .before .slot-offset .ensures) (c .before .before .before .before .before .slot-size .result) (c .before .before .before .before .before .slot-size .ensures) (c .before .before .before .before .before .before .slot-offset .result + c .before .before .before .before .before .slot-size .result) (c .before .before .before .before .pad-size .result) refl (c .before .before .before .before .pad-size .ensures) (c .before .before .place .result) (c .before .before .place .ensures .0) (not-true _ (c .if4 .taken))
+any-struct-returns-2 t c = any-off (any-struct-told t (c .before .before .before .before)) (c .before .before .place .ensures .0) (c .if5 .taken)
 
-any-struct-pad-clear-requires : (t : ℕ) → any-struct-lts.Need-pad-clear-requires (any-struct-calls t) (any-struct-at t) any-struct.Post any-struct-Inv-loop any-struct-μ-loop
-any-struct-pad-clear-requires t c κs = let A = c .before .before .before .before .before .before .before .before .before .before .before .before .before .before .before .before .before .before .args in let S = A .s .now in let B = A .b .now in let P = c .before .before .before .before .before .before .before .before .before .before .before .before .before .before .before .before .before .before .pre .1 .0 in let HB = bytes-of B (λ i. c .before .before .before .before .before .before .before .before .before .before .before .before .before .before .before .before .shared-slice-known2 .given i .fits) in let F = c .before .before .before .before .before .before .before .before .before .before .before .before .before .before .before .bitmap-size .ensures in let TS = typesAt S (A .first) (A .depth) (A .n) in let K = kids TS in let D = fields-slots S (A .first) (A .n) (A .depth) B P HB (c .before .before .before .before .before .before .before .before .before .before .before .before .before .before .before .bitmap-size .result) (c .before .before .before .before .before .before .before .before .before .before .before .before .before .before .before .bitmap-size .result + 8 * A .n) F refl (omega (arith, F, c .before .before .before .before .before .before .before .before .before .before .before .before .before .before .before .before .before .before .pre .1 .1 .room)) in let q = field-outside S (A .first) (A .n) (A .depth) B P HB (c .before .before .before .before .before .before .before .before .before .before .before .before .before .before .loop .at) (c .before .before .before .before .before .before .before .before .before .before .before .before .before .before .loop .i) (c .before .before .before .before .before .before .before .before .before .before .before .before .before .before .loop .inv .type) (c .before .before .before .before .before .before .before .before .before .before .before .before .before .loop-test .taken) (c .before .before .before .before .before .before .before .before .before .before .before .before .place-at .result) (c .before .before .before .before .before .before .before .before .before .before .before .before .place-at .ensures) (omega (arith, c .before .before .before .before .before .before .before .before .before .before .before .if1 .left)) in let w = any-within 0 K B (A .n) (c .before .before .before .before .before .before .before .before .before .before .before .before .before .before .before .bitmap-size .result) (c .before .before .before .before .before .before .before .before .before .before .before .before .before .before .before .bitmap-size .result + 8 * A .n) D (c .before .before .before .before .before .before .before .before .before .before .before .before .before .before .loop .i) (c .before .before .before .before .before .before .before .before .before .before .before .before .before .before .loop .slot) (c .before .before .before .before .before .before .before .before .before .before .before .before .before .before .loop .sum) (c .before .before .before .before .before .before .before .before .before .before .before .before .before .before .loop .map) (c .before .before .before .before .before .before .before .before .before .before .before .before .before .before .loop .inv .state) (c .before .before .before .before .before .before .before .before .before .before .before .before .before .loop-test .taken) (q .own) (q .kid₀) (sym (c .before .before .before .before .before .before .before .before .before .is-null .ensures) ∙ c .before .before .before .before .before .before .before .before .if3 .left) (c .before .before .before .before .before .before .before .get8 .result) (c .before .before .before .before .before .before .before .get8 .ensures) (c .before .before .before .before .before .before .slot-offset .result) (c .before .before .before .before .before .before .slot-offset .ensures) (c .before .before .before .before .before .slot-size .result) (c .before .before .before .before .before .slot-size .ensures) (c .before .before .before .before .before .before .slot-offset .result + c .before .before .before .before .before .slot-size .result) (c .before .before .before .before .pad-size .result) refl (c .before .before .before .before .pad-size .ensures) (c .before .before .place .result) (c .before .before .place .ensures .0) (not-false _ (c .if4 .left)) in let v = any-behind 0 K B (A .n) (c .before .before .before .before .before .before .before .before .before .before .before .before .before .before .before .bitmap-size .result) (c .before .before .before .before .before .before .before .before .before .before .before .before .before .before .before .bitmap-size .result + 8 * A .n) D (c .before .before .before .before .before .before .before .before .before .before .before .before .before .before .loop .i) (c .before .before .before .before .before .before .before .before .before .before .before .before .before .before .loop .slot) (c .before .before .before .before .before .before .before .before .before .before .before .before .before .before .loop .sum) (c .before .before .before .before .before .before .before .before .before .before .before .before .before .before .loop .map) (c .before .before .before .before .before .before .before .before .before .before .before .before .before .before .loop .inv .state) (c .before .before .before .before .before .before .before .before .before .before .before .before .before .loop-test .taken) (q .own) (q .kid₀) (sym (c .before .before .before .before .before .before .before .before .before .is-null .ensures) ∙ c .before .before .before .before .before .before .before .before .if3 .left) (c .before .before .before .before .before .before .before .get8 .result) (c .before .before .before .before .before .before .before .get8 .ensures) (c .before .before .before .before .before .before .slot-offset .result) (c .before .before .before .before .before .before .slot-offset .ensures) (c .before .before .before .before .before .slot-size .result) (c .before .before .before .before .before .slot-size .ensures) (c .before .before .before .before .before .before .slot-offset .result + c .before .before .before .before .before .slot-size .result) (c .before .before .before .before .pad-size .result) refl (c .before .before .before .before .pad-size .ensures) (c .before .before .place .result) (c .before .before .place .ensures .0) (not-false _ (c .if4 .left)) in (pad-eight (c .before .before .before .before .before .before .before .before .before .before .before .before .before .before .before .bitmap-size .result + 8 * A .n) (c .before .before .before .before .before .before .slot-offset .result) _ (c .before .before .before .before .pad-size .result) (c .before .before .before .before .before .slot-size .result) (omega (arith, D .map, D .data₀, any-slot 0 K B (A .n) (c .before .before .before .before .before .before .before .before .before .before .before .before .before .before .before .bitmap-size .result) (c .before .before .before .before .before .before .before .before .before .before .before .before .before .before .before .bitmap-size .result + 8 * A .n) D (c .before .before .before .before .before .before .before .before .before .before .before .before .before .before .loop .i) (c .before .before .before .before .before .before .before .before .before .before .before .before .before .before .loop .slot) (c .before .before .before .before .before .before .before .before .before .before .before .before .before .before .loop .sum) (c .before .before .before .before .before .before .before .before .before .before .before .before .before .before .loop .map) (c .before .before .before .before .before .before .before .before .before .before .before .before .before .before .loop .inv .state) (c .before .before .before .before .before .before .before .before .before .before .before .before .before .loop-test .taken))) v (c .before .before .before .before .pad-size .ensures) refl, w, omega (arith, D .small), c .before .before .before .before .pad-size .ensures)
+-- and that the field may stand there
+any-struct-stood : (t : ℕ) (c : any-struct-lts.Else5 (any-struct-calls t) (any-struct-at t) any-struct.Post any-struct-Inv-loop any-struct-μ-loop)
+    → Stood (any-struct-told t (c .before .before .before .before)) (c .before .before .place .last .0)
+any-struct-stood t c =
+    any-stood (any-struct-told t (c .before .before .before .before)) (c .before .before .place .ensures .0) (c .if5 .left)
+    (c .before .before .place .ensures .1)
 
-any-struct-returns-3 : (t : ℕ) → any-struct-lts.Need-returns-3 (any-struct-calls t) (any-struct-at t) any-struct.Post any-struct-Inv-loop any-struct-μ-loop
-any-struct-returns-3 t c = let A = c .before .before .before .before .before .before .before .before .before .before .before .before .before .before .before .before .before .before .before .before .args in let S = A .s .now in let B = A .b .now in let P = c .before .before .before .before .before .before .before .before .before .before .before .before .before .before .before .before .before .before .before .before .pre .1 .0 in let HB = bytes-of B (λ i. c .before .before .before .before .before .before .before .before .before .before .before .before .before .before .before .before .before .before .shared-slice-known2 .given i .fits) in let F = c .before .before .before .before .before .before .before .before .before .before .before .before .before .before .before .before .before .bitmap-size .ensures in let TS = typesAt S (A .first) (A .depth) (A .n) in let K = kids TS in let D = fields-slots S (A .first) (A .n) (A .depth) B P HB (c .before .before .before .before .before .before .before .before .before .before .before .before .before .before .before .before .before .bitmap-size .result) (c .before .before .before .before .before .before .before .before .before .before .before .before .before .before .before .before .before .bitmap-size .result + 8 * A .n) F refl (omega (arith, F, c .before .before .before .before .before .before .before .before .before .before .before .before .before .before .before .before .before .before .before .before .pre .1 .1 .room)) in let q = field-outside S (A .first) (A .n) (A .depth) B P HB (c .before .before .before .before .before .before .before .before .before .before .before .before .before .before .before .before .loop .at) (c .before .before .before .before .before .before .before .before .before .before .before .before .before .before .before .before .loop .i) (c .before .before .before .before .before .before .before .before .before .before .before .before .before .before .before .before .loop .inv .type) (c .before .before .before .before .before .before .before .before .before .before .before .before .before .before .before .loop-test .taken) (c .before .before .before .before .before .before .before .before .before .before .before .before .before .before .place-at .result) (c .before .before .before .before .before .before .before .before .before .before .before .before .before .before .place-at .ensures) (omega (arith, c .before .before .before .before .before .before .before .before .before .before .before .before .before .if1 .left)) in any-unpadded 0 K B (A .n) (c .before .before .before .before .before .before .before .before .before .before .before .before .before .before .before .before .before .bitmap-size .result) (c .before .before .before .before .before .before .before .before .before .before .before .before .before .before .before .before .before .bitmap-size .result + 8 * A .n) D (c .before .before .before .before .before .before .before .before .before .before .before .before .before .before .before .before .loop .i) (c .before .before .before .before .before .before .before .before .before .before .before .before .before .before .before .before .loop .slot) (c .before .before .before .before .before .before .before .before .before .before .before .before .before .before .before .before .loop .sum) (c .before .before .before .before .before .before .before .before .before .before .before .before .before .before .before .before .loop .map) (c .before .before .before .before .before .before .before .before .before .before .before .before .before .before .before .before .loop .inv .state) (c .before .before .before .before .before .before .before .before .before .before .before .before .before .before .before .loop-test .taken) (q .own) (q .kid₀) (sym (c .before .before .before .before .before .before .before .before .before .before .before .is-null .ensures) ∙ c .before .before .before .before .before .before .before .before .before .before .if3 .left) (c .before .before .before .before .before .before .before .before .before .get8 .result) (c .before .before .before .before .before .before .before .before .before .get8 .ensures) (c .before .before .before .before .before .before .before .before .slot-offset .result) (c .before .before .before .before .before .before .before .before .slot-offset .ensures) (c .before .before .before .before .before .before .before .slot-size .result) (c .before .before .before .before .before .before .before .slot-size .ensures) (c .before .before .before .before .before .before .before .before .slot-offset .result + c .before .before .before .before .before .before .before .slot-size .result) (c .before .before .before .before .before .before .pad-size .result) refl (c .before .before .before .before .before .before .pad-size .ensures) (c .before .before .before .before .place .result) (c .before .before .before .before .place .ensures .0) (not-false _ (c .before .before .if4 .left)) (c .before .pad-clear .result) (c .before .pad-clear .ensures) (not-true _ (c .if5 .taken))
+-- the place where the field's type is known
+abbrev any-struct-type : (t : ℕ) → any-struct-lts.Else5 (any-struct-calls t) (any-struct-at t) any-struct.Post any-struct-Inv-loop any-struct-μ-loop
+    → any-struct-lts.After-next-type (any-struct-calls t) (any-struct-at t) any-struct.Post any-struct-Inv-loop any-struct-μ-loop
+any-struct-type t c = c .before .before .before .before .before .before .before .before .before .before
 
 any-struct-sub-sum : (t : ℕ) → any-struct-lts.Need-sub-sum (any-struct-calls t) (any-struct-at t) any-struct.Post any-struct-Inv-loop any-struct-μ-loop
-any-struct-sub-sum t c = let A = c .before .before .before .before .before .before .before .before .before .before .before .before .before .before .before .before .before .before .before .before .before .args in let S = A .s .now in let B = A .b .now in let P = c .before .before .before .before .before .before .before .before .before .before .before .before .before .before .before .before .before .before .before .before .before .pre .1 .0 in let HB = bytes-of B (λ i. c .before .before .before .before .before .before .before .before .before .before .before .before .before .before .before .before .before .before .before .shared-slice-known2 .given i .fits) in let F = c .before .before .before .before .before .before .before .before .before .before .before .before .before .before .before .before .before .before .bitmap-size .ensures in let TS = typesAt S (A .first) (A .depth) (A .n) in let K = kids TS in let D = fields-slots S (A .first) (A .n) (A .depth) B P HB (c .before .before .before .before .before .before .before .before .before .before .before .before .before .before .before .before .before .before .bitmap-size .result) (c .before .before .before .before .before .before .before .before .before .before .before .before .before .before .before .before .before .before .bitmap-size .result + 8 * A .n) F refl (omega (arith, F, c .before .before .before .before .before .before .before .before .before .before .before .before .before .before .before .before .before .before .before .before .before .pre .1 .1 .room)) in let q = field-outside S (A .first) (A .n) (A .depth) B P HB (c .before .before .before .before .before .before .before .before .before .before .before .before .before .before .before .before .before .loop .at) (c .before .before .before .before .before .before .before .before .before .before .before .before .before .before .before .before .before .loop .i) (c .before .before .before .before .before .before .before .before .before .before .before .before .before .before .before .before .before .loop .inv .type) (c .before .before .before .before .before .before .before .before .before .before .before .before .before .before .before .before .loop-test .taken) (c .before .before .before .before .before .before .before .before .before .before .before .before .before .before .before .place-at .result) (c .before .before .before .before .before .before .before .before .before .before .before .before .before .before .before .place-at .ensures) (omega (arith, c .before .before .before .before .before .before .before .before .before .before .before .before .before .before .if1 .left)) in any-order 0 K B (A .n) (c .before .before .before .before .before .before .before .before .before .before .before .before .before .before .before .before .before .before .bitmap-size .result) (c .before .before .before .before .before .before .before .before .before .before .before .before .before .before .before .before .before .before .bitmap-size .result + 8 * A .n) D (c .before .before .before .before .before .before .before .before .before .before .before .before .before .before .before .before .before .loop .i) (c .before .before .before .before .before .before .before .before .before .before .before .before .before .before .before .before .before .loop .slot) (c .before .before .before .before .before .before .before .before .before .before .before .before .before .before .before .before .before .loop .sum) (c .before .before .before .before .before .before .before .before .before .before .before .before .before .before .before .before .before .loop .map) (c .before .before .before .before .before .before .before .before .before .before .before .before .before .before .before .before .before .loop .inv .state) (c .before .before .before .before .before .before .before .before .before .before .before .before .before .before .before .before .loop-test .taken) (q .own) (q .kid₀) (sym (c .before .before .before .before .before .before .before .before .before .before .before .before .is-null .ensures) ∙ c .before .before .before .before .before .before .before .before .before .before .before .if3 .left) (c .before .before .before .before .before .before .before .before .before .before .get8 .result) (c .before .before .before .before .before .before .before .before .before .before .get8 .ensures) (c .before .before .before .before .before .before .before .before .before .slot-offset .result) (c .before .before .before .before .before .before .before .before .before .slot-offset .ensures) (c .before .before .before .before .before .before .before .before .slot-size .result) (c .before .before .before .before .before .before .before .before .slot-size .ensures) (c .before .before .before .before .before .before .before .before .before .slot-offset .result + c .before .before .before .before .before .before .before .before .slot-size .result) (c .before .before .before .before .before .before .before .pad-size .result) refl (c .before .before .before .before .before .before .before .pad-size .ensures)
+any-struct-sub-sum t c = stood-order (any-struct-stood t (c .before))
 
 any-struct-add-sum : (t : ℕ) → any-struct-lts.Need-add-sum (any-struct-calls t) (any-struct-at t) any-struct.Post any-struct-Inv-loop any-struct-μ-loop
-any-struct-add-sum t c = let A = c .before .before .before .before .before .before .before .before .before .before .before .before .before .before .before .before .before .before .before .before .before .args in let S = A .s .now in let B = A .b .now in let P = c .before .before .before .before .before .before .before .before .before .before .before .before .before .before .before .before .before .before .before .before .before .pre .1 .0 in let HB = bytes-of B (λ i. c .before .before .before .before .before .before .before .before .before .before .before .before .before .before .before .before .before .before .before .shared-slice-known2 .given i .fits) in let F = c .before .before .before .before .before .before .before .before .before .before .before .before .before .before .before .before .before .before .bitmap-size .ensures in let TS = typesAt S (A .first) (A .depth) (A .n) in let K = kids TS in let D = fields-slots S (A .first) (A .n) (A .depth) B P HB (c .before .before .before .before .before .before .before .before .before .before .before .before .before .before .before .before .before .before .bitmap-size .result) (c .before .before .before .before .before .before .before .before .before .before .before .before .before .before .before .before .before .before .bitmap-size .result + 8 * A .n) F refl (omega (arith, F, c .before .before .before .before .before .before .before .before .before .before .before .before .before .before .before .before .before .before .before .before .before .pre .1 .1 .room)) in let q = field-outside S (A .first) (A .n) (A .depth) B P HB (c .before .before .before .before .before .before .before .before .before .before .before .before .before .before .before .before .before .loop .at) (c .before .before .before .before .before .before .before .before .before .before .before .before .before .before .before .before .before .loop .i) (c .before .before .before .before .before .before .before .before .before .before .before .before .before .before .before .before .before .loop .inv .type) (c .before .before .before .before .before .before .before .before .before .before .before .before .before .before .before .before .loop-test .taken) (c .before .before .before .before .before .before .before .before .before .before .before .before .before .before .before .place-at .result) (c .before .before .before .before .before .before .before .before .before .before .before .before .before .before .before .place-at .ensures) (omega (arith, c .before .before .before .before .before .before .before .before .before .before .before .before .before .before .if1 .left)) in let w = any-within 0 K B (A .n) (c .before .before .before .before .before .before .before .before .before .before .before .before .before .before .before .before .before .before .bitmap-size .result) (c .before .before .before .before .before .before .before .before .before .before .before .before .before .before .before .before .before .before .bitmap-size .result + 8 * A .n) D (c .before .before .before .before .before .before .before .before .before .before .before .before .before .before .before .before .before .loop .i) (c .before .before .before .before .before .before .before .before .before .before .before .before .before .before .before .before .before .loop .slot) (c .before .before .before .before .before .before .before .before .before .before .before .before .before .before .before .before .before .loop .sum) (c .before .before .before .before .before .before .before .before .before .before .before .before .before .before .before .before .before .loop .map) (c .before .before .before .before .before .before .before .before .before .before .before .before .before .before .before .before .before .loop .inv .state) (c .before .before .before .before .before .before .before .before .before .before .before .before .before .before .before .before .loop-test .taken) (q .own) (q .kid₀) (sym (c .before .before .before .before .before .before .before .before .before .before .before .before .is-null .ensures) ∙ c .before .before .before .before .before .before .before .before .before .before .before .if3 .left) (c .before .before .before .before .before .before .before .before .before .before .get8 .result) (c .before .before .before .before .before .before .before .before .before .before .get8 .ensures) (c .before .before .before .before .before .before .before .before .before .slot-offset .result) (c .before .before .before .before .before .before .before .before .before .slot-offset .ensures) (c .before .before .before .before .before .before .before .before .slot-size .result) (c .before .before .before .before .before .before .before .before .slot-size .ensures) (c .before .before .before .before .before .before .before .before .before .slot-offset .result + c .before .before .before .before .before .before .before .before .slot-size .result) (c .before .before .before .before .before .before .before .pad-size .result) refl (c .before .before .before .before .before .before .before .pad-size .ensures) (c .before .before .before .before .before .place .result) (c .before .before .before .before .before .place .ensures .0) (not-false _ (c .before .before .before .if4 .left)) in let g = sum-room (c .before .before .before .before .before .before .before .before .before .before .before .before .before .before .before .before .before .loop .sum) (c .before .before .before .before .before .before .before .pad-size .result) (c .before .before .before .before .before .before .before .before .before .slot-offset .result) (any-small 0 K B (A .n) (c .before .before .before .before .before .before .before .before .before .before .before .before .before .before .before .before .before .before .bitmap-size .result) (c .before .before .before .before .before .before .before .before .before .before .before .before .before .before .before .before .before .before .bitmap-size .result + 8 * A .n) D (c .before .before .before .before .before .before .before .before .before .before .before .before .before .before .before .before .before .loop .i) (c .before .before .before .before .before .before .before .before .before .before .before .before .before .before .before .before .before .loop .slot) (c .before .before .before .before .before .before .before .before .before .before .before .before .before .before .before .before .before .loop .sum) (c .before .before .before .before .before .before .before .before .before .before .before .before .before .before .before .before .before .loop .map) (c .before .before .before .before .before .before .before .before .before .before .before .before .before .before .before .before .before .loop .inv .state) (c .before .before .before .before .before .before .before .before .before .before .before .before .before .before .before .before .loop-test .taken)) w (D .small) in omega (arith, g)
-
-any-struct-add-slot-3 : (t : ℕ) → any-struct-lts.Need-add-slot-3 (any-struct-calls t) (any-struct-at t) any-struct.Post any-struct-Inv-loop any-struct-μ-loop
-any-struct-add-slot-3 t c = let r = c .before .before .before .before .before .before .before .before .before .before .before .before .before .before .before .before .before .loop .inv .state in omega (arith, r .slot-is, c .before .before .before .before .before .before .before .before .before .before .before .before .before .before .before .before .before .before .before .before .before .pre .1 .1 .room, c .before .before .before .before .before .before .before .before .before .before .before .before .before .before .before .before .before .before .before .before .before .pre .1 .0 .small, c .before .before .before .before .before .before .before .before .before .before .before .before .before .before .before .before .before .before .bitmap-size .ensures)
-
-any-struct-add-i-3 : (t : ℕ) → any-struct-lts.Need-add-i-3 (any-struct-calls t) (any-struct-at t) any-struct.Post any-struct-Inv-loop any-struct-μ-loop
-any-struct-add-i-3 t c = omega arith
-
-any-struct-loop-less-3 : (t : ℕ) → any-struct-lts.Need-loop-less-3 (any-struct-calls t) (any-struct-at t) any-struct.Post any-struct-Inv-loop any-struct-μ-loop
-any-struct-loop-less-3 t c = omega arith
-
-any-struct-loop-again-3 : (t : ℕ) → any-struct-lts.Need-loop-again-3 (any-struct-calls t) (any-struct-at t) any-struct.Post any-struct-Inv-loop any-struct-μ-loop
-any-struct-loop-again-3 t c = let A = c .before .before .before .before .before .before .before .before .before .before .before .before .before .before .before .before .before .before .before .before .before .args in let S = A .s .now in let B = A .b .now in let P = c .before .before .before .before .before .before .before .before .before .before .before .before .before .before .before .before .before .before .before .before .before .pre .1 .0 in let HB = bytes-of B (λ i. c .before .before .before .before .before .before .before .before .before .before .before .before .before .before .before .before .before .before .before .shared-slice-known2 .given i .fits) in let F = c .before .before .before .before .before .before .before .before .before .before .before .before .before .before .before .before .before .before .bitmap-size .ensures in let TS = typesAt S (A .first) (A .depth) (A .n) in let K = kids TS in let D = fields-slots S (A .first) (A .n) (A .depth) B P HB (c .before .before .before .before .before .before .before .before .before .before .before .before .before .before .before .before .before .before .bitmap-size .result) (c .before .before .before .before .before .before .before .before .before .before .before .before .before .before .before .before .before .before .bitmap-size .result + 8 * A .n) F refl (omega (arith, F, c .before .before .before .before .before .before .before .before .before .before .before .before .before .before .before .before .before .before .before .before .before .pre .1 .1 .room)) in record { type = field-on S (A .first) (A .n) (A .depth) B P HB (c .before .before .before .before .before .before .before .before .before .before .before .before .before .before .before .before .before .loop .at) (c .before .before .before .before .before .before .before .before .before .before .before .before .before .before .before .before .before .loop .i) (c .before .before .before .before .before .before .before .before .before .before .before .before .before .before .before .before .before .loop .inv .type) (c .before .before .before .before .before .before .before .before .before .before .before .before .before .before .before .before .loop-test .taken) _ (c .before .before .before .before .before .before .before .before .before .before .before .before .before .next-type .ensures); state = any-next 0 K B (A .n) (c .before .before .before .before .before .before .before .before .before .before .before .before .before .before .before .before .before .before .bitmap-size .result) (c .before .before .before .before .before .before .before .before .before .before .before .before .before .before .before .before .before .before .bitmap-size .result + 8 * A .n) D (c .before .before .before .before .before .before .before .before .before .before .before .before .before .before .before .before .before .loop .i) (c .before .before .before .before .before .before .before .before .before .before .before .before .before .before .before .before .before .loop .slot) (c .before .before .before .before .before .before .before .before .before .before .before .before .before .before .before .before .before .loop .sum) (c .before .before .before .before .before .before .before .before .before .before .before .before .before .before .before .before .before .loop .map) (c .before .before .before .before .before .before .before .before .before .before .before .before .before .before .before .before .before .loop .inv .state) (c .before .before .before .before .before .before .before .before .before .before .before .before .before .before .before .before .loop-test .taken) string (field-string S (A .first) (A .n) (A .depth) B P HB (c .before .before .before .before .before .before .before .before .before .before .before .before .before .before .before .before .before .loop .at) (c .before .before .before .before .before .before .before .before .before .before .before .before .before .before .before .before .before .loop .i) (c .before .before .before .before .before .before .before .before .before .before .before .before .before .before .before .before .before .loop .inv .type) (c .before .before .before .before .before .before .before .before .before .before .before .before .before .before .before .before .loop-test .taken) (c .before .before .before .before .before .before .before .before .before .before .before .before .before .before .before .place-at .result) (c .before .before .before .before .before .before .before .before .before .before .before .before .before .before .before .place-at .ensures) (omega (arith, c .before .before .before .before .before .before .before .before .before .before .before .before .before .before .if1 .left)) (c .if6 .taken)) (sym (c .before .before .before .before .before .before .before .before .before .before .before .before .is-null .ensures) ∙ c .before .before .before .before .before .before .before .before .before .before .before .if3 .left) (c .before .before .before .before .before .before .before .before .before .before .get8 .result) (c .before .before .before .before .before .before .before .before .before .before .get8 .ensures) (c .before .before .before .before .before .before .before .before .before .slot-offset .result) (c .before .before .before .before .before .before .before .before .before .slot-offset .ensures) (c .before .before .before .before .before .before .before .before .slot-size .result) (c .before .before .before .before .before .before .before .before .slot-size .ensures) (c .before .before .before .before .before .before .before .before .before .slot-offset .result + c .before .before .before .before .before .before .before .before .slot-size .result) (c .before .before .before .before .before .before .before .pad-size .result) refl (c .before .before .before .before .before .before .before .pad-size .ensures) (c .before .before .before .before .before .place .result) (c .before .before .before .before .before .place .ensures .0) (not-false _ (c .before .before .before .if4 .left)) _ (c .before .before .before .before .before .place .ensures .1) (text-fine _) (c .before .before .pad-clear .result) (c .before .before .pad-clear .ensures) (not-false _ (c .before .if5 .left)) }
-
-any-struct-sub-sum-2 : (t : ℕ) → any-struct-lts.Need-sub-sum-2 (any-struct-calls t) (any-struct-at t) any-struct.Post any-struct-Inv-loop any-struct-μ-loop
-any-struct-sub-sum-2 t c = let A = c .before .before .before .before .before .before .before .before .before .before .before .before .before .before .before .before .before .before .before .before .before .before .args in let S = A .s .now in let B = A .b .now in let P = c .before .before .before .before .before .before .before .before .before .before .before .before .before .before .before .before .before .before .before .before .before .before .pre .1 .0 in let HB = bytes-of B (λ i. c .before .before .before .before .before .before .before .before .before .before .before .before .before .before .before .before .before .before .before .before .shared-slice-known2 .given i .fits) in let F = c .before .before .before .before .before .before .before .before .before .before .before .before .before .before .before .before .before .before .before .bitmap-size .ensures in let TS = typesAt S (A .first) (A .depth) (A .n) in let K = kids TS in let D = fields-slots S (A .first) (A .n) (A .depth) B P HB (c .before .before .before .before .before .before .before .before .before .before .before .before .before .before .before .before .before .before .before .bitmap-size .result) (c .before .before .before .before .before .before .before .before .before .before .before .before .before .before .before .before .before .before .before .bitmap-size .result + 8 * A .n) F refl (omega (arith, F, c .before .before .before .before .before .before .before .before .before .before .before .before .before .before .before .before .before .before .before .before .before .before .pre .1 .1 .room)) in let q = field-outside S (A .first) (A .n) (A .depth) B P HB (c .before .before .before .before .before .before .before .before .before .before .before .before .before .before .before .before .before .before .loop .at) (c .before .before .before .before .before .before .before .before .before .before .before .before .before .before .before .before .before .before .loop .i) (c .before .before .before .before .before .before .before .before .before .before .before .before .before .before .before .before .before .before .loop .inv .type) (c .before .before .before .before .before .before .before .before .before .before .before .before .before .before .before .before .before .loop-test .taken) (c .before .before .before .before .before .before .before .before .before .before .before .before .before .before .before .before .place-at .result) (c .before .before .before .before .before .before .before .before .before .before .before .before .before .before .before .before .place-at .ensures) (omega (arith, c .before .before .before .before .before .before .before .before .before .before .before .before .before .before .before .if1 .left)) in any-order 0 K B (A .n) (c .before .before .before .before .before .before .before .before .before .before .before .before .before .before .before .before .before .before .before .bitmap-size .result) (c .before .before .before .before .before .before .before .before .before .before .before .before .before .before .before .before .before .before .before .bitmap-size .result + 8 * A .n) D (c .before .before .before .before .before .before .before .before .before .before .before .before .before .before .before .before .before .before .loop .i) (c .before .before .before .before .before .before .before .before .before .before .before .before .before .before .before .before .before .before .loop .slot) (c .before .before .before .before .before .before .before .before .before .before .before .before .before .before .before .before .before .before .loop .sum) (c .before .before .before .before .before .before .before .before .before .before .before .before .before .before .before .before .before .before .loop .map) (c .before .before .before .before .before .before .before .before .before .before .before .before .before .before .before .before .before .before .loop .inv .state) (c .before .before .before .before .before .before .before .before .before .before .before .before .before .before .before .before .before .loop-test .taken) (q .own) (q .kid₀) (sym (c .before .before .before .before .before .before .before .before .before .before .before .before .before .is-null .ensures) ∙ c .before .before .before .before .before .before .before .before .before .before .before .before .if3 .left) (c .before .before .before .before .before .before .before .before .before .before .before .get8 .result) (c .before .before .before .before .before .before .before .before .before .before .before .get8 .ensures) (c .before .before .before .before .before .before .before .before .before .before .slot-offset .result) (c .before .before .before .before .before .before .before .before .before .before .slot-offset .ensures) (c .before .before .before .before .before .before .before .before .before .slot-size .result) (c .before .before .before .before .before .before .before .before .before .slot-size .ensures) (c .before .before .before .before .before .before .before .before .before .before .slot-offset .result + c .before .before .before .before .before .before .before .before .before .slot-size .result) (c .before .before .before .before .before .before .before .before .pad-size .result) refl (c .before .before .before .before .before .before .before .before .pad-size .ensures)
-
-any-struct-add-sum-2 : (t : ℕ) → any-struct-lts.Need-add-sum-2 (any-struct-calls t) (any-struct-at t) any-struct.Post any-struct-Inv-loop any-struct-μ-loop
-any-struct-add-sum-2 t c = let A = c .before .before .before .before .before .before .before .before .before .before .before .before .before .before .before .before .before .before .before .before .before .before .args in let S = A .s .now in let B = A .b .now in let P = c .before .before .before .before .before .before .before .before .before .before .before .before .before .before .before .before .before .before .before .before .before .before .pre .1 .0 in let HB = bytes-of B (λ i. c .before .before .before .before .before .before .before .before .before .before .before .before .before .before .before .before .before .before .before .before .shared-slice-known2 .given i .fits) in let F = c .before .before .before .before .before .before .before .before .before .before .before .before .before .before .before .before .before .before .before .bitmap-size .ensures in let TS = typesAt S (A .first) (A .depth) (A .n) in let K = kids TS in let D = fields-slots S (A .first) (A .n) (A .depth) B P HB (c .before .before .before .before .before .before .before .before .before .before .before .before .before .before .before .before .before .before .before .bitmap-size .result) (c .before .before .before .before .before .before .before .before .before .before .before .before .before .before .before .before .before .before .before .bitmap-size .result + 8 * A .n) F refl (omega (arith, F, c .before .before .before .before .before .before .before .before .before .before .before .before .before .before .before .before .before .before .before .before .before .before .pre .1 .1 .room)) in let q = field-outside S (A .first) (A .n) (A .depth) B P HB (c .before .before .before .before .before .before .before .before .before .before .before .before .before .before .before .before .before .before .loop .at) (c .before .before .before .before .before .before .before .before .before .before .before .before .before .before .before .before .before .before .loop .i) (c .before .before .before .before .before .before .before .before .before .before .before .before .before .before .before .before .before .before .loop .inv .type) (c .before .before .before .before .before .before .before .before .before .before .before .before .before .before .before .before .before .loop-test .taken) (c .before .before .before .before .before .before .before .before .before .before .before .before .before .before .before .before .place-at .result) (c .before .before .before .before .before .before .before .before .before .before .before .before .before .before .before .before .place-at .ensures) (omega (arith, c .before .before .before .before .before .before .before .before .before .before .before .before .before .before .before .if1 .left)) in let w = any-within 0 K B (A .n) (c .before .before .before .before .before .before .before .before .before .before .before .before .before .before .before .before .before .before .before .bitmap-size .result) (c .before .before .before .before .before .before .before .before .before .before .before .before .before .before .before .before .before .before .before .bitmap-size .result + 8 * A .n) D (c .before .before .before .before .before .before .before .before .before .before .before .before .before .before .before .before .before .before .loop .i) (c .before .before .before .before .before .before .before .before .before .before .before .before .before .before .before .before .before .before .loop .slot) (c .before .before .before .before .before .before .before .before .before .before .before .before .before .before .before .before .before .before .loop .sum) (c .before .before .before .before .before .before .before .before .before .before .before .before .before .before .before .before .before .before .loop .map) (c .before .before .before .before .before .before .before .before .before .before .before .before .before .before .before .before .before .before .loop .inv .state) (c .before .before .before .before .before .before .before .before .before .before .before .before .before .before .before .before .before .loop-test .taken) (q .own) (q .kid₀) (sym (c .before .before .before .before .before .before .before .before .before .before .before .before .before .is-null .ensures) ∙ c .before .before .before .before .before .before .before .before .before .before .before .before .if3 .left) (c .before .before .before .before .before .before .before .before .before .before .before .get8 .result) (c .before .before .before .before .before .before .before .before .before .before .before .get8 .ensures) (c .before .before .before .before .before .before .before .before .before .before .slot-offset .result) (c .before .before .before .before .before .before .before .before .before .before .slot-offset .ensures) (c .before .before .before .before .before .before .before .before .before .slot-size .result) (c .before .before .before .before .before .before .before .before .before .slot-size .ensures) (c .before .before .before .before .before .before .before .before .before .before .slot-offset .result + c .before .before .before .before .before .before .before .before .before .slot-size .result) (c .before .before .before .before .before .before .before .before .pad-size .result) refl (c .before .before .before .before .before .before .before .before .pad-size .ensures) (c .before .before .before .before .before .before .place .result) (c .before .before .before .before .before .before .place .ensures .0) (not-false _ (c .before .before .before .before .if4 .left)) in let g = sum-room (c .before .before .before .before .before .before .before .before .before .before .before .before .before .before .before .before .before .before .loop .sum) (c .before .before .before .before .before .before .before .before .pad-size .result) (c .before .before .before .before .before .before .before .before .before .before .slot-offset .result) (any-small 0 K B (A .n) (c .before .before .before .before .before .before .before .before .before .before .before .before .before .before .before .before .before .before .before .bitmap-size .result) (c .before .before .before .before .before .before .before .before .before .before .before .before .before .before .before .before .before .before .before .bitmap-size .result + 8 * A .n) D (c .before .before .before .before .before .before .before .before .before .before .before .before .before .before .before .before .before .before .loop .i) (c .before .before .before .before .before .before .before .before .before .before .before .before .before .before .before .before .before .before .loop .slot) (c .before .before .before .before .before .before .before .before .before .before .before .before .before .before .before .before .before .before .loop .sum) (c .before .before .before .before .before .before .before .before .before .before .before .before .before .before .before .before .before .before .loop .map) (c .before .before .before .before .before .before .before .before .before .before .before .before .before .before .before .before .before .before .loop .inv .state) (c .before .before .before .before .before .before .before .before .before .before .before .before .before .before .before .before .before .loop-test .taken)) w (D .small) in omega (arith, g)
+any-struct-add-sum t c = stood-sum (any-struct-stood t (c .before))
 
 any-struct-add-slot-4 : (t : ℕ) → any-struct-lts.Need-add-slot-4 (any-struct-calls t) (any-struct-at t) any-struct.Post any-struct-Inv-loop any-struct-μ-loop
-any-struct-add-slot-4 t c = let r = c .before .before .before .before .before .before .before .before .before .before .before .before .before .before .before .before .before .before .loop .inv .state in omega (arith, r .slot-is, c .before .before .before .before .before .before .before .before .before .before .before .before .before .before .before .before .before .before .before .before .before .before .pre .1 .1 .room, c .before .before .before .before .before .before .before .before .before .before .before .before .before .before .before .before .before .before .before .before .before .before .pre .1 .0 .small, c .before .before .before .before .before .before .before .before .before .before .before .before .before .before .before .before .before .before .before .bitmap-size .ensures)
+any-struct-add-slot-4 t c = stood-slot-on (any-struct-stood t (c .before))
 
 any-struct-add-i-4 : (t : ℕ) → any-struct-lts.Need-add-i-4 (any-struct-calls t) (any-struct-at t) any-struct.Post any-struct-Inv-loop any-struct-μ-loop
-any-struct-add-i-4 t c = omega arith
+any-struct-add-i-4 t c = stood-on (any-struct-stood t (c .before))
 
 any-struct-loop-less-4 : (t : ℕ) → any-struct-lts.Need-loop-less-4 (any-struct-calls t) (any-struct-at t) any-struct.Post any-struct-Inv-loop any-struct-μ-loop
-any-struct-loop-less-4 t c = omega arith
+any-struct-loop-less-4 t c = stood-less (any-struct-stood t (c .before))
 
-any-struct-loop-again-4 : (t : ℕ) → any-struct-lts.Need-loop-again-4 (any-struct-calls t) (any-struct-at t) any-struct.Post any-struct-Inv-loop any-struct-μ-loop
-any-struct-loop-again-4 t c = let A = c .before .before .before .before .before .before .before .before .before .before .before .before .before .before .before .before .before .before .before .before .before .before .args in let S = A .s .now in let B = A .b .now in let P = c .before .before .before .before .before .before .before .before .before .before .before .before .before .before .before .before .before .before .before .before .before .before .pre .1 .0 in let HB = bytes-of B (λ i. c .before .before .before .before .before .before .before .before .before .before .before .before .before .before .before .before .before .before .before .before .shared-slice-known2 .given i .fits) in let F = c .before .before .before .before .before .before .before .before .before .before .before .before .before .before .before .before .before .before .before .bitmap-size .ensures in let TS = typesAt S (A .first) (A .depth) (A .n) in let K = kids TS in let D = fields-slots S (A .first) (A .n) (A .depth) B P HB (c .before .before .before .before .before .before .before .before .before .before .before .before .before .before .before .before .before .before .before .bitmap-size .result) (c .before .before .before .before .before .before .before .before .before .before .before .before .before .before .before .before .before .before .before .bitmap-size .result + 8 * A .n) F refl (omega (arith, F, c .before .before .before .before .before .before .before .before .before .before .before .before .before .before .before .before .before .before .before .before .before .before .pre .1 .1 .room)) in record { type = field-on S (A .first) (A .n) (A .depth) B P HB (c .before .before .before .before .before .before .before .before .before .before .before .before .before .before .before .before .before .before .loop .at) (c .before .before .before .before .before .before .before .before .before .before .before .before .before .before .before .before .before .before .loop .i) (c .before .before .before .before .before .before .before .before .before .before .before .before .before .before .before .before .before .before .loop .inv .type) (c .before .before .before .before .before .before .before .before .before .before .before .before .before .before .before .before .before .loop-test .taken) _ (c .before .before .before .before .before .before .before .before .before .before .before .before .before .before .next-type .ensures); state = any-next 0 K B (A .n) (c .before .before .before .before .before .before .before .before .before .before .before .before .before .before .before .before .before .before .before .bitmap-size .result) (c .before .before .before .before .before .before .before .before .before .before .before .before .before .before .before .before .before .before .before .bitmap-size .result + 8 * A .n) D (c .before .before .before .before .before .before .before .before .before .before .before .before .before .before .before .before .before .before .loop .i) (c .before .before .before .before .before .before .before .before .before .before .before .before .before .before .before .before .before .before .loop .slot) (c .before .before .before .before .before .before .before .before .before .before .before .before .before .before .before .before .before .before .loop .sum) (c .before .before .before .before .before .before .before .before .before .before .before .before .before .before .before .before .before .before .loop .map) (c .before .before .before .before .before .before .before .before .before .before .before .before .before .before .before .before .before .before .loop .inv .state) (c .before .before .before .before .before .before .before .before .before .before .before .before .before .before .before .before .before .loop-test .taken) (codec (typeAt S (c .before .before .before .before .before .before .before .before .before .before .before .before .before .before .before .before .before .before .loop .at) (A .depth))) (field-container S (A .first) (A .n) (A .depth) B P HB (c .before .before .before .before .before .before .before .before .before .before .before .before .before .before .before .before .before .before .loop .at) (c .before .before .before .before .before .before .before .before .before .before .before .before .before .before .before .before .before .before .loop .i) (c .before .before .before .before .before .before .before .before .before .before .before .before .before .before .before .before .before .before .loop .inv .type) (c .before .before .before .before .before .before .before .before .before .before .before .before .before .before .before .before .before .loop-test .taken) (c .before .before .before .before .before .before .before .before .before .before .before .before .before .before .before .before .place-at .result) (c .before .before .before .before .before .before .before .before .before .before .before .before .before .before .before .before .place-at .ensures) (omega (arith, c .before .if6 .left))) (sym (c .before .before .before .before .before .before .before .before .before .before .before .before .before .is-null .ensures) ∙ c .before .before .before .before .before .before .before .before .before .before .before .before .if3 .left) (c .before .before .before .before .before .before .before .before .before .before .before .get8 .result) (c .before .before .before .before .before .before .before .before .before .before .before .get8 .ensures) (c .before .before .before .before .before .before .before .before .before .before .slot-offset .result) (c .before .before .before .before .before .before .before .before .before .before .slot-offset .ensures) (c .before .before .before .before .before .before .before .before .before .slot-size .result) (c .before .before .before .before .before .before .before .before .before .slot-size .ensures) (c .before .before .before .before .before .before .before .before .before .before .slot-offset .result + c .before .before .before .before .before .before .before .before .before .slot-size .result) (c .before .before .before .before .before .before .before .before .pad-size .result) refl (c .before .before .before .before .before .before .before .before .pad-size .ensures) (c .before .before .before .before .before .before .place .result) (c .before .before .before .before .before .before .place .ensures .0) (not-false _ (c .before .before .before .before .if4 .left)) _ (c .before .before .before .before .before .before .place .ensures .1) (field-known S (A .first) (A .n) (A .depth) B P HB (c .before .before .before .before .before .before .before .before .before .before .before .before .before .before .before .before .before .before .loop .at) (c .before .before .before .before .before .before .before .before .before .before .before .before .before .before .before .before .before .before .loop .i) (c .before .before .before .before .before .before .before .before .before .before .before .before .before .before .before .before .before .before .loop .inv .type) (c .before .before .before .before .before .before .before .before .before .before .before .before .before .before .before .before .before .loop-test .taken) (c .before .before .before .before .before .before .before .before .before .before .before .before .before .before .before .before .place-at .result) (c .before .before .before .before .before .before .before .before .before .before .before .before .before .before .before .before .place-at .ensures) _ (known-at 0 (field TS) B (A .n) (c .before .before .before .before .before .before .before .before .before .before .before .before .before .before .before .before .before .before .loop .i) (c .before .before .before .before .before .before .before .before .before .before .before .before .before .before .before .before .before .before .loop .slot) (omega (arith, c .before .before .before .before .before .before .before .before .before .before .before .before .before .before .before .before .before .before .loop .inv .state .slot-is, c .before .before .before .before .before .before .before .before .before .before .before .before .before .before .before .before .before .before .before .bitmap-size .ensures)) (c .before .before .before .before .before .before .before .before .before .before .before .get8 .result) (c .before .before .before .before .before .before .before .before .before .before .before .get8 .ensures) (c .before .before .before .before .before .before .before .before .before .before .slot-offset .result) (c .before .before .before .before .before .before .before .before .before .before .slot-offset .ensures) (c .before .before .before .before .before .before .before .before .before .slot-size .result) (c .before .before .before .before .before .before .before .before .before .slot-size .ensures) (c .before .before .before .before .before .before .before .before .before .before .slot-offset .result + c .before .before .before .before .before .before .before .before .before .slot-size .result) refl (A .known) (c .before .before .before .before .before .before .before .before .before .before .before .before .before .before .before .before .before .before .before .before .before .before .pre .1 .1 .known) (c .if7 .taken) (sym (c .before .before .before .before .before .before .before .before .before .before .before .before .before .is-null .ensures) ∙ c .before .before .before .before .before .before .before .before .before .before .before .before .if3 .left) (field-none S (A .first) (A .n) (A .depth) B P HB (c .before .before .before .before .before .before .before .before .before .before .before .before .before .before .before .before .before .before .loop .at) (c .before .before .before .before .before .before .before .before .before .before .before .before .before .before .before .before .before .before .loop .i) (c .before .before .before .before .before .before .before .before .before .before .before .before .before .before .before .before .before .before .loop .inv .type) (c .before .before .before .before .before .before .before .before .before .before .before .before .before .before .before .before .before .loop-test .taken) (c .before .before .before .before .before .before .before .before .before .before .before .before .before .before .before .before .place-at .result) (c .before .before .before .before .before .before .before .before .before .before .before .before .before .before .before .before .place-at .ensures) (omega (arith, c .before .if6 .left))))) (c .before .before .before .pad-clear .result) (c .before .before .before .pad-clear .ensures) (not-false _ (c .before .before .if5 .left)) }
+any-struct-loop-again-4 :
+    (t : ℕ) → any-struct-lts.Need-loop-again-4 (any-struct-calls t) (any-struct-at t) any-struct.Post any-struct-Inv-loop any-struct-μ-loop
+any-struct-loop-again-4 t c =
+    let p = any-struct-type t (c .before) in
+    any-field (p .before .before .before .before .loop .inv) (p .before .before .before .loop-test .taken) (p .next-type .ensures)
+    (any-known (any-struct-stood t (c .before)) (c .if6 .taken))
 
-any-struct-sub-check-value : (t : ℕ) → any-struct-lts.Need-sub-check-value (any-struct-calls t) (any-struct-at t) any-struct.Post any-struct-Inv-loop any-struct-μ-loop
-any-struct-sub-check-value t c = omega arith
+any-struct-pad-clear-requires :
+    (t : ℕ) → any-struct-lts.Need-pad-clear-requires (any-struct-calls t) (any-struct-at t) any-struct.Post any-struct-Inv-loop any-struct-μ-loop
+any-struct-pad-clear-requires t c κs = stood-pad (any-struct-stood t (c .before .before))
 
-any-struct-part-check-value-start : (t : ℕ) → any-struct-lts.Need-part-check-value-start (any-struct-calls t) (any-struct-at t) any-struct.Post any-struct-Inv-loop any-struct-μ-loop
-any-struct-part-check-value-start t c = omega arith
+any-struct-returns-3 : (t : ℕ) → any-struct-lts.Need-returns-3 (any-struct-calls t) (any-struct-at t) any-struct.Post any-struct-Inv-loop any-struct-μ-loop
+any-struct-returns-3 t c = any-unpadded (any-struct-stood t (c .before .before .before .before)) (c .before .pad-clear .ensures) (c .if8 .taken)
 
-any-struct-part-check-value-end : (t : ℕ) → any-struct-lts.Need-part-check-value-end (any-struct-calls t) (any-struct-at t) any-struct.Post any-struct-Inv-loop any-struct-μ-loop
-any-struct-part-check-value-end t c = let A = c .before .before .before .before .before .before .before .before .before .before .before .before .before .before .before .before .before .before .before .before .before .before .args in let S = A .s .now in let B = A .b .now in let P = c .before .before .before .before .before .before .before .before .before .before .before .before .before .before .before .before .before .before .before .before .before .before .pre .1 .0 in let HB = bytes-of B (λ i. c .before .before .before .before .before .before .before .before .before .before .before .before .before .before .before .before .before .before .before .before .shared-slice-known2 .given i .fits) in let F = c .before .before .before .before .before .before .before .before .before .before .before .before .before .before .before .before .before .before .before .bitmap-size .ensures in let TS = typesAt S (A .first) (A .depth) (A .n) in let K = kids TS in let D = fields-slots S (A .first) (A .n) (A .depth) B P HB (c .before .before .before .before .before .before .before .before .before .before .before .before .before .before .before .before .before .before .before .bitmap-size .result) (c .before .before .before .before .before .before .before .before .before .before .before .before .before .before .before .before .before .before .before .bitmap-size .result + 8 * A .n) F refl (omega (arith, F, c .before .before .before .before .before .before .before .before .before .before .before .before .before .before .before .before .before .before .before .before .before .before .pre .1 .1 .room)) in let q = field-outside S (A .first) (A .n) (A .depth) B P HB (c .before .before .before .before .before .before .before .before .before .before .before .before .before .before .before .before .before .before .loop .at) (c .before .before .before .before .before .before .before .before .before .before .before .before .before .before .before .before .before .before .loop .i) (c .before .before .before .before .before .before .before .before .before .before .before .before .before .before .before .before .before .before .loop .inv .type) (c .before .before .before .before .before .before .before .before .before .before .before .before .before .before .before .before .before .loop-test .taken) (c .before .before .before .before .before .before .before .before .before .before .before .before .before .before .before .before .place-at .result) (c .before .before .before .before .before .before .before .before .before .before .before .before .before .before .before .before .place-at .ensures) (omega (arith, c .before .before .before .before .before .before .before .before .before .before .before .before .before .before .before .if1 .left)) in let w = any-within 0 K B (A .n) (c .before .before .before .before .before .before .before .before .before .before .before .before .before .before .before .before .before .before .before .bitmap-size .result) (c .before .before .before .before .before .before .before .before .before .before .before .before .before .before .before .before .before .before .before .bitmap-size .result + 8 * A .n) D (c .before .before .before .before .before .before .before .before .before .before .before .before .before .before .before .before .before .before .loop .i) (c .before .before .before .before .before .before .before .before .before .before .before .before .before .before .before .before .before .before .loop .slot) (c .before .before .before .before .before .before .before .before .before .before .before .before .before .before .before .before .before .before .loop .sum) (c .before .before .before .before .before .before .before .before .before .before .before .before .before .before .before .before .before .before .loop .map) (c .before .before .before .before .before .before .before .before .before .before .before .before .before .before .before .before .before .before .loop .inv .state) (c .before .before .before .before .before .before .before .before .before .before .before .before .before .before .before .before .before .loop-test .taken) (q .own) (q .kid₀) (sym (c .before .before .before .before .before .before .before .before .before .before .before .before .before .is-null .ensures) ∙ c .before .before .before .before .before .before .before .before .before .before .before .before .if3 .left) (c .before .before .before .before .before .before .before .before .before .before .before .get8 .result) (c .before .before .before .before .before .before .before .before .before .before .before .get8 .ensures) (c .before .before .before .before .before .before .before .before .before .before .slot-offset .result) (c .before .before .before .before .before .before .before .before .before .before .slot-offset .ensures) (c .before .before .before .before .before .before .before .before .before .slot-size .result) (c .before .before .before .before .before .before .before .before .before .slot-size .ensures) (c .before .before .before .before .before .before .before .before .before .before .slot-offset .result + c .before .before .before .before .before .before .before .before .before .slot-size .result) (c .before .before .before .before .before .before .before .before .pad-size .result) refl (c .before .before .before .before .before .before .before .before .pad-size .ensures) (c .before .before .before .before .before .before .place .result) (c .before .before .before .before .before .before .place .ensures .0) (not-false _ (c .before .before .before .before .if4 .left)) in stop-in _ (c .before .before .before .before .before .before .before .before .pad-size .result) _ (c .before .before .before .before .before .before .before .before .pad-size .ensures) w
+any-struct-sub-sum-2 : (t : ℕ) → any-struct-lts.Need-sub-sum-2 (any-struct-calls t) (any-struct-at t) any-struct.Post any-struct-Inv-loop any-struct-μ-loop
+any-struct-sub-sum-2 t c = stood-order (any-struct-stood t (c .before .before .before .before))
 
-any-struct-check-value-requires : (t : ℕ) → any-struct-lts.Need-check-value-requires (any-struct-calls t) (any-struct-at t) any-struct.Post any-struct-Inv-loop any-struct-μ-loop
-any-struct-check-value-requires t c κs = let A = c .before .before .before .before .before .before .before .before .before .before .before .before .before .before .before .before .before .before .before .before .before .before .before .args in let S = A .s .now in let B = A .b .now in let P = c .before .before .before .before .before .before .before .before .before .before .before .before .before .before .before .before .before .before .before .before .before .before .before .pre .1 .0 in let HB = bytes-of B (λ i. c .before .before .before .before .before .before .before .before .before .before .before .before .before .before .before .before .before .before .before .before .before .shared-slice-known2 .given i .fits) in let F = c .before .before .before .before .before .before .before .before .before .before .before .before .before .before .before .before .before .before .before .before .bitmap-size .ensures in let TS = typesAt S (A .first) (A .depth) (A .n) in let K = kids TS in let D = fields-slots S (A .first) (A .n) (A .depth) B P HB (c .before .before .before .before .before .before .before .before .before .before .before .before .before .before .before .before .before .before .before .before .bitmap-size .result) (c .before .before .before .before .before .before .before .before .before .before .before .before .before .before .before .before .before .before .before .before .bitmap-size .result + 8 * A .n) F refl (omega (arith, F, c .before .before .before .before .before .before .before .before .before .before .before .before .before .before .before .before .before .before .before .before .before .before .before .pre .1 .1 .room)) in (omega arith, record { typed = field-here S (A .first) (A .n) (A .depth) B P HB (c .before .before .before .before .before .before .before .before .before .before .before .before .before .before .before .before .before .before .before .loop .at) (c .before .before .before .before .before .before .before .before .before .before .before .before .before .before .before .before .before .before .before .loop .i) (c .before .before .before .before .before .before .before .before .before .before .before .before .before .before .before .before .before .before .before .loop .inv .type) (c .before .before .before .before .before .before .before .before .before .before .before .before .before .before .before .before .before .before .loop-test .taken); place = c .before .before .before .before .before .before .before .before .before .before .before .before .before .before .before .before .before .place-at .ensures; holds = (omega (arith, c .before .before .if6 .left)); small = rw length-take (omega (arith, P .small, length-drop (c .before .before .before .before .before .before .before .before .before .before .before .slot-offset .result) B)) })
-
-any-struct-returns-4 : (t : ℕ) → any-struct-lts.Need-returns-4 (any-struct-calls t) (any-struct-at t) any-struct.Post any-struct-Inv-loop any-struct-μ-loop
-any-struct-returns-4 t c = let A = c .before .before .before .before .before .before .before .before .before .before .before .before .before .before .before .before .before .before .before .before .before .before .before .before .before .args in let S = A .s .now in let B = A .b .now in let P = c .before .before .before .before .before .before .before .before .before .before .before .before .before .before .before .before .before .before .before .before .before .before .before .before .before .pre .1 .0 in let HB = bytes-of B (λ i. c .before .before .before .before .before .before .before .before .before .before .before .before .before .before .before .before .before .before .before .before .before .before .before .shared-slice-known2 .given i .fits) in let F = c .before .before .before .before .before .before .before .before .before .before .before .before .before .before .before .before .before .before .before .before .before .before .bitmap-size .ensures in let TS = typesAt S (A .first) (A .depth) (A .n) in let K = kids TS in let D = fields-slots S (A .first) (A .n) (A .depth) B P HB (c .before .before .before .before .before .before .before .before .before .before .before .before .before .before .before .before .before .before .before .before .before .before .bitmap-size .result) (c .before .before .before .before .before .before .before .before .before .before .before .before .before .before .before .before .before .before .before .before .before .before .bitmap-size .result + 8 * A .n) F refl (omega (arith, F, c .before .before .before .before .before .before .before .before .before .before .before .before .before .before .before .before .before .before .before .before .before .before .before .before .before .pre .1 .1 .room)) in any-bad 0 K B (A .n) (c .before .before .before .before .before .before .before .before .before .before .before .before .before .before .before .before .before .before .before .before .before .before .bitmap-size .result) (c .before .before .before .before .before .before .before .before .before .before .before .before .before .before .before .before .before .before .before .before .before .before .bitmap-size .result + 8 * A .n) D (c .before .before .before .before .before .before .before .before .before .before .before .before .before .before .before .before .before .before .before .before .before .loop .i) (c .before .before .before .before .before .before .before .before .before .before .before .before .before .before .before .before .before .before .before .before .before .loop .slot) (c .before .before .before .before .before .before .before .before .before .before .before .before .before .before .before .before .before .before .before .before .before .loop .sum) (c .before .before .before .before .before .before .before .before .before .before .before .before .before .before .before .before .before .before .before .before .before .loop .map) (c .before .before .before .before .before .before .before .before .before .before .before .before .before .before .before .before .before .before .before .before .before .loop .inv .state) (c .before .before .before .before .before .before .before .before .before .before .before .before .before .before .before .before .before .before .before .before .loop-test .taken) (codec (typeAt S (c .before .before .before .before .before .before .before .before .before .before .before .before .before .before .before .before .before .before .before .before .before .loop .at) (A .depth))) (field-container S (A .first) (A .n) (A .depth) B P HB (c .before .before .before .before .before .before .before .before .before .before .before .before .before .before .before .before .before .before .before .before .before .loop .at) (c .before .before .before .before .before .before .before .before .before .before .before .before .before .before .before .before .before .before .before .before .before .loop .i) (c .before .before .before .before .before .before .before .before .before .before .before .before .before .before .before .before .before .before .before .before .before .loop .inv .type) (c .before .before .before .before .before .before .before .before .before .before .before .before .before .before .before .before .before .before .before .before .loop-test .taken) (c .before .before .before .before .before .before .before .before .before .before .before .before .before .before .before .before .before .before .before .place-at .result) (c .before .before .before .before .before .before .before .before .before .before .before .before .before .before .before .before .before .before .before .place-at .ensures) (omega (arith, c .before .before .before .before .if6 .left))) (sym (c .before .before .before .before .before .before .before .before .before .before .before .before .before .before .before .before .is-null .ensures) ∙ c .before .before .before .before .before .before .before .before .before .before .before .before .before .before .before .if3 .left) (c .before .before .before .before .before .before .before .before .before .before .before .before .before .before .get8 .result) (c .before .before .before .before .before .before .before .before .before .before .before .before .before .before .get8 .ensures) (c .before .before .before .before .before .before .before .before .before .before .before .before .before .slot-offset .result) (c .before .before .before .before .before .before .before .before .before .before .before .before .before .slot-offset .ensures) (c .before .before .before .before .before .before .before .before .before .before .before .before .slot-size .result) (c .before .before .before .before .before .before .before .before .before .before .before .before .slot-size .ensures) (c .before .before .before .before .before .before .before .before .before .before .before .before .before .slot-offset .result + c .before .before .before .before .before .before .before .before .before .before .before .before .slot-size .result) (c .before .before .before .before .before .before .before .before .before .before .before .pad-size .result) refl (c .before .before .before .before .before .before .before .before .before .before .before .pad-size .ensures) (c .before .before .before .before .before .before .before .before .before .place .result) (c .before .before .before .before .before .before .before .before .before .place .ensures .0) (not-false _ (c .before .before .before .before .before .before .before .if4 .left)) (part-sound (typeAt S (c .before .before .before .before .before .before .before .before .before .before .before .before .before .before .before .before .before .before .before .before .before .loop .at) (A .depth)) _ _ (c .before .check-value .ensures) ∙ not-true _ (c .if8 .taken))
-
-any-struct-sub-sum-3 : (t : ℕ) → any-struct-lts.Need-sub-sum-3 (any-struct-calls t) (any-struct-at t) any-struct.Post any-struct-Inv-loop any-struct-μ-loop
-any-struct-sub-sum-3 t c = let A = c .before .before .before .before .before .before .before .before .before .before .before .before .before .before .before .before .before .before .before .before .before .before .before .before .before .args in let S = A .s .now in let B = A .b .now in let P = c .before .before .before .before .before .before .before .before .before .before .before .before .before .before .before .before .before .before .before .before .before .before .before .before .before .pre .1 .0 in let HB = bytes-of B (λ i. c .before .before .before .before .before .before .before .before .before .before .before .before .before .before .before .before .before .before .before .before .before .before .before .shared-slice-known2 .given i .fits) in let F = c .before .before .before .before .before .before .before .before .before .before .before .before .before .before .before .before .before .before .before .before .before .before .bitmap-size .ensures in let TS = typesAt S (A .first) (A .depth) (A .n) in let K = kids TS in let D = fields-slots S (A .first) (A .n) (A .depth) B P HB (c .before .before .before .before .before .before .before .before .before .before .before .before .before .before .before .before .before .before .before .before .before .before .bitmap-size .result) (c .before .before .before .before .before .before .before .before .before .before .before .before .before .before .before .before .before .before .before .before .before .before .bitmap-size .result + 8 * A .n) F refl (omega (arith, F, c .before .before .before .before .before .before .before .before .before .before .before .before .before .before .before .before .before .before .before .before .before .before .before .before .before .pre .1 .1 .room)) in let q = field-outside S (A .first) (A .n) (A .depth) B P HB (c .before .before .before .before .before .before .before .before .before .before .before .before .before .before .before .before .before .before .before .before .before .loop .at) (c .before .before .before .before .before .before .before .before .before .before .before .before .before .before .before .before .before .before .before .before .before .loop .i) (c .before .before .before .before .before .before .before .before .before .before .before .before .before .before .before .before .before .before .before .before .before .loop .inv .type) (c .before .before .before .before .before .before .before .before .before .before .before .before .before .before .before .before .before .before .before .before .loop-test .taken) (c .before .before .before .before .before .before .before .before .before .before .before .before .before .before .before .before .before .before .before .place-at .result) (c .before .before .before .before .before .before .before .before .before .before .before .before .before .before .before .before .before .before .before .place-at .ensures) (omega (arith, c .before .before .before .before .before .before .before .before .before .before .before .before .before .before .before .before .before .before .if1 .left)) in any-order 0 K B (A .n) (c .before .before .before .before .before .before .before .before .before .before .before .before .before .before .before .before .before .before .before .before .before .before .bitmap-size .result) (c .before .before .before .before .before .before .before .before .before .before .before .before .before .before .before .before .before .before .before .before .before .before .bitmap-size .result + 8 * A .n) D (c .before .before .before .before .before .before .before .before .before .before .before .before .before .before .before .before .before .before .before .before .before .loop .i) (c .before .before .before .before .before .before .before .before .before .before .before .before .before .before .before .before .before .before .before .before .before .loop .slot) (c .before .before .before .before .before .before .before .before .before .before .before .before .before .before .before .before .before .before .before .before .before .loop .sum) (c .before .before .before .before .before .before .before .before .before .before .before .before .before .before .before .before .before .before .before .before .before .loop .map) (c .before .before .before .before .before .before .before .before .before .before .before .before .before .before .before .before .before .before .before .before .before .loop .inv .state) (c .before .before .before .before .before .before .before .before .before .before .before .before .before .before .before .before .before .before .before .before .loop-test .taken) (q .own) (q .kid₀) (sym (c .before .before .before .before .before .before .before .before .before .before .before .before .before .before .before .before .is-null .ensures) ∙ c .before .before .before .before .before .before .before .before .before .before .before .before .before .before .before .if3 .left) (c .before .before .before .before .before .before .before .before .before .before .before .before .before .before .get8 .result) (c .before .before .before .before .before .before .before .before .before .before .before .before .before .before .get8 .ensures) (c .before .before .before .before .before .before .before .before .before .before .before .before .before .slot-offset .result) (c .before .before .before .before .before .before .before .before .before .before .before .before .before .slot-offset .ensures) (c .before .before .before .before .before .before .before .before .before .before .before .before .slot-size .result) (c .before .before .before .before .before .before .before .before .before .before .before .before .slot-size .ensures) (c .before .before .before .before .before .before .before .before .before .before .before .before .before .slot-offset .result + c .before .before .before .before .before .before .before .before .before .before .before .before .slot-size .result) (c .before .before .before .before .before .before .before .before .before .before .before .pad-size .result) refl (c .before .before .before .before .before .before .before .before .before .before .before .pad-size .ensures)
-
-any-struct-add-sum-3 : (t : ℕ) → any-struct-lts.Need-add-sum-3 (any-struct-calls t) (any-struct-at t) any-struct.Post any-struct-Inv-loop any-struct-μ-loop
-any-struct-add-sum-3 t c = let A = c .before .before .before .before .before .before .before .before .before .before .before .before .before .before .before .before .before .before .before .before .before .before .before .before .before .args in let S = A .s .now in let B = A .b .now in let P = c .before .before .before .before .before .before .before .before .before .before .before .before .before .before .before .before .before .before .before .before .before .before .before .before .before .pre .1 .0 in let HB = bytes-of B (λ i. c .before .before .before .before .before .before .before .before .before .before .before .before .before .before .before .before .before .before .before .before .before .before .before .shared-slice-known2 .given i .fits) in let F = c .before .before .before .before .before .before .before .before .before .before .before .before .before .before .before .before .before .before .before .before .before .before .bitmap-size .ensures in let TS = typesAt S (A .first) (A .depth) (A .n) in let K = kids TS in let D = fields-slots S (A .first) (A .n) (A .depth) B P HB (c .before .before .before .before .before .before .before .before .before .before .before .before .before .before .before .before .before .before .before .before .before .before .bitmap-size .result) (c .before .before .before .before .before .before .before .before .before .before .before .before .before .before .before .before .before .before .before .before .before .before .bitmap-size .result + 8 * A .n) F refl (omega (arith, F, c .before .before .before .before .before .before .before .before .before .before .before .before .before .before .before .before .before .before .before .before .before .before .before .before .before .pre .1 .1 .room)) in let q = field-outside S (A .first) (A .n) (A .depth) B P HB (c .before .before .before .before .before .before .before .before .before .before .before .before .before .before .before .before .before .before .before .before .before .loop .at) (c .before .before .before .before .before .before .before .before .before .before .before .before .before .before .before .before .before .before .before .before .before .loop .i) (c .before .before .before .before .before .before .before .before .before .before .before .before .before .before .before .before .before .before .before .before .before .loop .inv .type) (c .before .before .before .before .before .before .before .before .before .before .before .before .before .before .before .before .before .before .before .before .loop-test .taken) (c .before .before .before .before .before .before .before .before .before .before .before .before .before .before .before .before .before .before .before .place-at .result) (c .before .before .before .before .before .before .before .before .before .before .before .before .before .before .before .before .before .before .before .place-at .ensures) (omega (arith, c .before .before .before .before .before .before .before .before .before .before .before .before .before .before .before .before .before .before .if1 .left)) in let w = any-within 0 K B (A .n) (c .before .before .before .before .before .before .before .before .before .before .before .before .before .before .before .before .before .before .before .before .before .before .bitmap-size .result) (c .before .before .before .before .before .before .before .before .before .before .before .before .before .before .before .before .before .before .before .before .before .before .bitmap-size .result + 8 * A .n) D (c .before .before .before .before .before .before .before .before .before .before .before .before .before .before .before .before .before .before .before .before .before .loop .i) (c .before .before .before .before .before .before .before .before .before .before .before .before .before .before .before .before .before .before .before .before .before .loop .slot) (c .before .before .before .before .before .before .before .before .before .before .before .before .before .before .before .before .before .before .before .before .before .loop .sum) (c .before .before .before .before .before .before .before .before .before .before .before .before .before .before .before .before .before .before .before .before .before .loop .map) (c .before .before .before .before .before .before .before .before .before .before .before .before .before .before .before .before .before .before .before .before .before .loop .inv .state) (c .before .before .before .before .before .before .before .before .before .before .before .before .before .before .before .before .before .before .before .before .loop-test .taken) (q .own) (q .kid₀) (sym (c .before .before .before .before .before .before .before .before .before .before .before .before .before .before .before .before .is-null .ensures) ∙ c .before .before .before .before .before .before .before .before .before .before .before .before .before .before .before .if3 .left) (c .before .before .before .before .before .before .before .before .before .before .before .before .before .before .get8 .result) (c .before .before .before .before .before .before .before .before .before .before .before .before .before .before .get8 .ensures) (c .before .before .before .before .before .before .before .before .before .before .before .before .before .slot-offset .result) (c .before .before .before .before .before .before .before .before .before .before .before .before .before .slot-offset .ensures) (c .before .before .before .before .before .before .before .before .before .before .before .before .slot-size .result) (c .before .before .before .before .before .before .before .before .before .before .before .before .slot-size .ensures) (c .before .before .before .before .before .before .before .before .before .before .before .before .before .slot-offset .result + c .before .before .before .before .before .before .before .before .before .before .before .before .slot-size .result) (c .before .before .before .before .before .before .before .before .before .before .before .pad-size .result) refl (c .before .before .before .before .before .before .before .before .before .before .before .pad-size .ensures) (c .before .before .before .before .before .before .before .before .before .place .result) (c .before .before .before .before .before .before .before .before .before .place .ensures .0) (not-false _ (c .before .before .before .before .before .before .before .if4 .left)) in let g = sum-room (c .before .before .before .before .before .before .before .before .before .before .before .before .before .before .before .before .before .before .before .before .before .loop .sum) (c .before .before .before .before .before .before .before .before .before .before .before .pad-size .result) (c .before .before .before .before .before .before .before .before .before .before .before .before .before .slot-offset .result) (any-small 0 K B (A .n) (c .before .before .before .before .before .before .before .before .before .before .before .before .before .before .before .before .before .before .before .before .before .before .bitmap-size .result) (c .before .before .before .before .before .before .before .before .before .before .before .before .before .before .before .before .before .before .before .before .before .before .bitmap-size .result + 8 * A .n) D (c .before .before .before .before .before .before .before .before .before .before .before .before .before .before .before .before .before .before .before .before .before .loop .i) (c .before .before .before .before .before .before .before .before .before .before .before .before .before .before .before .before .before .before .before .before .before .loop .slot) (c .before .before .before .before .before .before .before .before .before .before .before .before .before .before .before .before .before .before .before .before .before .loop .sum) (c .before .before .before .before .before .before .before .before .before .before .before .before .before .before .before .before .before .before .before .before .before .loop .map) (c .before .before .before .before .before .before .before .before .before .before .before .before .before .before .before .before .before .before .before .before .before .loop .inv .state) (c .before .before .before .before .before .before .before .before .before .before .before .before .before .before .before .before .before .before .before .before .loop-test .taken)) w (D .small) in omega (arith, g)
+any-struct-add-sum-2 : (t : ℕ) → any-struct-lts.Need-add-sum-2 (any-struct-calls t) (any-struct-at t) any-struct.Post any-struct-Inv-loop any-struct-μ-loop
+any-struct-add-sum-2 t c = stood-sum (any-struct-stood t (c .before .before .before .before))
 
 any-struct-add-slot-5 : (t : ℕ) → any-struct-lts.Need-add-slot-5 (any-struct-calls t) (any-struct-at t) any-struct.Post any-struct-Inv-loop any-struct-μ-loop
-any-struct-add-slot-5 t c = let r = c .before .before .before .before .before .before .before .before .before .before .before .before .before .before .before .before .before .before .before .before .before .loop .inv .state in omega (arith, r .slot-is, c .before .before .before .before .before .before .before .before .before .before .before .before .before .before .before .before .before .before .before .before .before .before .before .before .before .pre .1 .1 .room, c .before .before .before .before .before .before .before .before .before .before .before .before .before .before .before .before .before .before .before .before .before .before .before .before .before .pre .1 .0 .small, c .before .before .before .before .before .before .before .before .before .before .before .before .before .before .before .before .before .before .before .before .before .before .bitmap-size .ensures)
+any-struct-add-slot-5 t c = stood-slot-on (any-struct-stood t (c .before .before .before .before))
 
 any-struct-add-i-5 : (t : ℕ) → any-struct-lts.Need-add-i-5 (any-struct-calls t) (any-struct-at t) any-struct.Post any-struct-Inv-loop any-struct-μ-loop
-any-struct-add-i-5 t c = omega (arith, c .before .before .before .before .before .before .before .before .before .before .before .before .before .before .before .before .before .before .before .before .loop-test .taken, c .before .before .before .before .before .before .before .before .before .before .before .before .before .before .before .before .before .before .before .before .before .before .before .before .before .pre .1 .0 .high)
+any-struct-add-i-5 t c = stood-on (any-struct-stood t (c .before .before .before .before))
 
 any-struct-loop-less-5 : (t : ℕ) → any-struct-lts.Need-loop-less-5 (any-struct-calls t) (any-struct-at t) any-struct.Post any-struct-Inv-loop any-struct-μ-loop
-any-struct-loop-less-5 t c = omega arith
+any-struct-loop-less-5 t c = stood-less (any-struct-stood t (c .before .before .before .before))
 
-any-struct-loop-again-5 : (t : ℕ) → any-struct-lts.Need-loop-again-5 (any-struct-calls t) (any-struct-at t) any-struct.Post any-struct-Inv-loop any-struct-μ-loop
-any-struct-loop-again-5 t c = let A = c .before .before .before .before .before .before .before .before .before .before .before .before .before .before .before .before .before .before .before .before .before .before .before .before .before .args in let S = A .s .now in let B = A .b .now in let P = c .before .before .before .before .before .before .before .before .before .before .before .before .before .before .before .before .before .before .before .before .before .before .before .before .before .pre .1 .0 in let HB = bytes-of B (λ i. c .before .before .before .before .before .before .before .before .before .before .before .before .before .before .before .before .before .before .before .before .before .before .before .shared-slice-known2 .given i .fits) in let F = c .before .before .before .before .before .before .before .before .before .before .before .before .before .before .before .before .before .before .before .before .before .before .bitmap-size .ensures in let TS = typesAt S (A .first) (A .depth) (A .n) in let K = kids TS in let D = fields-slots S (A .first) (A .n) (A .depth) B P HB (c .before .before .before .before .before .before .before .before .before .before .before .before .before .before .before .before .before .before .before .before .before .before .bitmap-size .result) (c .before .before .before .before .before .before .before .before .before .before .before .before .before .before .before .before .before .before .before .before .before .before .bitmap-size .result + 8 * A .n) F refl (omega (arith, F, c .before .before .before .before .before .before .before .before .before .before .before .before .before .before .before .before .before .before .before .before .before .before .before .before .before .pre .1 .1 .room)) in record { type = field-on S (A .first) (A .n) (A .depth) B P HB (c .before .before .before .before .before .before .before .before .before .before .before .before .before .before .before .before .before .before .before .before .before .loop .at) (c .before .before .before .before .before .before .before .before .before .before .before .before .before .before .before .before .before .before .before .before .before .loop .i) (c .before .before .before .before .before .before .before .before .before .before .before .before .before .before .before .before .before .before .before .before .before .loop .inv .type) (c .before .before .before .before .before .before .before .before .before .before .before .before .before .before .before .before .before .before .before .before .loop-test .taken) _ (c .before .before .before .before .before .before .before .before .before .before .before .before .before .before .before .before .before .next-type .ensures); state = any-next 0 K B (A .n) (c .before .before .before .before .before .before .before .before .before .before .before .before .before .before .before .before .before .before .before .before .before .before .bitmap-size .result) (c .before .before .before .before .before .before .before .before .before .before .before .before .before .before .before .before .before .before .before .before .before .before .bitmap-size .result + 8 * A .n) D (c .before .before .before .before .before .before .before .before .before .before .before .before .before .before .before .before .before .before .before .before .before .loop .i) (c .before .before .before .before .before .before .before .before .before .before .before .before .before .before .before .before .before .before .before .before .before .loop .slot) (c .before .before .before .before .before .before .before .before .before .before .before .before .before .before .before .before .before .before .before .before .before .loop .sum) (c .before .before .before .before .before .before .before .before .before .before .before .before .before .before .before .before .before .before .before .before .before .loop .map) (c .before .before .before .before .before .before .before .before .before .before .before .before .before .before .before .before .before .before .before .before .before .loop .inv .state) (c .before .before .before .before .before .before .before .before .before .before .before .before .before .before .before .before .before .before .before .before .loop-test .taken) (codec (typeAt S (c .before .before .before .before .before .before .before .before .before .before .before .before .before .before .before .before .before .before .before .before .before .loop .at) (A .depth))) (field-container S (A .first) (A .n) (A .depth) B P HB (c .before .before .before .before .before .before .before .before .before .before .before .before .before .before .before .before .before .before .before .before .before .loop .at) (c .before .before .before .before .before .before .before .before .before .before .before .before .before .before .before .before .before .before .before .before .before .loop .i) (c .before .before .before .before .before .before .before .before .before .before .before .before .before .before .before .before .before .before .before .before .before .loop .inv .type) (c .before .before .before .before .before .before .before .before .before .before .before .before .before .before .before .before .before .before .before .before .loop-test .taken) (c .before .before .before .before .before .before .before .before .before .before .before .before .before .before .before .before .before .before .before .place-at .result) (c .before .before .before .before .before .before .before .before .before .before .before .before .before .before .before .before .before .before .before .place-at .ensures) (omega (arith, c .before .before .before .before .if6 .left))) (sym (c .before .before .before .before .before .before .before .before .before .before .before .before .before .before .before .before .is-null .ensures) ∙ c .before .before .before .before .before .before .before .before .before .before .before .before .before .before .before .if3 .left) (c .before .before .before .before .before .before .before .before .before .before .before .before .before .before .get8 .result) (c .before .before .before .before .before .before .before .before .before .before .before .before .before .before .get8 .ensures) (c .before .before .before .before .before .before .before .before .before .before .before .before .before .slot-offset .result) (c .before .before .before .before .before .before .before .before .before .before .before .before .before .slot-offset .ensures) (c .before .before .before .before .before .before .before .before .before .before .before .before .slot-size .result) (c .before .before .before .before .before .before .before .before .before .before .before .before .slot-size .ensures) (c .before .before .before .before .before .before .before .before .before .before .before .before .before .slot-offset .result + c .before .before .before .before .before .before .before .before .before .before .before .before .slot-size .result) (c .before .before .before .before .before .before .before .before .before .before .before .pad-size .result) refl (c .before .before .before .before .before .before .before .before .before .before .before .pad-size .ensures) (c .before .before .before .before .before .before .before .before .before .place .result) (c .before .before .before .before .before .before .before .before .before .place .ensures .0) (not-false _ (c .before .before .before .before .before .before .before .if4 .left)) _ (c .before .before .before .before .before .before .before .before .before .place .ensures .1) (part-sound (typeAt S (c .before .before .before .before .before .before .before .before .before .before .before .before .before .before .before .before .before .before .before .before .before .loop .at) (A .depth)) _ _ (c .before .check-value .ensures) ∙ not-false _ (c .if8 .left)) (c .before .before .before .before .before .before .pad-clear .result) (c .before .before .before .before .before .before .pad-clear .ensures) (not-false _ (c .before .before .before .before .before .if5 .left)) }
+any-struct-loop-again-5 :
+    (t : ℕ) → any-struct-lts.Need-loop-again-5 (any-struct-calls t) (any-struct-at t) any-struct.Post any-struct-Inv-loop any-struct-μ-loop
+any-struct-loop-again-5 t c =
+    let p = any-struct-type t (c .before .before .before .before) in
+    let l = p .before .before .before .loop-test .taken in
+    let g = reached-text (any-reached (p .before .before .before .before .loop .inv) l) (p .before .before .place-at .ensures) (p .before .if1 .left)
+    (c .before .before .if7 .taken) _ in
+    any-field (p .before .before .before .before .loop .inv) l (p .next-type .ensures)
+    (any-next (any-struct-stood t (c .before .before .before .before)) g (c .before .pad-clear .ensures) (c .if8 .left))
+
+any-struct-sub-check-value :
+    (t : ℕ) → any-struct-lts.Need-sub-check-value (any-struct-calls t) (any-struct-at t) any-struct.Post any-struct-Inv-loop any-struct-μ-loop
+any-struct-sub-check-value t c = stood-part (any-struct-stood t (c .before .before))
+
+any-struct-part-check-value-start :
+    (t : ℕ) → any-struct-lts.Need-part-check-value-start (any-struct-calls t) (any-struct-at t) any-struct.Post any-struct-Inv-loop any-struct-μ-loop
+any-struct-part-check-value-start t c = stood-part (any-struct-stood t (c .before .before))
+
+any-struct-part-check-value-end :
+    (t : ℕ) → any-struct-lts.Need-part-check-value-end (any-struct-calls t) (any-struct-at t) any-struct.Post any-struct-Inv-loop any-struct-μ-loop
+any-struct-part-check-value-end t c = stood-end (any-struct-stood t (c .before .before))
+
+any-struct-check-value-requires :
+    (t : ℕ) → any-struct-lts.Need-check-value-requires (any-struct-calls t) (any-struct-at t) any-struct.Post any-struct-Inv-loop any-struct-μ-loop
+any-struct-check-value-requires t c κs =
+    let p = any-struct-type t (c .before .before .before) in
+    let r = any-reached (p .before .before .before .before .loop .inv) (p .before .before .before .loop-test .taken) in (
+      reached-falls r (p .before .before .before .before .before .before .before .before .pre .0),
+      reached-part r (p .before .before .place-at .ensures)
+          (c .before .if7 .left) (stood-short (any-struct-stood t (c .before .before .before))),
+    )
+
+any-struct-returns-4 : (t : ℕ) → any-struct-lts.Need-returns-4 (any-struct-calls t) (any-struct-at t) any-struct.Post any-struct-Inv-loop any-struct-μ-loop
+any-struct-returns-4 t c =
+    let p = any-struct-type t (c .before .before .before .before .before) in
+    any-bad (any-struct-stood t (c .before .before .before .before .before))
+    (reached-sound (any-reached (p .before .before .before .before .loop .inv) (p .before .before .before .loop-test .taken)) _
+    (c .before .check-value .ensures)) (c .if9 .taken)
+
+any-struct-pad-clear-requires-2 :
+    (t : ℕ) → any-struct-lts.Need-pad-clear-requires-2 (any-struct-calls t) (any-struct-at t) any-struct.Post any-struct-Inv-loop any-struct-μ-loop
+any-struct-pad-clear-requires-2 t c κs = stood-pad (any-struct-stood t (c .before .before .before .before .before))
 
 any-struct-returns-5 : (t : ℕ) → any-struct-lts.Need-returns-5 (any-struct-calls t) (any-struct-at t) any-struct.Post any-struct-Inv-loop any-struct-μ-loop
-any-struct-returns-5 t c = let A = c .before .before .before .before .before .args in let S = A .s .now in let B = A .b .now in let P = c .before .before .before .before .before .pre .1 .0 in let HB = bytes-of B (λ i. c .before .before .before .shared-slice-known2 .given i .fits) in let F = c .before .before .bitmap-size .ensures in let TS = typesAt S (A .first) (A .depth) (A .n) in let K = kids TS in let D = fields-slots S (A .first) (A .n) (A .depth) B P HB (c .before .before .bitmap-size .result) (c .before .before .bitmap-size .result + 8 * A .n) F refl (omega (arith, F, c .before .before .before .before .before .pre .1 .1 .room)) in any-end 0 K B (A .n) (c .before .before .bitmap-size .result) (c .before .before .bitmap-size .result + 8 * A .n) D (c .before .loop .i) (c .before .loop .slot) (c .before .loop .sum) (c .before .loop .map) (c .before .loop .inv .state) (omega arith)
+any-struct-returns-5 t c =
+    any-unpadded (any-struct-stood t (c .before .before .before .before .before .before .before)) (c .before .pad-clear2 .ensures) (c .if10 .taken)
+
+any-struct-sub-sum-3 : (t : ℕ) → any-struct-lts.Need-sub-sum-3 (any-struct-calls t) (any-struct-at t) any-struct.Post any-struct-Inv-loop any-struct-μ-loop
+any-struct-sub-sum-3 t c = stood-order (any-struct-stood t (c .before .before .before .before .before .before .before))
+
+any-struct-add-sum-3 : (t : ℕ) → any-struct-lts.Need-add-sum-3 (any-struct-calls t) (any-struct-at t) any-struct.Post any-struct-Inv-loop any-struct-μ-loop
+any-struct-add-sum-3 t c = stood-sum (any-struct-stood t (c .before .before .before .before .before .before .before))
+
+any-struct-add-slot-6 : (t : ℕ) → any-struct-lts.Need-add-slot-6 (any-struct-calls t) (any-struct-at t) any-struct.Post any-struct-Inv-loop any-struct-μ-loop
+any-struct-add-slot-6 t c = stood-slot-on (any-struct-stood t (c .before .before .before .before .before .before .before))
+
+any-struct-add-i-6 : (t : ℕ) → any-struct-lts.Need-add-i-6 (any-struct-calls t) (any-struct-at t) any-struct.Post any-struct-Inv-loop any-struct-μ-loop
+any-struct-add-i-6 t c = stood-on (any-struct-stood t (c .before .before .before .before .before .before .before))
+
+any-struct-loop-less-6 : (t : ℕ) → any-struct-lts.Need-loop-less-6 (any-struct-calls t) (any-struct-at t) any-struct.Post any-struct-Inv-loop any-struct-μ-loop
+any-struct-loop-less-6 t c = stood-less (any-struct-stood t (c .before .before .before .before .before .before .before))
+
+any-struct-loop-again-6 :
+    (t : ℕ) → any-struct-lts.Need-loop-again-6 (any-struct-calls t) (any-struct-at t) any-struct.Post any-struct-Inv-loop any-struct-μ-loop
+any-struct-loop-again-6 t c =
+    let p = any-struct-type t (c .before .before .before .before .before .before .before) in
+    let a = p .before .before .before .before .loop .inv in
+    let l = p .before .before .before .loop-test .taken in
+    let g = passed (reached-sound (any-reached a l) _ (c .before .before .before .check-value .ensures)) (c .before .before .if9 .left) in
+    any-field a l (p .next-type .ensures) (any-next (any-struct-stood t (c .before .before .before .before .before .before .before)) g
+    (c .before .pad-clear2 .ensures) (c .if10 .left))
+
+any-struct-returns-6 : (t : ℕ) → any-struct-lts.Need-returns-6 (any-struct-calls t) (any-struct-at t) any-struct.Post any-struct-Inv-loop any-struct-μ-loop
+any-struct-returns-6 t c = any-end (c .before .loop .inv .state) (c .loop-test .left)
 
 abbrev check-items-Inv-loop : check-items-lts.InvT-loop
 check-items-Inv-loop s at depth k b n slots start i₀ slot₀ cur₀ i slot cur = ItemAt (typeAt s at depth) b n slots start i slot cur
@@ -491,8 +808,12 @@ check-items-mul-start t c = omega (arith, c .before .before .before .pre .1 .roo
 check-items-add-start : (t : ℕ) → check-items-lts.Need-add-start (check-items-calls t) (check-items-at t) check-items.Post check-items-Inv-loop check-items-μ-loop
 check-items-add-start t c = omega (arith, c .before .before .before .pre .1 .room, c .before .before .before .pre .1 .small, c .bitmap-size .ensures)
 
-check-items-loop-holds : (t : ℕ) → check-items-lts.Need-loop-holds (check-items-calls t) (check-items-at t) check-items.Post check-items-Inv-loop check-items-μ-loop
-check-items-loop-holds t c = let A = c .before .before .before .args in let S = A .s .now in let B = A .b .now in let P = c .before .before .before .pre .1 in let HB = bytes-of B (λ i. c .before .shared-slice-known2 .given i .fits) in let T = typeAt S (A .at) (A .depth) in let D = items-slots S (A .at) (A .depth) (A .k) B (A .n) P HB (8 + c .bitmap-size .result) (8 + c .bitmap-size .result + 8 * A .n) (ap (λ (x : ℕ). 8 + x) (c .bitmap-size .ensures)) refl in record { state = at-start 8 (elements T (A .n)) B (A .n) (8 + c .bitmap-size .result) (8 + c .bitmap-size .result + 8 * A .n) D; known = known-start 8 (λ _. T) B (A .n) }
+check-items-loop-holds :
+    (t : ℕ) → check-items-lts.Need-loop-holds (check-items-calls t) (check-items-at t) check-items.Post check-items-Inv-loop check-items-μ-loop
+check-items-loop-holds t c =
+    order-start
+    (items-slots _ _ _ _ _ _ (c .before .before .before .pre .1) (bytes-of _ (λ i. c .before .shared-slice-known2 .given i .fits)) _ _
+    (ap (λ (x : ℕ). 8 + x) (c .bitmap-size .ensures)) refl)
 
 check-items-is-null-requires : (t : ℕ) → check-items-lts.Need-is-null-requires (check-items-calls t) (check-items-at t) check-items.Post check-items-Inv-loop check-items-μ-loop
 check-items-is-null-requires t c κs = let A = c .before .before .before .before .before .args in let S = A .s .now in let B = A .b .now in let P = c .before .before .before .before .before .pre .1 in let HB = bytes-of B (λ i. c .before .before .before .shared-slice-known2 .given i .fits) in let T = typeAt S (A .at) (A .depth) in let D = items-slots S (A .at) (A .depth) (A .k) B (A .n) P HB (8 + c .before .before .bitmap-size .result) (8 + c .before .before .bitmap-size .result + 8 * A .n) (ap (λ (x : ℕ). 8 + x) (c .before .before .bitmap-size .ensures)) refl in bit-room 8 (elements T (A .n)) B (A .n) (8 + c .before .before .bitmap-size .result) (8 + c .before .before .bitmap-size .result + 8 * A .n) D (c .before .loop .i) (c .before .loop .slot) (c .before .loop .cur) (c .before .loop .inv .state) (c .loop-test .taken)
@@ -506,8 +827,10 @@ check-items-add-i t c = omega arith
 check-items-loop-less : (t : ℕ) → check-items-lts.Need-loop-less (check-items-calls t) (check-items-at t) check-items.Post check-items-Inv-loop check-items-μ-loop
 check-items-loop-less t c = omega arith
 
-check-items-loop-again : (t : ℕ) → check-items-lts.Need-loop-again (check-items-calls t) (check-items-at t) check-items.Post check-items-Inv-loop check-items-μ-loop
-check-items-loop-again t c = let A = c .before .before .before .before .before .before .before .args in let S = A .s .now in let B = A .b .now in let P = c .before .before .before .before .before .before .before .pre .1 in let HB = bytes-of B (λ i. c .before .before .before .before .before .shared-slice-known2 .given i .fits) in let T = typeAt S (A .at) (A .depth) in let D = items-slots S (A .at) (A .depth) (A .k) B (A .n) P HB (8 + c .before .before .before .before .bitmap-size .result) (8 + c .before .before .before .before .bitmap-size .result + 8 * A .n) (ap (λ (x : ℕ). 8 + x) (c .before .before .before .before .bitmap-size .ensures)) refl in record { state = at-null 8 (elements T (A .n)) B (A .n) (8 + c .before .before .before .before .bitmap-size .result) (8 + c .before .before .before .before .bitmap-size .result + 8 * A .n) D (c .before .before .before .loop .i) (c .before .before .before .loop .slot) (c .before .before .before .loop .cur) (c .before .before .before .loop .inv .state) (c .before .before .loop-test .taken) (sym (c .before .is-null .ensures) ∙ c .if1 .taken); known = known-null 8 (λ _. T) B (A .n) (c .before .before .before .loop .i) (c .before .before .before .loop .inv .known) (sym (c .before .is-null .ensures) ∙ c .if1 .taken) }
+check-items-loop-again :
+    (t : ℕ) → check-items-lts.Need-loop-again (check-items-calls t) (check-items-at t) check-items.Post check-items-Inv-loop check-items-μ-loop
+check-items-loop-again t c =
+    order-null (c .before .before .before .loop .inv) (c .before .before .loop-test .taken) (c .before .is-null .ensures) (c .if1 .taken)
 
 check-items-get8-requires : (t : ℕ) → check-items-lts.Need-get8-requires (check-items-calls t) (check-items-at t) check-items.Post check-items-Inv-loop check-items-μ-loop
 check-items-get8-requires t c κs = let A = c .before .before .before .before .before .before .before .args in let S = A .s .now in let B = A .b .now in let P = c .before .before .before .before .before .before .before .pre .1 in let HB = bytes-of B (λ i. c .before .before .before .before .before .shared-slice-known2 .given i .fits) in let T = typeAt S (A .at) (A .depth) in let D = items-slots S (A .at) (A .depth) (A .k) B (A .n) P HB (8 + c .before .before .before .before .bitmap-size .result) (8 + c .before .before .before .before .bitmap-size .result + 8 * A .n) (ap (λ (x : ℕ). 8 + x) (c .before .before .before .before .bitmap-size .ensures)) refl in omega (arith, slot-room 8 (elements T (A .n)) B (A .n) (8 + c .before .before .before .before .bitmap-size .result) (8 + c .before .before .before .before .bitmap-size .result + 8 * A .n) D (c .before .before .before .loop .i) (c .before .before .before .loop .slot) (c .before .before .before .loop .cur) (c .before .before .before .loop .inv .state) (c .before .before .loop-test .taken), D .room)
@@ -563,8 +886,32 @@ check-items-add-i-2 t c = omega arith
 check-items-loop-less-2 : (t : ℕ) → check-items-lts.Need-loop-less-2 (check-items-calls t) (check-items-at t) check-items.Post check-items-Inv-loop check-items-μ-loop
 check-items-loop-less-2 t c = omega arith
 
-check-items-loop-again-2 : (t : ℕ) → check-items-lts.Need-loop-again-2 (check-items-calls t) (check-items-at t) check-items.Post check-items-Inv-loop check-items-μ-loop
-check-items-loop-again-2 t c = let A = c .before .before .before .before .before .before .before .before .before .before .before .before .before .before .before .before .before .before .args in let S = A .s .now in let B = A .b .now in let P = c .before .before .before .before .before .before .before .before .before .before .before .before .before .before .before .before .before .before .pre .1 in let HB = bytes-of B (λ i. c .before .before .before .before .before .before .before .before .before .before .before .before .before .before .before .before .shared-slice-known2 .given i .fits) in let T = typeAt S (A .at) (A .depth) in let D = items-slots S (A .at) (A .depth) (A .k) B (A .n) P HB (8 + c .before .before .before .before .before .before .before .before .before .before .before .before .before .before .before .bitmap-size .result) (8 + c .before .before .before .before .before .before .before .before .before .before .before .before .before .before .before .bitmap-size .result + 8 * A .n) (ap (λ (x : ℕ). 8 + x) (c .before .before .before .before .before .before .before .before .before .before .before .before .before .before .before .bitmap-size .ensures)) refl in record { state = at-next 8 (elements T (A .n)) B (A .n) (8 + c .before .before .before .before .before .before .before .before .before .before .before .before .before .before .before .bitmap-size .result) (8 + c .before .before .before .before .before .before .before .before .before .before .before .before .before .before .before .bitmap-size .result + 8 * A .n) D (c .before .before .before .before .before .before .before .before .before .before .before .before .before .before .loop .i) (c .before .before .before .before .before .before .before .before .before .before .before .before .before .before .loop .slot) (c .before .before .before .before .before .before .before .before .before .before .before .before .before .before .loop .cur) (c .before .before .before .before .before .before .before .before .before .before .before .before .before .before .loop .inv .state) (c .before .before .before .before .before .before .before .before .before .before .before .before .before .loop-test .taken) (codec T) (item-at S (A .at) (A .depth) (A .k) B (A .n) P HB (c .before .before .before .before .before .before .before .before .before .before .before .before .before .before .loop .i) (c .before .before .before .before .before .before .before .before .before .before .before .before .before .loop-test .taken)) (sym (c .before .before .before .before .before .before .before .before .before .before .before .before .is-null .ensures) ∙ c .before .before .before .before .before .before .before .before .before .before .before .if1 .left) (c .before .before .before .before .before .before .before .before .before .before .get8 .result) (c .before .before .before .before .before .before .before .before .before .before .get8 .ensures) (c .before .before .before .before .before .before .before .before .before .slot-offset .result) (c .before .before .before .before .before .before .before .before .before .slot-offset .ensures) (c .before .before .before .before .before .before .before .before .if2 .left) (c .before .before .before .before .before .before .before .slot-size .result) (c .before .before .before .before .before .before .before .slot-size .ensures) (c .before .before .before .before .before .before .before .before .before .before .before .before .before .before .loop .cur + c .before .before .before .before .before .before .before .slot-size .result) (c .before .before .before .before .before .before .pad-size .result) refl (c .before .before .before .before .before .before .pad-size .ensures) (c .before .before .before .before .before .if3 .left) (part-sound T _ _ (c .before .before .before .check-value .ensures) ∙ not-false _ (c .before .before .if4 .left)) (c .before .pad-clear .result) (c .before .pad-clear .ensures) (not-false _ (c .if5 .left)); known = known-next 8 (λ _. T) B (A .n) (c .before .before .before .before .before .before .before .before .before .before .before .before .before .before .loop .i) (c .before .before .before .before .before .before .before .before .before .before .before .before .before .before .loop .slot) (omega (arith, c .before .before .before .before .before .before .before .before .before .before .before .before .before .before .loop .inv .state .slot-is, c .before .before .before .before .before .before .before .before .before .before .before .before .before .before .before .bitmap-size .ensures)) (c .before .before .before .before .before .before .before .before .before .before .get8 .result) (c .before .before .before .before .before .before .before .before .before .before .get8 .ensures) (c .before .before .before .before .before .before .before .before .before .before .before .before .before .before .loop .cur) (sym (c .before .before .before .before .before .before .before .before .if2 .left) ∙ c .before .before .before .before .before .before .before .before .before .slot-offset .ensures) (c .before .before .before .before .before .before .before .slot-size .result) (c .before .before .before .before .before .before .before .slot-size .ensures) (c .before .before .before .before .before .before .before .before .before .before .before .before .before .before .loop .cur + c .before .before .before .before .before .before .before .slot-size .result) refl (c .before .before .before .before .before .before .before .before .before .before .before .before .before .before .loop .inv .known) (sym (c .before .before .before .check-value .ensures) ∙ not-false _ (c .before .before .if4 .left)) }
+-- what the slot says
+check-items-here :
+    (t : ℕ) (c : check-items-lts.After-pad-size (check-items-calls t) (check-items-at t) check-items.Post check-items-Inv-loop check-items-μ-loop)
+    → Here (c .before .before .before .before .before .before .before .before .loop .inv) (c .before .slot-size .result) (c .pad-size .result)
+check-items-here t c = record {
+  less = c .before .before .before .before .before .before .before .loop-test .taken;
+  kid =
+      item-at _ _ _ _ _ _ (c .before .before .before .before .before .before .before .before .before .before .before .before .pre .1)
+      (c .before .before .before .before .before .before .before .before .loop .inv .fixed .bytes) _
+      (c .before .before .before .before .before .before .before .loop-test .taken);
+  varies =
+      item-none _ _ _ _ _ _ (c .before .before .before .before .before .before .before .before .before .before .before .before .pre .1)
+      (c .before .before .before .before .before .before .before .before .loop .inv .fixed .bytes);
+  here = sym (c .before .before .before .before .before .before .is-null .ensures) ∙ c .before .before .before .before .before .if1 .left;
+  number = c .before .before .before .before .get8 .result;
+  reads = c .before .before .before .before .get8 .ensures;
+  from = sym (c .before .before .if2 .left) ∙ c .before .before .before .slot-offset .ensures;
+  size = c .before .slot-size .ensures;
+  to = c .pad-size .ensures;
+}
+
+check-items-loop-again-2 :
+    (t : ℕ) → check-items-lts.Need-loop-again-2 (check-items-calls t) (check-items-at t) check-items.Post check-items-Inv-loop check-items-μ-loop
+check-items-loop-again-2 t c =
+    here-next (check-items-here t (c .before .before .before .before .before .before)) (c .before .before .before .before .before .if3 .left)
+    (passed (c .before .before .before .check-value .ensures) (c .before .before .if4 .left)) (c .before .pad-clear .ensures) (c .if5 .left)
 
 check-items-returns-5 : (t : ℕ) → check-items-lts.Need-returns-5 (check-items-calls t) (check-items-at t) check-items.Post check-items-Inv-loop check-items-μ-loop
 check-items-returns-5 t c = let A = c .before .before .before .before .before .args in let S = A .s .now in let B = A .b .now in let P = c .before .before .before .before .before .pre .1 in let HB = bytes-of B (λ i. c .before .before .before .shared-slice-known2 .given i .fits) in let T = typeAt S (A .at) (A .depth) in let D = items-slots S (A .at) (A .depth) (A .k) B (A .n) P HB (8 + c .before .before .bitmap-size .result) (8 + c .before .before .bitmap-size .result + 8 * A .n) (ap (λ (x : ℕ). 8 + x) (c .before .before .bitmap-size .ensures)) refl in at-end 8 (elements T (A .n)) B (A .n) (8 + c .before .before .bitmap-size .result) (8 + c .before .before .bitmap-size .result + 8 * A .n) D (c .before .loop .i) (c .before .loop .slot) (c .before .loop .cur) (c .before .loop .inv .state) (omega arith)
@@ -728,8 +1075,12 @@ check-struct-past-clear-requires t c κs = (omega (arith, c .before .bitmap-size
 check-struct-returns-2 : (t : ℕ) → check-struct-lts.Need-returns-2 (check-struct-calls t) (check-struct-at t) check-struct.Post check-struct-Inv-loop check-struct-μ-loop
 check-struct-returns-2 t c = let A = c .before .before .before .before .before .before .args in let S = A .s .now in let B = A .b .now in let P = c .before .before .before .before .before .before .pre .1 in let HB = bytes-of B (λ i. c .before .before .before .before .shared-slice-known2 .given i .fits) in let F = c .before .before .before .bitmap-size .ensures in fields-bits S (A .first) (A .n) (A .depth) B P HB (c .before .before .before .bitmap-size .result) (c .before .before .before .bitmap-size .result + 8 * A .n) F refl (c .before .before .if1 .left) (c .before .past-clear .result) (c .before .past-clear .ensures) (not-true _ (c .if2 .taken))
 
-check-struct-loop-holds : (t : ℕ) → check-struct-lts.Need-loop-holds (check-struct-calls t) (check-struct-at t) check-struct.Post check-struct-Inv-loop check-struct-μ-loop
-check-struct-loop-holds t c = let A = c .before .before .before .before .before .before .args in let S = A .s .now in let B = A .b .now in let P = c .before .before .before .before .before .before .pre .1 in let HB = bytes-of B (λ i. c .before .before .before .before .shared-slice-known2 .given i .fits) in let F = c .before .before .before .bitmap-size .ensures in let TS = typesAt S (A .first) (A .depth) (A .n) in let K = kids TS in let D = fields-slots S (A .first) (A .n) (A .depth) B P HB (c .before .before .before .bitmap-size .result) (c .before .before .before .bitmap-size .result + 8 * A .n) F refl (c .before .before .if1 .left) in record { type = sym (field-first S (A .first) (A .depth)); state = at-start 0 K B (A .n) (c .before .before .before .bitmap-size .result) (c .before .before .before .bitmap-size .result + 8 * A .n) D; known = known-start 0 (field TS) B (A .n) }
+check-struct-loop-holds :
+    (t : ℕ) → check-struct-lts.Need-loop-holds (check-struct-calls t) (check-struct-at t) check-struct.Post check-struct-Inv-loop check-struct-μ-loop
+check-struct-loop-holds t c =
+    order-fields (c .before .before .before .before .before .before .pre .1)
+    (bytes-of _ (λ i. c .before .before .before .before .shared-slice-known2 .given i .fits))
+    (c .before .before .before .bitmap-size .ensures) (c .before .before .if1 .left)
 
 check-struct-place-at-requires : (t : ℕ) → check-struct-lts.Need-place-at-requires (check-struct-calls t) (check-struct-at t) check-struct.Post check-struct-Inv-loop check-struct-μ-loop
 check-struct-place-at-requires t c κs = let A = c .before .before .before .before .before .before .before .before .args in let S = A .s .now in let B = A .b .now in let P = c .before .before .before .before .before .before .before .before .pre .1 in let HB = bytes-of B (λ i. c .before .before .before .before .before .before .shared-slice-known2 .given i .fits) in let F = c .before .before .before .before .before .bitmap-size .ensures in field-marked S (A .first) (A .n) (A .depth) B P HB (c .before .loop .at) (c .before .loop .i) (c .before .loop .inv .type) (c .loop-test .taken)
@@ -752,8 +1103,12 @@ check-struct-add-i t c = omega arith
 check-struct-loop-less : (t : ℕ) → check-struct-lts.Need-loop-less (check-struct-calls t) (check-struct-at t) check-struct.Post check-struct-Inv-loop check-struct-μ-loop
 check-struct-loop-less t c = omega arith
 
-check-struct-loop-again : (t : ℕ) → check-struct-lts.Need-loop-again (check-struct-calls t) (check-struct-at t) check-struct.Post check-struct-Inv-loop check-struct-μ-loop
-check-struct-loop-again t c = let A = c .before .before .before .before .before .before .before .before .before .before .before .before .args in let S = A .s .now in let B = A .b .now in let P = c .before .before .before .before .before .before .before .before .before .before .before .before .pre .1 in let HB = bytes-of B (λ i. c .before .before .before .before .before .before .before .before .before .before .shared-slice-known2 .given i .fits) in let F = c .before .before .before .before .before .before .before .before .before .bitmap-size .ensures in let TS = typesAt S (A .first) (A .depth) (A .n) in let K = kids TS in let D = fields-slots S (A .first) (A .n) (A .depth) B P HB (c .before .before .before .before .before .before .before .before .before .bitmap-size .result) (c .before .before .before .before .before .before .before .before .before .bitmap-size .result + 8 * A .n) F refl (c .before .before .before .before .before .before .before .before .if1 .left) in record { type = field-on S (A .first) (A .n) (A .depth) B P HB (c .before .before .before .before .before .loop .at) (c .before .before .before .before .before .loop .i) (c .before .before .before .before .before .loop .inv .type) (c .before .before .before .before .loop-test .taken) _ (leaf-next S (c .before .before .before .before .before .loop .at) (A .depth) (c .before .before .before .place-at .result) (field-here S (A .first) (A .n) (A .depth) B P HB (c .before .before .before .before .before .loop .at) (c .before .before .before .before .before .loop .i) (c .before .before .before .before .before .loop .inv .type) (c .before .before .before .before .loop-test .taken)) (c .before .before .before .place-at .ensures) (omega (arith, c .before .before .if3 .taken))); state = at-same 0 K B (A .n) (c .before .before .before .before .before .before .before .before .before .bitmap-size .result) (c .before .before .before .before .before .before .before .before .before .bitmap-size .result + 8 * A .n) D (c .before .before .before .before .before .loop .i) (c .before .before .before .before .before .loop .slot) (c .before .before .before .before .before .loop .cur) (c .before .before .before .before .before .loop .inv .state) (c .before .before .before .before .loop-test .taken) _ (sym (c .before .check-field .ensures) ∙ not-false _ (c .if4 .left)) (field-judged S (A .first) (A .n) (A .depth) B P HB (c .before .before .before .before .before .loop .at) (c .before .before .before .before .before .loop .i) (c .before .before .before .before .before .loop .inv .type) (c .before .before .before .before .loop-test .taken) (c .before .before .before .place-at .result) (c .before .before .before .place-at .ensures) (c .before .before .before .before .before .before .before .before .before .bitmap-size .result) (c .before .before .before .before .before .before .before .before .before .bitmap-size .result + 8 * A .n) (c .before .before .before .before .before .loop .slot) D (c .before .before .before .before .before .loop .inv .state .slot-is) (c .before .before .before .before .before .loop .inv .state .ranges) (c .before .before .if3 .taken)); known = known-fixed 0 (field TS) B (A .n) (c .before .before .before .before .before .loop .i) (c .before .before .before .before .before .loop .inv .known) _ (field-wide S (A .first) (A .n) (A .depth) B P HB (c .before .before .before .before .before .loop .at) (c .before .before .before .before .before .loop .i) (c .before .before .before .before .before .loop .inv .type) (c .before .before .before .before .loop-test .taken) (c .before .before .before .place-at .result) (c .before .before .before .place-at .ensures) (c .before .before .if3 .taken)) }
+check-struct-loop-again :
+    (t : ℕ) → check-struct-lts.Need-loop-again (check-struct-calls t) (check-struct-at t) check-struct.Post check-struct-Inv-loop check-struct-μ-loop
+check-struct-loop-again t c =
+    order-leaf (c .before .before .before .before .before .loop .inv) (c .before .before .before .before .loop-test .taken)
+    (c .before .before .before .place-at .ensures)
+    (c .before .before .if3 .taken) (c .before .check-field .ensures) (c .if4 .left)
 
 check-struct-next-type-requires : (t : ℕ) → check-struct-lts.Need-next-type-requires (check-struct-calls t) (check-struct-at t) check-struct.Post check-struct-Inv-loop check-struct-μ-loop
 check-struct-next-type-requires t c κs = let A = c .before .before .before .before .before .before .before .before .before .before .args in let S = A .s .now in let B = A .b .now in let P = c .before .before .before .before .before .before .before .before .before .before .pre .1 in let HB = bytes-of B (λ i. c .before .before .before .before .before .before .before .before .shared-slice-known2 .given i .fits) in let F = c .before .before .before .before .before .before .before .bitmap-size .ensures in (field-here S (A .first) (A .n) (A .depth) B P HB (c .before .before .before .loop .at) (c .before .before .before .loop .i) (c .before .before .before .loop .inv .type) (c .before .before .loop-test .taken), c .before .place-at .ensures)
@@ -770,8 +1125,12 @@ check-struct-add-i-2 t c = omega arith
 check-struct-loop-less-2 : (t : ℕ) → check-struct-lts.Need-loop-less-2 (check-struct-calls t) (check-struct-at t) check-struct.Post check-struct-Inv-loop check-struct-μ-loop
 check-struct-loop-less-2 t c = omega arith
 
-check-struct-loop-again-2 : (t : ℕ) → check-struct-lts.Need-loop-again-2 (check-struct-calls t) (check-struct-at t) check-struct.Post check-struct-Inv-loop check-struct-μ-loop
-check-struct-loop-again-2 t c = let A = c .before .before .before .before .before .before .before .before .before .before .before .before .before .args in let S = A .s .now in let B = A .b .now in let P = c .before .before .before .before .before .before .before .before .before .before .before .before .before .pre .1 in let HB = bytes-of B (λ i. c .before .before .before .before .before .before .before .before .before .before .before .shared-slice-known2 .given i .fits) in let F = c .before .before .before .before .before .before .before .before .before .before .bitmap-size .ensures in let TS = typesAt S (A .first) (A .depth) (A .n) in let K = kids TS in let D = fields-slots S (A .first) (A .n) (A .depth) B P HB (c .before .before .before .before .before .before .before .before .before .before .bitmap-size .result) (c .before .before .before .before .before .before .before .before .before .before .bitmap-size .result + 8 * A .n) F refl (c .before .before .before .before .before .before .before .before .before .if1 .left) in record { type = field-on S (A .first) (A .n) (A .depth) B P HB (c .before .before .before .before .before .before .loop .at) (c .before .before .before .before .before .before .loop .i) (c .before .before .before .before .before .before .loop .inv .type) (c .before .before .before .before .before .loop-test .taken) _ (c .before .before .next-type .ensures); state = at-null 0 K B (A .n) (c .before .before .before .before .before .before .before .before .before .before .bitmap-size .result) (c .before .before .before .before .before .before .before .before .before .before .bitmap-size .result + 8 * A .n) D (c .before .before .before .before .before .before .loop .i) (c .before .before .before .before .before .before .loop .slot) (c .before .before .before .before .before .before .loop .cur) (c .before .before .before .before .before .before .loop .inv .state) (c .before .before .before .before .before .loop-test .taken) (sym (c .before .is-null .ensures) ∙ c .if5 .taken); known = known-null 0 (field TS) B (A .n) (c .before .before .before .before .before .before .loop .i) (c .before .before .before .before .before .before .loop .inv .known) (sym (c .before .is-null .ensures) ∙ c .if5 .taken) }
+check-struct-loop-again-2 :
+    (t : ℕ) → check-struct-lts.Need-loop-again-2 (check-struct-calls t) (check-struct-at t) check-struct.Post check-struct-Inv-loop check-struct-μ-loop
+check-struct-loop-again-2 t c =
+    let a = c .before .before .before .before .before .before .loop .inv in
+    let l = c .before .before .before .before .before .loop-test .taken in
+    order-field a l (c .before .before .next-type .ensures) (order-null (in-order a) l (c .before .is-null .ensures) (c .if5 .taken))
 
 check-struct-get8-requires : (t : ℕ) → check-struct-lts.Need-get8-requires (check-struct-calls t) (check-struct-at t) check-struct.Post check-struct-Inv-loop check-struct-μ-loop
 check-struct-get8-requires t c κs = let A = c .before .before .before .before .before .before .before .before .before .before .before .before .before .args in let S = A .s .now in let B = A .b .now in let P = c .before .before .before .before .before .before .before .before .before .before .before .before .before .pre .1 in let HB = bytes-of B (λ i. c .before .before .before .before .before .before .before .before .before .before .before .shared-slice-known2 .given i .fits) in let F = c .before .before .before .before .before .before .before .before .before .before .bitmap-size .ensures in let TS = typesAt S (A .first) (A .depth) (A .n) in let K = kids TS in let D = fields-slots S (A .first) (A .n) (A .depth) B P HB (c .before .before .before .before .before .before .before .before .before .before .bitmap-size .result) (c .before .before .before .before .before .before .before .before .before .before .bitmap-size .result + 8 * A .n) F refl (c .before .before .before .before .before .before .before .before .before .if1 .left) in omega (arith, slot-room 0 K B (A .n) (c .before .before .before .before .before .before .before .before .before .before .bitmap-size .result) (c .before .before .before .before .before .before .before .before .before .before .bitmap-size .result + 8 * A .n) D (c .before .before .before .before .before .before .loop .i) (c .before .before .before .before .before .before .loop .slot) (c .before .before .before .before .before .before .loop .cur) (c .before .before .before .before .before .before .loop .inv .state) (c .before .before .before .before .before .loop-test .taken), D .room)
@@ -812,8 +1171,49 @@ check-struct-add-i-3 t c = omega arith
 check-struct-loop-less-3 : (t : ℕ) → check-struct-lts.Need-loop-less-3 (check-struct-calls t) (check-struct-at t) check-struct.Post check-struct-Inv-loop check-struct-μ-loop
 check-struct-loop-less-3 t c = omega arith
 
-check-struct-loop-again-3 : (t : ℕ) → check-struct-lts.Need-loop-again-3 (check-struct-calls t) (check-struct-at t) check-struct.Post check-struct-Inv-loop check-struct-μ-loop
-check-struct-loop-again-3 t c = let A = c .before .before .before .before .before .before .before .before .before .before .before .before .before .before .before .before .before .before .before .before .before .before .args in let S = A .s .now in let B = A .b .now in let P = c .before .before .before .before .before .before .before .before .before .before .before .before .before .before .before .before .before .before .before .before .before .before .pre .1 in let HB = bytes-of B (λ i. c .before .before .before .before .before .before .before .before .before .before .before .before .before .before .before .before .before .before .before .before .shared-slice-known2 .given i .fits) in let F = c .before .before .before .before .before .before .before .before .before .before .before .before .before .before .before .before .before .before .before .bitmap-size .ensures in let TS = typesAt S (A .first) (A .depth) (A .n) in let K = kids TS in let D = fields-slots S (A .first) (A .n) (A .depth) B P HB (c .before .before .before .before .before .before .before .before .before .before .before .before .before .before .before .before .before .before .before .bitmap-size .result) (c .before .before .before .before .before .before .before .before .before .before .before .before .before .before .before .before .before .before .before .bitmap-size .result + 8 * A .n) F refl (c .before .before .before .before .before .before .before .before .before .before .before .before .before .before .before .before .before .before .if1 .left) in record { type = field-on S (A .first) (A .n) (A .depth) B P HB (c .before .before .before .before .before .before .before .before .before .before .before .before .before .before .before .loop .at) (c .before .before .before .before .before .before .before .before .before .before .before .before .before .before .before .loop .i) (c .before .before .before .before .before .before .before .before .before .before .before .before .before .before .before .loop .inv .type) (c .before .before .before .before .before .before .before .before .before .before .before .before .before .before .loop-test .taken) _ (c .before .before .before .before .before .before .before .before .before .before .before .next-type .ensures); state = at-next 0 K B (A .n) (c .before .before .before .before .before .before .before .before .before .before .before .before .before .before .before .before .before .before .before .bitmap-size .result) (c .before .before .before .before .before .before .before .before .before .before .before .before .before .before .before .before .before .before .before .bitmap-size .result + 8 * A .n) D (c .before .before .before .before .before .before .before .before .before .before .before .before .before .before .before .loop .i) (c .before .before .before .before .before .before .before .before .before .before .before .before .before .before .before .loop .slot) (c .before .before .before .before .before .before .before .before .before .before .before .before .before .before .before .loop .cur) (c .before .before .before .before .before .before .before .before .before .before .before .before .before .before .before .loop .inv .state) (c .before .before .before .before .before .before .before .before .before .before .before .before .before .before .loop-test .taken) string (field-string S (A .first) (A .n) (A .depth) B P HB (c .before .before .before .before .before .before .before .before .before .before .before .before .before .before .before .loop .at) (c .before .before .before .before .before .before .before .before .before .before .before .before .before .before .before .loop .i) (c .before .before .before .before .before .before .before .before .before .before .before .before .before .before .before .loop .inv .type) (c .before .before .before .before .before .before .before .before .before .before .before .before .before .before .loop-test .taken) (c .before .before .before .before .before .before .before .before .before .before .before .before .before .place-at .result) (c .before .before .before .before .before .before .before .before .before .before .before .before .before .place-at .ensures) (omega (arith, c .before .before .before .before .before .before .before .before .before .before .before .before .if3 .left)) (c .before .before .if8 .taken)) (sym (c .before .before .before .before .before .before .before .before .before .before .is-null .ensures) ∙ c .before .before .before .before .before .before .before .before .before .if5 .left) (c .before .before .before .before .before .before .before .before .get8 .result) (c .before .before .before .before .before .before .before .before .get8 .ensures) (c .before .before .before .before .before .before .before .slot-offset .result) (c .before .before .before .before .before .before .before .slot-offset .ensures) (c .before .before .before .before .before .before .if6 .left) (c .before .before .before .before .before .slot-size .result) (c .before .before .before .before .before .slot-size .ensures) (c .before .before .before .before .before .before .before .before .before .before .before .before .before .before .before .loop .cur + c .before .before .before .before .before .slot-size .result) (c .before .before .before .before .pad-size .result) refl (c .before .before .before .before .pad-size .ensures) (c .before .before .before .if7 .left) (text-fine _) (c .before .pad-clear .result) (c .before .pad-clear .ensures) (not-false _ (c .if9 .left)); known = known-next 0 (field TS) B (A .n) (c .before .before .before .before .before .before .before .before .before .before .before .before .before .before .before .loop .i) (c .before .before .before .before .before .before .before .before .before .before .before .before .before .before .before .loop .slot) (omega (arith, c .before .before .before .before .before .before .before .before .before .before .before .before .before .before .before .loop .inv .state .slot-is, c .before .before .before .before .before .before .before .before .before .before .before .before .before .before .before .before .before .before .before .bitmap-size .ensures)) (c .before .before .before .before .before .before .before .before .get8 .result) (c .before .before .before .before .before .before .before .before .get8 .ensures) (c .before .before .before .before .before .before .before .before .before .before .before .before .before .before .before .loop .cur) (sym (c .before .before .before .before .before .before .if6 .left) ∙ c .before .before .before .before .before .before .before .slot-offset .ensures) (c .before .before .before .before .before .slot-size .result) (c .before .before .before .before .before .slot-size .ensures) (c .before .before .before .before .before .before .before .before .before .before .before .before .before .before .before .loop .cur + c .before .before .before .before .before .slot-size .result) refl (c .before .before .before .before .before .before .before .before .before .before .before .before .before .before .before .loop .inv .known) (field-fine S (A .first) (A .n) (A .depth) B P HB (c .before .before .before .before .before .before .before .before .before .before .before .before .before .before .before .loop .at) (c .before .before .before .before .before .before .before .before .before .before .before .before .before .before .before .loop .i) (c .before .before .before .before .before .before .before .before .before .before .before .before .before .before .before .loop .inv .type) (c .before .before .before .before .before .before .before .before .before .before .before .before .before .before .loop-test .taken) (c .before .before .before .before .before .before .before .before .before .before .before .before .before .place-at .result) (c .before .before .before .before .before .before .before .before .before .before .before .before .before .place-at .ensures) (omega (arith, c .before .before .before .before .before .before .before .before .before .before .before .before .if3 .left)) (c .before .before .if8 .taken) _) }
+-- the place where the field's type is known
+abbrev check-struct-type :
+    (t : ℕ) → check-struct-lts.After-pad-size (check-struct-calls t) (check-struct-at t) check-struct.Post check-struct-Inv-loop check-struct-μ-loop
+    → check-struct-lts.After-next-type (check-struct-calls t) (check-struct-at t) check-struct.Post check-struct-Inv-loop check-struct-μ-loop
+check-struct-type t c = c .before .before .before .before .before .before .before
+
+-- what the slot says
+check-struct-here :
+    (t : ℕ) (c : check-struct-lts.After-pad-size (check-struct-calls t) (check-struct-at t) check-struct.Post check-struct-Inv-loop check-struct-μ-loop)
+    → Here (in-order (c .before .before .before .before .before .before .before .before .before .before .before .loop .inv)) (c .before .slot-size .result)
+    (c .pad-size .result)
+check-struct-here t c = record {
+  less = c .before .before .before .before .before .before .before .before .before .before .loop-test .taken;
+  kid =
+      reached-kid
+      (order-reached (c .before .before .before .before .before .before .before .before .before .before .before .loop .inv)
+      (c .before .before .before .before .before .before .before .before .before .before .loop-test .taken))
+      (c .before .before .before .before .before .before .before .before .before .place-at .ensures)
+      (c .before .before .before .before .before .before .before .before .if3 .left);
+  varies =
+      reached-varies
+      (order-reached (c .before .before .before .before .before .before .before .before .before .before .before .loop .inv)
+      (c .before .before .before .before .before .before .before .before .before .before .loop-test .taken))
+      (c .before .before .before .before .before .before .before .before .before .place-at .ensures)
+      (c .before .before .before .before .before .before .before .before .if3 .left);
+  here = sym (c .before .before .before .before .before .before .is-null .ensures) ∙ c .before .before .before .before .before .if5 .left;
+  number = c .before .before .before .before .get8 .result;
+  reads = c .before .before .before .before .get8 .ensures;
+  from = sym (c .before .before .if6 .left) ∙ c .before .before .before .slot-offset .ensures;
+  size = c .before .slot-size .ensures;
+  to = c .pad-size .ensures;
+}
+
+check-struct-loop-again-3 :
+    (t : ℕ) → check-struct-lts.Need-loop-again-3 (check-struct-calls t) (check-struct-at t) check-struct.Post check-struct-Inv-loop check-struct-μ-loop
+check-struct-loop-again-3 t c =
+    let p = check-struct-type t (c .before .before .before .before) in
+    let a = p .before .before .before .before .loop .inv in
+    let l = p .before .before .before .loop-test .taken in
+    let g = reached-text (order-reached a l) (p .before .before .place-at .ensures) (p .before .if3 .left) (c .before .before .if8 .taken) _ in
+    order-field a l (p .next-type .ensures)
+    (here-next (check-struct-here t (c .before .before .before .before)) (c .before .before .before .if7 .left) g (c .before .pad-clear .ensures)
+    (c .if9 .left))
 
 check-struct-sub-check-value : (t : ℕ) → check-struct-lts.Need-sub-check-value (check-struct-calls t) (check-struct-at t) check-struct.Post check-struct-Inv-loop check-struct-μ-loop
 check-struct-sub-check-value t c = omega arith
@@ -845,8 +1245,16 @@ check-struct-add-i-4 t c = omega arith
 check-struct-loop-less-4 : (t : ℕ) → check-struct-lts.Need-loop-less-4 (check-struct-calls t) (check-struct-at t) check-struct.Post check-struct-Inv-loop check-struct-μ-loop
 check-struct-loop-less-4 t c = omega arith
 
-check-struct-loop-again-4 : (t : ℕ) → check-struct-lts.Need-loop-again-4 (check-struct-calls t) (check-struct-at t) check-struct.Post check-struct-Inv-loop check-struct-μ-loop
-check-struct-loop-again-4 t c = let A = c .before .before .before .before .before .before .before .before .before .before .before .before .before .before .before .before .before .before .before .before .before .before .before .before .before .args in let S = A .s .now in let B = A .b .now in let P = c .before .before .before .before .before .before .before .before .before .before .before .before .before .before .before .before .before .before .before .before .before .before .before .before .before .pre .1 in let HB = bytes-of B (λ i. c .before .before .before .before .before .before .before .before .before .before .before .before .before .before .before .before .before .before .before .before .before .before .before .shared-slice-known2 .given i .fits) in let F = c .before .before .before .before .before .before .before .before .before .before .before .before .before .before .before .before .before .before .before .before .before .before .bitmap-size .ensures in let TS = typesAt S (A .first) (A .depth) (A .n) in let K = kids TS in let D = fields-slots S (A .first) (A .n) (A .depth) B P HB (c .before .before .before .before .before .before .before .before .before .before .before .before .before .before .before .before .before .before .before .before .before .before .bitmap-size .result) (c .before .before .before .before .before .before .before .before .before .before .before .before .before .before .before .before .before .before .before .before .before .before .bitmap-size .result + 8 * A .n) F refl (c .before .before .before .before .before .before .before .before .before .before .before .before .before .before .before .before .before .before .before .before .before .if1 .left) in record { type = field-on S (A .first) (A .n) (A .depth) B P HB (c .before .before .before .before .before .before .before .before .before .before .before .before .before .before .before .before .before .before .loop .at) (c .before .before .before .before .before .before .before .before .before .before .before .before .before .before .before .before .before .before .loop .i) (c .before .before .before .before .before .before .before .before .before .before .before .before .before .before .before .before .before .before .loop .inv .type) (c .before .before .before .before .before .before .before .before .before .before .before .before .before .before .before .before .before .loop-test .taken) _ (c .before .before .before .before .before .before .before .before .before .before .before .before .before .before .next-type .ensures); state = at-next 0 K B (A .n) (c .before .before .before .before .before .before .before .before .before .before .before .before .before .before .before .before .before .before .before .before .before .before .bitmap-size .result) (c .before .before .before .before .before .before .before .before .before .before .before .before .before .before .before .before .before .before .before .before .before .before .bitmap-size .result + 8 * A .n) D (c .before .before .before .before .before .before .before .before .before .before .before .before .before .before .before .before .before .before .loop .i) (c .before .before .before .before .before .before .before .before .before .before .before .before .before .before .before .before .before .before .loop .slot) (c .before .before .before .before .before .before .before .before .before .before .before .before .before .before .before .before .before .before .loop .cur) (c .before .before .before .before .before .before .before .before .before .before .before .before .before .before .before .before .before .before .loop .inv .state) (c .before .before .before .before .before .before .before .before .before .before .before .before .before .before .before .before .before .loop-test .taken) (codec (typeAt S (c .before .before .before .before .before .before .before .before .before .before .before .before .before .before .before .before .before .before .loop .at) (A .depth))) (field-container S (A .first) (A .n) (A .depth) B P HB (c .before .before .before .before .before .before .before .before .before .before .before .before .before .before .before .before .before .before .loop .at) (c .before .before .before .before .before .before .before .before .before .before .before .before .before .before .before .before .before .before .loop .i) (c .before .before .before .before .before .before .before .before .before .before .before .before .before .before .before .before .before .before .loop .inv .type) (c .before .before .before .before .before .before .before .before .before .before .before .before .before .before .before .before .before .loop-test .taken) (c .before .before .before .before .before .before .before .before .before .before .before .before .before .before .before .before .place-at .result) (c .before .before .before .before .before .before .before .before .before .before .before .before .before .before .before .before .place-at .ensures) (omega (arith, c .before .before .before .before .before .if8 .left))) (sym (c .before .before .before .before .before .before .before .before .before .before .before .before .before .is-null .ensures) ∙ c .before .before .before .before .before .before .before .before .before .before .before .before .if5 .left) (c .before .before .before .before .before .before .before .before .before .before .before .get8 .result) (c .before .before .before .before .before .before .before .before .before .before .before .get8 .ensures) (c .before .before .before .before .before .before .before .before .before .before .slot-offset .result) (c .before .before .before .before .before .before .before .before .before .before .slot-offset .ensures) (c .before .before .before .before .before .before .before .before .before .if6 .left) (c .before .before .before .before .before .before .before .before .slot-size .result) (c .before .before .before .before .before .before .before .before .slot-size .ensures) (c .before .before .before .before .before .before .before .before .before .before .before .before .before .before .before .before .before .before .loop .cur + c .before .before .before .before .before .before .before .before .slot-size .result) (c .before .before .before .before .before .before .before .pad-size .result) refl (c .before .before .before .before .before .before .before .pad-size .ensures) (c .before .before .before .before .before .before .if7 .left) (part-sound (typeAt S (c .before .before .before .before .before .before .before .before .before .before .before .before .before .before .before .before .before .before .loop .at) (A .depth)) _ _ (c .before .before .before .check-value .ensures) ∙ not-false _ (c .before .before .if10 .left)) (c .before .pad-clear2 .result) (c .before .pad-clear2 .ensures) (not-false _ (c .if11 .left)); known = known-next 0 (field TS) B (A .n) (c .before .before .before .before .before .before .before .before .before .before .before .before .before .before .before .before .before .before .loop .i) (c .before .before .before .before .before .before .before .before .before .before .before .before .before .before .before .before .before .before .loop .slot) (omega (arith, c .before .before .before .before .before .before .before .before .before .before .before .before .before .before .before .before .before .before .loop .inv .state .slot-is, c .before .before .before .before .before .before .before .before .before .before .before .before .before .before .before .before .before .before .before .before .before .before .bitmap-size .ensures)) (c .before .before .before .before .before .before .before .before .before .before .before .get8 .result) (c .before .before .before .before .before .before .before .before .before .before .before .get8 .ensures) (c .before .before .before .before .before .before .before .before .before .before .before .before .before .before .before .before .before .before .loop .cur) (sym (c .before .before .before .before .before .before .before .before .before .if6 .left) ∙ c .before .before .before .before .before .before .before .before .before .before .slot-offset .ensures) (c .before .before .before .before .before .before .before .before .slot-size .result) (c .before .before .before .before .before .before .before .before .slot-size .ensures) (c .before .before .before .before .before .before .before .before .before .before .before .before .before .before .before .before .before .before .loop .cur + c .before .before .before .before .before .before .before .before .slot-size .result) refl (c .before .before .before .before .before .before .before .before .before .before .before .before .before .before .before .before .before .before .loop .inv .known) (field-sound S (A .first) (A .n) (A .depth) B P HB (c .before .before .before .before .before .before .before .before .before .before .before .before .before .before .before .before .before .before .loop .at) (c .before .before .before .before .before .before .before .before .before .before .before .before .before .before .before .before .before .before .loop .i) (c .before .before .before .before .before .before .before .before .before .before .before .before .before .before .before .before .before .before .loop .inv .type) (c .before .before .before .before .before .before .before .before .before .before .before .before .before .before .before .before .before .loop-test .taken) (c .before .before .before .before .before .before .before .before .before .before .before .before .before .before .before .before .place-at .result) (c .before .before .before .before .before .before .before .before .before .before .before .before .before .before .before .before .place-at .ensures) _ _ (c .before .before .before .check-value .ensures) (not-false _ (c .before .before .if10 .left))) }
+check-struct-loop-again-4 :
+    (t : ℕ) → check-struct-lts.Need-loop-again-4 (check-struct-calls t) (check-struct-at t) check-struct.Post check-struct-Inv-loop check-struct-μ-loop
+check-struct-loop-again-4 t c =
+    let p = check-struct-type t (c .before .before .before .before .before .before .before) in
+    let a = p .before .before .before .before .loop .inv in
+    let l = p .before .before .before .loop-test .taken in
+    let g = passed (reached-sound (order-reached a l) _ (c .before .before .before .check-value .ensures)) (c .before .before .if10 .left) in
+    let h = check-struct-here t (c .before .before .before .before .before .before .before) in
+    order-field a l (p .next-type .ensures) (here-next h (c .before .before .before .before .before .before .if7 .left) g (c .before .pad-clear2 .ensures)
+    (c .if11 .left))
 
 check-struct-returns-9 : (t : ℕ) → check-struct-lts.Need-returns-9 (check-struct-calls t) (check-struct-at t) check-struct.Post check-struct-Inv-loop check-struct-μ-loop
 check-struct-returns-9 t c = let A = c .before .before .before .before .before .before .before .before .args in let S = A .s .now in let B = A .b .now in let P = c .before .before .before .before .before .before .before .before .pre .1 in let HB = bytes-of B (λ i. c .before .before .before .before .before .before .shared-slice-known2 .given i .fits) in let F = c .before .before .before .before .before .bitmap-size .ensures in let TS = typesAt S (A .first) (A .depth) (A .n) in let K = kids TS in let D = fields-slots S (A .first) (A .n) (A .depth) B P HB (c .before .before .before .before .before .bitmap-size .result) (c .before .before .before .before .before .bitmap-size .result + 8 * A .n) F refl (c .before .before .before .before .if1 .left) in fields-good S (A .first) (A .n) (A .depth) B P HB (c .before .before .before .before .before .bitmap-size .result) (c .before .before .before .before .before .bitmap-size .result + 8 * A .n) F refl (c .before .before .before .before .if1 .left) (c .before .before .before .past-clear .result) (c .before .before .before .past-clear .ensures) (not-false _ (c .before .before .if2 .left)) _ (at-end 0 K B (A .n) (c .before .before .before .before .before .bitmap-size .result) (c .before .before .before .before .before .bitmap-size .result + 8 * A .n) D (c .before .loop .i) (c .before .loop .slot) (c .before .loop .cur) (c .before .loop .inv .state) (omega arith))
@@ -875,8 +1283,12 @@ check-structs-mul-start t c = omega (arith, c .before .before .before .pre .1 .i
 check-structs-add-start : (t : ℕ) → check-structs-lts.Need-add-start (check-structs-calls t) (check-structs-at t) check-structs.Post check-structs-Inv-loop check-structs-μ-loop
 check-structs-add-start t c = omega (arith, c .before .before .before .pre .1 .items .room, c .before .before .before .pre .1 .items .small, c .bitmap-size .ensures)
 
-check-structs-loop-holds : (t : ℕ) → check-structs-lts.Need-loop-holds (check-structs-calls t) (check-structs-at t) check-structs.Post check-structs-Inv-loop check-structs-μ-loop
-check-structs-loop-holds t c = let A = c .before .before .before .args in let S = A .s .now in let B = A .b .now in let P = c .before .before .before .pre .1 .items in let HB = bytes-of B (λ i. c .before .shared-slice-known2 .given i .fits) in let T = typeAt S (A .at) (A .depth) in let D = items-slots S (A .at) (A .depth) 11 B (A .n) P HB (8 + c .bitmap-size .result) (8 + c .bitmap-size .result + 8 * A .n) (ap (λ (x : ℕ). 8 + x) (c .bitmap-size .ensures)) refl in record { state = at-start 8 (elements T (A .n)) B (A .n) (8 + c .bitmap-size .result) (8 + c .bitmap-size .result + 8 * A .n) D; known = known-start 8 (λ _. T) B (A .n) }
+check-structs-loop-holds :
+    (t : ℕ) → check-structs-lts.Need-loop-holds (check-structs-calls t) (check-structs-at t) check-structs.Post check-structs-Inv-loop check-structs-μ-loop
+check-structs-loop-holds t c =
+    order-start
+    (items-slots _ _ _ _ _ _ (c .before .before .before .pre .1 .items) (bytes-of _ (λ i. c .before .shared-slice-known2 .given i .fits)) _ _
+    (ap (λ (x : ℕ). 8 + x) (c .bitmap-size .ensures)) refl)
 
 check-structs-is-null-requires : (t : ℕ) → check-structs-lts.Need-is-null-requires (check-structs-calls t) (check-structs-at t) check-structs.Post check-structs-Inv-loop check-structs-μ-loop
 check-structs-is-null-requires t c κs = let A = c .before .before .before .before .before .args in let S = A .s .now in let B = A .b .now in let P = c .before .before .before .before .before .pre .1 .items in let HB = bytes-of B (λ i. c .before .before .before .shared-slice-known2 .given i .fits) in let T = typeAt S (A .at) (A .depth) in let D = items-slots S (A .at) (A .depth) 11 B (A .n) P HB (8 + c .before .before .bitmap-size .result) (8 + c .before .before .bitmap-size .result + 8 * A .n) (ap (λ (x : ℕ). 8 + x) (c .before .before .bitmap-size .ensures)) refl in bit-room 8 (elements T (A .n)) B (A .n) (8 + c .before .before .bitmap-size .result) (8 + c .before .before .bitmap-size .result + 8 * A .n) D (c .before .loop .i) (c .before .loop .slot) (c .before .loop .cur) (c .before .loop .inv .state) (c .loop-test .taken)
@@ -890,8 +1302,10 @@ check-structs-add-i t c = omega arith
 check-structs-loop-less : (t : ℕ) → check-structs-lts.Need-loop-less (check-structs-calls t) (check-structs-at t) check-structs.Post check-structs-Inv-loop check-structs-μ-loop
 check-structs-loop-less t c = omega arith
 
-check-structs-loop-again : (t : ℕ) → check-structs-lts.Need-loop-again (check-structs-calls t) (check-structs-at t) check-structs.Post check-structs-Inv-loop check-structs-μ-loop
-check-structs-loop-again t c = let A = c .before .before .before .before .before .before .before .args in let S = A .s .now in let B = A .b .now in let P = c .before .before .before .before .before .before .before .pre .1 .items in let HB = bytes-of B (λ i. c .before .before .before .before .before .shared-slice-known2 .given i .fits) in let T = typeAt S (A .at) (A .depth) in let D = items-slots S (A .at) (A .depth) 11 B (A .n) P HB (8 + c .before .before .before .before .bitmap-size .result) (8 + c .before .before .before .before .bitmap-size .result + 8 * A .n) (ap (λ (x : ℕ). 8 + x) (c .before .before .before .before .bitmap-size .ensures)) refl in record { state = at-null 8 (elements T (A .n)) B (A .n) (8 + c .before .before .before .before .bitmap-size .result) (8 + c .before .before .before .before .bitmap-size .result + 8 * A .n) D (c .before .before .before .loop .i) (c .before .before .before .loop .slot) (c .before .before .before .loop .cur) (c .before .before .before .loop .inv .state) (c .before .before .loop-test .taken) (sym (c .before .is-null .ensures) ∙ c .if1 .taken); known = known-null 8 (λ _. T) B (A .n) (c .before .before .before .loop .i) (c .before .before .before .loop .inv .known) (sym (c .before .is-null .ensures) ∙ c .if1 .taken) }
+check-structs-loop-again :
+    (t : ℕ) → check-structs-lts.Need-loop-again (check-structs-calls t) (check-structs-at t) check-structs.Post check-structs-Inv-loop check-structs-μ-loop
+check-structs-loop-again t c =
+    order-null (c .before .before .before .loop .inv) (c .before .before .loop-test .taken) (c .before .is-null .ensures) (c .if1 .taken)
 
 check-structs-get8-requires : (t : ℕ) → check-structs-lts.Need-get8-requires (check-structs-calls t) (check-structs-at t) check-structs.Post check-structs-Inv-loop check-structs-μ-loop
 check-structs-get8-requires t c κs = let A = c .before .before .before .before .before .before .before .args in let S = A .s .now in let B = A .b .now in let P = c .before .before .before .before .before .before .before .pre .1 .items in let HB = bytes-of B (λ i. c .before .before .before .before .before .shared-slice-known2 .given i .fits) in let T = typeAt S (A .at) (A .depth) in let D = items-slots S (A .at) (A .depth) 11 B (A .n) P HB (8 + c .before .before .before .before .bitmap-size .result) (8 + c .before .before .before .before .bitmap-size .result + 8 * A .n) (ap (λ (x : ℕ). 8 + x) (c .before .before .before .before .bitmap-size .ensures)) refl in omega (arith, slot-room 8 (elements T (A .n)) B (A .n) (8 + c .before .before .before .before .bitmap-size .result) (8 + c .before .before .before .before .bitmap-size .result + 8 * A .n) D (c .before .before .before .loop .i) (c .before .before .before .loop .slot) (c .before .before .before .loop .cur) (c .before .before .before .loop .inv .state) (c .before .before .loop-test .taken), D .room)
@@ -947,8 +1361,35 @@ check-structs-add-i-2 t c = omega arith
 check-structs-loop-less-2 : (t : ℕ) → check-structs-lts.Need-loop-less-2 (check-structs-calls t) (check-structs-at t) check-structs.Post check-structs-Inv-loop check-structs-μ-loop
 check-structs-loop-less-2 t c = omega arith
 
-check-structs-loop-again-2 : (t : ℕ) → check-structs-lts.Need-loop-again-2 (check-structs-calls t) (check-structs-at t) check-structs.Post check-structs-Inv-loop check-structs-μ-loop
-check-structs-loop-again-2 t c = let A = c .before .before .before .before .before .before .before .before .before .before .before .before .before .before .before .before .before .before .args in let S = A .s .now in let B = A .b .now in let P = c .before .before .before .before .before .before .before .before .before .before .before .before .before .before .before .before .before .before .pre .1 .items in let HB = bytes-of B (λ i. c .before .before .before .before .before .before .before .before .before .before .before .before .before .before .before .before .shared-slice-known2 .given i .fits) in let T = typeAt S (A .at) (A .depth) in let D = items-slots S (A .at) (A .depth) 11 B (A .n) P HB (8 + c .before .before .before .before .before .before .before .before .before .before .before .before .before .before .before .bitmap-size .result) (8 + c .before .before .before .before .before .before .before .before .before .before .before .before .before .before .before .bitmap-size .result + 8 * A .n) (ap (λ (x : ℕ). 8 + x) (c .before .before .before .before .before .before .before .before .before .before .before .before .before .before .before .bitmap-size .ensures)) refl in record { state = at-next 8 (elements T (A .n)) B (A .n) (8 + c .before .before .before .before .before .before .before .before .before .before .before .before .before .before .before .bitmap-size .result) (8 + c .before .before .before .before .before .before .before .before .before .before .before .before .before .before .before .bitmap-size .result + 8 * A .n) D (c .before .before .before .before .before .before .before .before .before .before .before .before .before .before .loop .i) (c .before .before .before .before .before .before .before .before .before .before .before .before .before .before .loop .slot) (c .before .before .before .before .before .before .before .before .before .before .before .before .before .before .loop .cur) (c .before .before .before .before .before .before .before .before .before .before .before .before .before .before .loop .inv .state) (c .before .before .before .before .before .before .before .before .before .before .before .before .before .loop-test .taken) (codec T) (item-at S (A .at) (A .depth) 11 B (A .n) P HB (c .before .before .before .before .before .before .before .before .before .before .before .before .before .before .loop .i) (c .before .before .before .before .before .before .before .before .before .before .before .before .before .loop-test .taken)) (sym (c .before .before .before .before .before .before .before .before .before .before .before .before .is-null .ensures) ∙ c .before .before .before .before .before .before .before .before .before .before .before .if1 .left) (c .before .before .before .before .before .before .before .before .before .before .get8 .result) (c .before .before .before .before .before .before .before .before .before .before .get8 .ensures) (c .before .before .before .before .before .before .before .before .before .slot-offset .result) (c .before .before .before .before .before .before .before .before .before .slot-offset .ensures) (c .before .before .before .before .before .before .before .before .if2 .left) (c .before .before .before .before .before .before .before .slot-size .result) (c .before .before .before .before .before .before .before .slot-size .ensures) (c .before .before .before .before .before .before .before .before .before .before .before .before .before .before .loop .cur + c .before .before .before .before .before .before .before .slot-size .result) (c .before .before .before .before .before .before .pad-size .result) refl (c .before .before .before .before .before .before .pad-size .ensures) (c .before .before .before .before .before .if3 .left) (part-sound T _ _ (as-sound T _ _ _ (c .before .before .before .before .before .before .before .before .before .before .before .before .before .before .before .before .before .before .pre .1 .whole) (c .before .before .before .check-struct .ensures)) ∙ not-false _ (c .before .before .if4 .left)) (c .before .pad-clear .result) (c .before .pad-clear .ensures) (not-false _ (c .if5 .left)); known = known-next 8 (λ _. T) B (A .n) (c .before .before .before .before .before .before .before .before .before .before .before .before .before .before .loop .i) (c .before .before .before .before .before .before .before .before .before .before .before .before .before .before .loop .slot) (omega (arith, c .before .before .before .before .before .before .before .before .before .before .before .before .before .before .loop .inv .state .slot-is, c .before .before .before .before .before .before .before .before .before .before .before .before .before .before .before .bitmap-size .ensures)) (c .before .before .before .before .before .before .before .before .before .before .get8 .result) (c .before .before .before .before .before .before .before .before .before .before .get8 .ensures) (c .before .before .before .before .before .before .before .before .before .before .before .before .before .before .loop .cur) (sym (c .before .before .before .before .before .before .before .before .if2 .left) ∙ c .before .before .before .before .before .before .before .before .before .slot-offset .ensures) (c .before .before .before .before .before .before .before .slot-size .result) (c .before .before .before .before .before .before .before .slot-size .ensures) (c .before .before .before .before .before .before .before .before .before .before .before .before .before .before .loop .cur + c .before .before .before .before .before .before .before .slot-size .result) refl (c .before .before .before .before .before .before .before .before .before .before .before .before .before .before .loop .inv .known) (sym (as-sound T _ _ _ (c .before .before .before .before .before .before .before .before .before .before .before .before .before .before .before .before .before .before .pre .1 .whole) (c .before .before .before .check-struct .ensures)) ∙ not-false _ (c .before .before .if4 .left)) }
+-- what the slot says
+check-structs-here :
+    (t : ℕ) (c : check-structs-lts.After-pad-size (check-structs-calls t) (check-structs-at t) check-structs.Post check-structs-Inv-loop check-structs-μ-loop)
+    → Here (c .before .before .before .before .before .before .before .before .loop .inv) (c .before .slot-size .result) (c .pad-size .result)
+check-structs-here t c = record {
+  less = c .before .before .before .before .before .before .before .loop-test .taken;
+  kid =
+      item-at _ _ _ _ _ _ (c .before .before .before .before .before .before .before .before .before .before .before .before .pre .1 .items)
+      (c .before .before .before .before .before .before .before .before .loop .inv .fixed .bytes) _
+      (c .before .before .before .before .before .before .before .loop-test .taken);
+  varies =
+      item-none _ _ _ _ _ _ (c .before .before .before .before .before .before .before .before .before .before .before .before .pre .1 .items)
+      (c .before .before .before .before .before .before .before .before .loop .inv .fixed .bytes);
+  here = sym (c .before .before .before .before .before .before .is-null .ensures) ∙ c .before .before .before .before .before .if1 .left;
+  number = c .before .before .before .before .get8 .result;
+  reads = c .before .before .before .before .get8 .ensures;
+  from = sym (c .before .before .if2 .left) ∙ c .before .before .before .slot-offset .ensures;
+  size = c .before .slot-size .ensures;
+  to = c .pad-size .ensures;
+}
+
+check-structs-loop-again-2 :
+    (t : ℕ) → check-structs-lts.Need-loop-again-2 (check-structs-calls t) (check-structs-at t) check-structs.Post check-structs-Inv-loop check-structs-μ-loop
+check-structs-loop-again-2 t c =
+    let p = c .before .before .before .before .before .before .before .before .before in
+    let w = p .before .before .before .before .before .before .before .before .before .pre .1 .whole in
+    here-next (check-structs-here t (c .before .before .before .before .before .before)) (c .before .before .before .before .before .if3 .left)
+    (passed (as-sound _ _ _ _ w (c .before .before .before .check-struct .ensures)) (c .before .before .if4 .left))
+    (c .before .pad-clear .ensures) (c .if5 .left)
 
 check-structs-returns-5 : (t : ℕ) → check-structs-lts.Need-returns-5 (check-structs-calls t) (check-structs-at t) check-structs.Post check-structs-Inv-loop check-structs-μ-loop
 check-structs-returns-5 t c = let A = c .before .before .before .before .before .args in let S = A .s .now in let B = A .b .now in let P = c .before .before .before .before .before .pre .1 .items in let HB = bytes-of B (λ i. c .before .before .before .shared-slice-known2 .given i .fits) in let T = typeAt S (A .at) (A .depth) in let D = items-slots S (A .at) (A .depth) 11 B (A .n) P HB (8 + c .before .before .bitmap-size .result) (8 + c .before .before .bitmap-size .result + 8 * A .n) (ap (λ (x : ℕ). 8 + x) (c .before .before .bitmap-size .ensures)) refl in at-end 8 (elements T (A .n)) B (A .n) (8 + c .before .before .bitmap-size .result) (8 + c .before .before .bitmap-size .result + 8 * A .n) D (c .before .loop .i) (c .before .loop .slot) (c .before .loop .cur) (c .before .loop .inv .state) (omega arith)
@@ -1033,8 +1474,6 @@ pub +any-items+any-struct+check-items+check-list+check-map+check-struct+check-st
     (any-items-slice-aggregate-place t)
     (any-items-place-requires t)
     (any-items-returns t)
-    (any-items-pad-clear-requires t)
-    (any-items-returns-2 t)
     (any-items-sub-sum t)
     (any-items-add-sum t)
     (any-items-add-slot-2 t)
@@ -1045,6 +1484,8 @@ pub +any-items+any-struct+check-items+check-list+check-map+check-struct+check-st
     (any-items-part-check-value-start t)
     (any-items-part-check-value-end t)
     (any-items-check-value-requires t)
+    (any-items-returns-2 t)
+    (any-items-pad-clear-requires t)
     (any-items-returns-3 t)
     (any-items-sub-sum-2 t)
     (any-items-add-sum-2 t)
@@ -1063,19 +1504,24 @@ pub +any-items+any-struct+check-items+check-list+check-map+check-struct+check-st
     (any-struct-add-start t)
     (any-struct-loop-holds t)
     (any-struct-place-at-requires t)
-    (any-struct-check-field-requires t)
-    (any-struct-returns t)
     (any-struct-add-at t)
     (any-struct-add-slot t)
     (any-struct-add-i t)
     (any-struct-loop-less t)
     (any-struct-loop-again t)
-    (any-struct-next-type-requires t)
-    (any-struct-is-null-requires t)
+    (any-struct-check-field-requires t)
+    (any-struct-returns t)
+    (any-struct-add-at-2 t)
     (any-struct-add-slot-2 t)
     (any-struct-add-i-2 t)
     (any-struct-loop-less-2 t)
     (any-struct-loop-again-2 t)
+    (any-struct-next-type-requires t)
+    (any-struct-is-null-requires t)
+    (any-struct-add-slot-3 t)
+    (any-struct-add-i-3 t)
+    (any-struct-loop-less-3 t)
+    (any-struct-loop-again-3 t)
     (any-struct-get8-requires t)
     (any-struct-slot-offset-requires t)
     (any-struct-slot-size-requires t)
@@ -1084,32 +1530,34 @@ pub +any-items+any-struct+check-items+check-list+check-map+check-struct+check-st
     (any-struct-slice-aggregate-place t)
     (any-struct-place-requires t)
     (any-struct-returns-2 t)
-    (any-struct-pad-clear-requires t)
-    (any-struct-returns-3 t)
     (any-struct-sub-sum t)
     (any-struct-add-sum t)
-    (any-struct-add-slot-3 t)
-    (any-struct-add-i-3 t)
-    (any-struct-loop-less-3 t)
-    (any-struct-loop-again-3 t)
-    (any-struct-sub-sum-2 t)
-    (any-struct-add-sum-2 t)
     (any-struct-add-slot-4 t)
     (any-struct-add-i-4 t)
     (any-struct-loop-less-4 t)
     (any-struct-loop-again-4 t)
+    (any-struct-pad-clear-requires t)
+    (any-struct-returns-3 t)
+    (any-struct-sub-sum-2 t)
+    (any-struct-add-sum-2 t)
+    (any-struct-add-slot-5 t)
+    (any-struct-add-i-5 t)
+    (any-struct-loop-less-5 t)
+    (any-struct-loop-again-5 t)
     (any-struct-sub-check-value t)
     (any-struct-part-check-value-start t)
     (any-struct-part-check-value-end t)
     (any-struct-check-value-requires t)
     (any-struct-returns-4 t)
+    (any-struct-pad-clear-requires-2 t)
+    (any-struct-returns-5 t)
     (any-struct-sub-sum-3 t)
     (any-struct-add-sum-3 t)
-    (any-struct-add-slot-5 t)
-    (any-struct-add-i-5 t)
-    (any-struct-loop-less-5 t)
-    (any-struct-loop-again-5 t)
-    (any-struct-returns-5 t))
+    (any-struct-add-slot-6 t)
+    (any-struct-add-i-6 t)
+    (any-struct-loop-less-6 t)
+    (any-struct-loop-again-6 t)
+    (any-struct-returns-6 t))
     (λ t. check-items-lts.spec (check-items-calls t)
     (check-items-at t)
     check-items.Post

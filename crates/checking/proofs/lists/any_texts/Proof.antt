@@ -1,43 +1,68 @@
 -- `checking::lists::any_texts` meets its contract: before element i the maps show the ranges of those before it, and what is left leads to
 -- the same end. Assumes nothing.
-use mathlib.Core.Path.{_≡_, refl, sym, _∙_}
-use Prim.Native.Nat.{_+_, _*_, _-_, _/_}
-use native.Mathlib.Omega.{arith}
-use borrow.Author.Tests.{not-true, not-false}
+use mathlib.Core.Path.{sym, _∙_}
+use Prim.Native.Nat.{_-_}
 use Rattle.words.proofs.Numbers.{bytes-of}
-use Rattle.layout.specs.Layout.{string}
+use Rattle.schema.specs.Types.{text, st}
 use Rattle.checking.specs.Room.{texts}
-use Rattle.checking.proofs.Anywhere.{AnyAt, any-start, any-end, any-slot, any-bit, any-small, any-null, any-order, any-off, any-within, any-behind, any-unpadded, any-next, sum-room, pad-eight}
-use Rattle.checking.proofs.Leaves.{texts-slots, text-kid, text-fine}
+use Rattle.checking.proofs.Anywhere.{
+  AnyAt,
+  Told,
+  Stood,
+  slot-end,
+  stop-fits,
+  any-start,
+  any-end,
+  any-map,
+  any-bit,
+  any-slot,
+  any-slot-on,
+  any-on,
+  any-less,
+  any-null,
+  any-place,
+  any-off,
+  any-stood,
+  stood-order,
+  stood-slot-on,
+  stood-on,
+  stood-less,
+  stood-sum,
+  stood-pad,
+  any-unpadded,
+  any-next,
+  any-known,
+}
+use Rattle.checking.proofs.Leaves.{texts-slots, text-outside, text-varies, text-sound}
 use Rattle.checking.proofs.lists.any_texts.Statement.{statement}
 use Rattle.checking.proofs.lists.any_texts.Tie as tie
 
 abbrev Inv-loop : tie.InvT-loop
-Inv-loop b n slots start map₀ i₀ slot₀ sum₀ map i slot sum = AnyAt 8 (texts n) b n slots start i slot sum map
+Inv-loop b n slots start known map₀ i₀ slot₀ sum₀ map i slot sum = AnyAt 8 (λ _. text st) (texts n) b n known slots start i slot sum map
 
 abbrev μ-loop : tie.MeasureT-loop
-μ-loop b n slots start map₀ i₀ slot₀ sum₀ map i slot sum = n - i
+μ-loop b n slots start known map₀ i₀ slot₀ sum₀ map i slot sum = n - i
 
 loop-holds : tie.Need-loop-holds Inv-loop μ-loop
-loop-holds c = let A = c .before .args in let B = A .b .now in let D = texts-slots B (A .n) (A .slots) (A .start) (c .before .pre) (bytes-of B (λ i. c .shared-slice-known .given i .fits)) in any-start 8 (texts (A .n)) B (A .n) (A .slots) (A .start) D
+loop-holds c = any-start (texts-slots _ _ _ _ (c .before .pre .0) (bytes-of _ (λ i. c .shared-slice-known .given i .fits))) (c .before .pre .1)
 
 is-null-requires : tie.Need-is-null-requires Inv-loop μ-loop
-is-null-requires c κs = let A = c .before .before .before .args in let B = A .b .now in let D = texts-slots B (A .n) (A .slots) (A .start) (c .before .before .before .pre) (bytes-of B (λ i. c .before .before .shared-slice-known .given i .fits)) in any-bit 8 (texts (A .n)) B (A .n) (A .slots) (A .start) D (c .before .loop .i) (c .before .loop .slot) (c .before .loop .sum) (c .before .loop .map) (c .before .loop .inv) (c .loop-test .taken)
+is-null-requires c κs = any-bit (c .before .loop .inv) (c .loop-test .taken)
 
 add-slot : tie.Need-add-slot Inv-loop μ-loop
-add-slot c = let r = c .before .before .before .loop .inv in let p = c .before .before .before .before .before .pre in omega (arith, r .slot-is, p .elements, p .room, p .small)
+add-slot c = any-slot-on (c .before .before .before .loop .inv) (c .before .before .loop-test .taken)
 
 add-i : tie.Need-add-i Inv-loop μ-loop
-add-i c = omega arith
+add-i c = any-on (c .before .before .before .loop .inv) (c .before .before .loop-test .taken)
 
 loop-less : tie.Need-loop-less Inv-loop μ-loop
-loop-less c = omega arith
+loop-less c = any-less (c .before .before .before .loop .inv) (c .before .before .loop-test .taken)
 
 loop-again : tie.Need-loop-again Inv-loop μ-loop
-loop-again c = let A = c .before .before .before .before .before .args in let B = A .b .now in let D = texts-slots B (A .n) (A .slots) (A .start) (c .before .before .before .before .before .pre) (bytes-of B (λ i. c .before .before .before .before .shared-slice-known .given i .fits)) in any-null 8 (texts (A .n)) B (A .n) (A .slots) (A .start) D (c .before .before .before .loop .i) (c .before .before .before .loop .slot) (c .before .before .before .loop .sum) (c .before .before .before .loop .map) (c .before .before .before .loop .inv) (c .before .before .loop-test .taken) (sym (c .before .is-null .ensures) ∙ c .if1 .taken)
+loop-again c = any-null (c .before .before .before .loop .inv) (c .before .before .loop-test .taken) (c .before .is-null .ensures) (c .if1 .taken)
 
 get8-requires : tie.Need-get8-requires Inv-loop μ-loop
-get8-requires c κs = let A = c .before .before .before .before .before .args in let B = A .b .now in let D = texts-slots B (A .n) (A .slots) (A .start) (c .before .before .before .before .before .pre) (bytes-of B (λ i. c .before .before .before .before .shared-slice-known .given i .fits)) in omega (arith, any-slot 8 (texts (A .n)) B (A .n) (A .slots) (A .start) D (c .before .before .before .loop .i) (c .before .before .before .loop .slot) (c .before .before .before .loop .sum) (c .before .before .before .loop .map) (c .before .before .before .loop .inv) (c .before .before .loop-test .taken), D .room)
+get8-requires c κs = any-slot (c .before .before .before .loop .inv) (c .before .before .loop-test .taken)
 
 slot-offset-requires : tie.Need-slot-offset-requires Inv-loop μ-loop
 slot-offset-requires c κs = tt
@@ -46,46 +71,84 @@ slot-size-requires : tie.Need-slot-size-requires Inv-loop μ-loop
 slot-size-requires c κs = tt
 
 add-end : tie.Need-add-end Inv-loop μ-loop
-add-end c = omega (arith, c .before .slot-offset .ensures, c .slot-size .ensures)
+add-end c = stop-fits (c .before .before .get8 .ensures) (c .before .slot-offset .ensures) (c .slot-size .ensures)
 
 pad-size-requires : tie.Need-pad-size-requires Inv-loop μ-loop
-pad-size-requires c κs = omega (arith, c .before .slot-offset .ensures, c .slot-size .ensures)
+pad-size-requires c κs = slot-end (c .before .before .get8 .ensures) (c .before .slot-offset .ensures) (c .slot-size .ensures)
+
+-- what the slot of the string says
+told : (c : tie.After-pad-size Inv-loop μ-loop)
+    → Told (c .before .before .before .before .before .before .before .loop .inv) (c .before .before .slot-offset .result)
+    (c .before .slot-size .result) (c .pad-size .result)
+told c = record {
+  less = c .before .before .before .before .before .before .loop-test .taken;
+  kid = text-outside _ _ (c .before .before .before .before .before .before .loop-test .taken);
+  varies = text-varies;
+  here = sym (c .before .before .before .before .before .is-null .ensures) ∙ c .before .before .before .before .if1 .left;
+  number = c .before .before .before .get8 .result;
+  reads = c .before .before .before .get8 .ensures;
+  from = c .before .before .slot-offset .ensures;
+  size = c .before .slot-size .ensures;
+  to = c .pad-size .ensures;
+}
 
 slice-aggregate-place : tie.Need-slice-aggregate-place Inv-loop μ-loop
-slice-aggregate-place c = sym (c .before .before .before .before .before .before .before .before .loop .inv .shows .long)
+slice-aggregate-place c = any-map (c .before .before .before .before .before .before .before .before .loop .inv)
 
 place-requires : tie.Need-place-requires Inv-loop μ-loop
-place-requires c κs = let A = c .before .before .before .before .before .before .before .before .before .before .args in let B = A .b .now in let D = texts-slots B (A .n) (A .slots) (A .start) (c .before .before .before .before .before .before .before .before .before .before .pre) (bytes-of B (λ i. c .before .before .before .before .before .before .before .before .before .shared-slice-known .given i .fits)) in (any-order 8 (texts (A .n)) B (A .n) (A .slots) (A .start) D (c .before .before .before .before .before .before .before .before .loop .i) (c .before .before .before .before .before .before .before .before .loop .slot) (c .before .before .before .before .before .before .before .before .loop .sum) (c .before .before .before .before .before .before .before .before .loop .map) (c .before .before .before .before .before .before .before .before .loop .inv) (c .before .before .before .before .before .before .before .loop-test .taken) string (text-kid (A .n) (c .before .before .before .before .before .before .before .before .loop .i) (c .before .before .before .before .before .before .before .loop-test .taken)) (sym (c .before .before .before .before .before .before .is-null .ensures) ∙ c .before .before .before .before .before .if1 .left) (c .before .before .before .before .get8 .result) (c .before .before .before .before .get8 .ensures) (c .before .before .before .slot-offset .result) (c .before .before .before .slot-offset .ensures) (c .before .before .slot-size .result) (c .before .before .slot-size .ensures) (c .before .before .before .slot-offset .result + c .before .before .slot-size .result) (c .before .pad-size .result) refl (c .before .pad-size .ensures), D .small, c .before .before .before .before .before .before .before .before .loop .inv .shows .long)
+place-requires c κs = any-place (told (c .before))
 
 returns : tie.Need-returns Inv-loop μ-loop
-returns c = let A = c .before .before .before .before .before .before .before .before .before .before .before .before .before .args in let B = A .b .now in let D = texts-slots B (A .n) (A .slots) (A .start) (c .before .before .before .before .before .before .before .before .before .before .before .before .before .pre) (bytes-of B (λ i. c .before .before .before .before .before .before .before .before .before .before .before .before .shared-slice-known .given i .fits)) in any-off 8 (texts (A .n)) B (A .n) (A .slots) (A .start) D (c .before .before .before .before .before .before .before .before .before .before .before .loop .i) (c .before .before .before .before .before .before .before .before .before .before .before .loop .slot) (c .before .before .before .before .before .before .before .before .before .before .before .loop .sum) (c .before .before .before .before .before .before .before .before .before .before .before .loop .map) (c .before .before .before .before .before .before .before .before .before .before .before .loop .inv) (c .before .before .before .before .before .before .before .before .before .before .loop-test .taken) string (text-kid (A .n) (c .before .before .before .before .before .before .before .before .before .before .before .loop .i) (c .before .before .before .before .before .before .before .before .before .before .loop-test .taken)) (sym (c .before .before .before .before .before .before .before .before .before .is-null .ensures) ∙ c .before .before .before .before .before .before .before .before .if1 .left) (c .before .before .before .before .before .before .before .get8 .result) (c .before .before .before .before .before .before .before .get8 .ensures) (c .before .before .before .before .before .before .slot-offset .result) (c .before .before .before .before .before .before .slot-offset .ensures) (c .before .before .before .before .before .slot-size .result) (c .before .before .before .before .before .slot-size .ensures) (c .before .before .before .before .before .before .slot-offset .result + c .before .before .before .before .before .slot-size .result) (c .before .before .before .before .pad-size .result) refl (c .before .before .before .before .pad-size .ensures) (c .before .before .place .result) (c .before .before .place .ensures .0) (not-true _ (c .if2 .taken))
+returns c = any-off (told (c .before .before .before .before)) (c .before .before .place .ensures .0) (c .if2 .taken)
 
-pad-clear-requires : tie.Need-pad-clear-requires Inv-loop μ-loop
-pad-clear-requires c κs = let A = c .before .before .before .before .before .before .before .before .before .before .before .before .before .args in let B = A .b .now in let D = texts-slots B (A .n) (A .slots) (A .start) (c .before .before .before .before .before .before .before .before .before .before .before .before .before .pre) (bytes-of B (λ i. c .before .before .before .before .before .before .before .before .before .before .before .before .shared-slice-known .given i .fits)) in let w = any-within 8 (texts (A .n)) B (A .n) (A .slots) (A .start) D (c .before .before .before .before .before .before .before .before .before .before .before .loop .i) (c .before .before .before .before .before .before .before .before .before .before .before .loop .slot) (c .before .before .before .before .before .before .before .before .before .before .before .loop .sum) (c .before .before .before .before .before .before .before .before .before .before .before .loop .map) (c .before .before .before .before .before .before .before .before .before .before .before .loop .inv) (c .before .before .before .before .before .before .before .before .before .before .loop-test .taken) string (text-kid (A .n) (c .before .before .before .before .before .before .before .before .before .before .before .loop .i) (c .before .before .before .before .before .before .before .before .before .before .loop-test .taken)) (sym (c .before .before .before .before .before .before .before .before .before .is-null .ensures) ∙ c .before .before .before .before .before .before .before .before .if1 .left) (c .before .before .before .before .before .before .before .get8 .result) (c .before .before .before .before .before .before .before .get8 .ensures) (c .before .before .before .before .before .before .slot-offset .result) (c .before .before .before .before .before .before .slot-offset .ensures) (c .before .before .before .before .before .slot-size .result) (c .before .before .before .before .before .slot-size .ensures) (c .before .before .before .before .before .before .slot-offset .result + c .before .before .before .before .before .slot-size .result) (c .before .before .before .before .pad-size .result) refl (c .before .before .before .before .pad-size .ensures) (c .before .before .place .result) (c .before .before .place .ensures .0) (not-false _ (c .if2 .left)) in let v = any-behind 8 (texts (A .n)) B (A .n) (A .slots) (A .start) D (c .before .before .before .before .before .before .before .before .before .before .before .loop .i) (c .before .before .before .before .before .before .before .before .before .before .before .loop .slot) (c .before .before .before .before .before .before .before .before .before .before .before .loop .sum) (c .before .before .before .before .before .before .before .before .before .before .before .loop .map) (c .before .before .before .before .before .before .before .before .before .before .before .loop .inv) (c .before .before .before .before .before .before .before .before .before .before .loop-test .taken) string (text-kid (A .n) (c .before .before .before .before .before .before .before .before .before .before .before .loop .i) (c .before .before .before .before .before .before .before .before .before .before .loop-test .taken)) (sym (c .before .before .before .before .before .before .before .before .before .is-null .ensures) ∙ c .before .before .before .before .before .before .before .before .if1 .left) (c .before .before .before .before .before .before .before .get8 .result) (c .before .before .before .before .before .before .before .get8 .ensures) (c .before .before .before .before .before .before .slot-offset .result) (c .before .before .before .before .before .before .slot-offset .ensures) (c .before .before .before .before .before .slot-size .result) (c .before .before .before .before .before .slot-size .ensures) (c .before .before .before .before .before .before .slot-offset .result + c .before .before .before .before .before .slot-size .result) (c .before .before .before .before .pad-size .result) refl (c .before .before .before .before .pad-size .ensures) (c .before .before .place .result) (c .before .before .place .ensures .0) (not-false _ (c .if2 .left)) in (pad-eight (A .start) (c .before .before .before .before .before .before .slot-offset .result) _ (c .before .before .before .before .pad-size .result) (c .before .before .before .before .before .slot-size .result) (omega (arith, D .map, D .data₀)) v (c .before .before .before .before .pad-size .ensures) refl, w, omega (arith, D .small), c .before .before .before .before .pad-size .ensures)
-
-returns-2 : tie.Need-returns-2 Inv-loop μ-loop
-returns-2 c = let A = c .before .before .before .before .before .before .before .before .before .before .before .before .before .before .before .args in let B = A .b .now in let D = texts-slots B (A .n) (A .slots) (A .start) (c .before .before .before .before .before .before .before .before .before .before .before .before .before .before .before .pre) (bytes-of B (λ i. c .before .before .before .before .before .before .before .before .before .before .before .before .before .before .shared-slice-known .given i .fits)) in any-unpadded 8 (texts (A .n)) B (A .n) (A .slots) (A .start) D (c .before .before .before .before .before .before .before .before .before .before .before .before .before .loop .i) (c .before .before .before .before .before .before .before .before .before .before .before .before .before .loop .slot) (c .before .before .before .before .before .before .before .before .before .before .before .before .before .loop .sum) (c .before .before .before .before .before .before .before .before .before .before .before .before .before .loop .map) (c .before .before .before .before .before .before .before .before .before .before .before .before .before .loop .inv) (c .before .before .before .before .before .before .before .before .before .before .before .before .loop-test .taken) string (text-kid (A .n) (c .before .before .before .before .before .before .before .before .before .before .before .before .before .loop .i) (c .before .before .before .before .before .before .before .before .before .before .before .before .loop-test .taken)) (sym (c .before .before .before .before .before .before .before .before .before .before .before .is-null .ensures) ∙ c .before .before .before .before .before .before .before .before .before .before .if1 .left) (c .before .before .before .before .before .before .before .before .before .get8 .result) (c .before .before .before .before .before .before .before .before .before .get8 .ensures) (c .before .before .before .before .before .before .before .before .slot-offset .result) (c .before .before .before .before .before .before .before .before .slot-offset .ensures) (c .before .before .before .before .before .before .before .slot-size .result) (c .before .before .before .before .before .before .before .slot-size .ensures) (c .before .before .before .before .before .before .before .before .slot-offset .result + c .before .before .before .before .before .before .before .slot-size .result) (c .before .before .before .before .before .before .pad-size .result) refl (c .before .before .before .before .before .before .pad-size .ensures) (c .before .before .before .before .place .result) (c .before .before .before .before .place .ensures .0) (not-false _ (c .before .before .if2 .left)) (c .before .pad-clear .result) (c .before .pad-clear .ensures) (not-true _ (c .if3 .taken))
+-- and that the string may stand there
+stood : (c : tie.Else2 Inv-loop μ-loop) → Stood (told (c .before .before .before .before)) (c .before .before .place .last .0)
+stood c = any-stood (told (c .before .before .before .before)) (c .before .before .place .ensures .0) (c .if2 .left) (c .before .before .place .ensures .1)
 
 sub-sum : tie.Need-sub-sum Inv-loop μ-loop
-sub-sum c = let A = c .before .before .before .before .before .before .before .before .before .before .before .before .before .before .before .args in let B = A .b .now in let D = texts-slots B (A .n) (A .slots) (A .start) (c .before .before .before .before .before .before .before .before .before .before .before .before .before .before .before .pre) (bytes-of B (λ i. c .before .before .before .before .before .before .before .before .before .before .before .before .before .before .shared-slice-known .given i .fits)) in any-order 8 (texts (A .n)) B (A .n) (A .slots) (A .start) D (c .before .before .before .before .before .before .before .before .before .before .before .before .before .loop .i) (c .before .before .before .before .before .before .before .before .before .before .before .before .before .loop .slot) (c .before .before .before .before .before .before .before .before .before .before .before .before .before .loop .sum) (c .before .before .before .before .before .before .before .before .before .before .before .before .before .loop .map) (c .before .before .before .before .before .before .before .before .before .before .before .before .before .loop .inv) (c .before .before .before .before .before .before .before .before .before .before .before .before .loop-test .taken) string (text-kid (A .n) (c .before .before .before .before .before .before .before .before .before .before .before .before .before .loop .i) (c .before .before .before .before .before .before .before .before .before .before .before .before .loop-test .taken)) (sym (c .before .before .before .before .before .before .before .before .before .before .before .is-null .ensures) ∙ c .before .before .before .before .before .before .before .before .before .before .if1 .left) (c .before .before .before .before .before .before .before .before .before .get8 .result) (c .before .before .before .before .before .before .before .before .before .get8 .ensures) (c .before .before .before .before .before .before .before .before .slot-offset .result) (c .before .before .before .before .before .before .before .before .slot-offset .ensures) (c .before .before .before .before .before .before .before .slot-size .result) (c .before .before .before .before .before .before .before .slot-size .ensures) (c .before .before .before .before .before .before .before .before .slot-offset .result + c .before .before .before .before .before .before .before .slot-size .result) (c .before .before .before .before .before .before .pad-size .result) refl (c .before .before .before .before .before .before .pad-size .ensures)
+sub-sum c = stood-order (stood (c .before))
 
 add-sum : tie.Need-add-sum Inv-loop μ-loop
-add-sum c = let A = c .before .before .before .before .before .before .before .before .before .before .before .before .before .before .before .args in let B = A .b .now in let D = texts-slots B (A .n) (A .slots) (A .start) (c .before .before .before .before .before .before .before .before .before .before .before .before .before .before .before .pre) (bytes-of B (λ i. c .before .before .before .before .before .before .before .before .before .before .before .before .before .before .shared-slice-known .given i .fits)) in let w = any-within 8 (texts (A .n)) B (A .n) (A .slots) (A .start) D (c .before .before .before .before .before .before .before .before .before .before .before .before .before .loop .i) (c .before .before .before .before .before .before .before .before .before .before .before .before .before .loop .slot) (c .before .before .before .before .before .before .before .before .before .before .before .before .before .loop .sum) (c .before .before .before .before .before .before .before .before .before .before .before .before .before .loop .map) (c .before .before .before .before .before .before .before .before .before .before .before .before .before .loop .inv) (c .before .before .before .before .before .before .before .before .before .before .before .before .loop-test .taken) string (text-kid (A .n) (c .before .before .before .before .before .before .before .before .before .before .before .before .before .loop .i) (c .before .before .before .before .before .before .before .before .before .before .before .before .loop-test .taken)) (sym (c .before .before .before .before .before .before .before .before .before .before .before .is-null .ensures) ∙ c .before .before .before .before .before .before .before .before .before .before .if1 .left) (c .before .before .before .before .before .before .before .before .before .get8 .result) (c .before .before .before .before .before .before .before .before .before .get8 .ensures) (c .before .before .before .before .before .before .before .before .slot-offset .result) (c .before .before .before .before .before .before .before .before .slot-offset .ensures) (c .before .before .before .before .before .before .before .slot-size .result) (c .before .before .before .before .before .before .before .slot-size .ensures) (c .before .before .before .before .before .before .before .before .slot-offset .result + c .before .before .before .before .before .before .before .slot-size .result) (c .before .before .before .before .before .before .pad-size .result) refl (c .before .before .before .before .before .before .pad-size .ensures) (c .before .before .before .before .place .result) (c .before .before .before .before .place .ensures .0) (not-false _ (c .before .before .if2 .left)) in let g = sum-room (c .before .before .before .before .before .before .before .before .before .before .before .before .before .loop .sum) (c .before .before .before .before .before .before .pad-size .result) (c .before .before .before .before .before .before .before .before .slot-offset .result) (any-small 8 (texts (A .n)) B (A .n) (A .slots) (A .start) D (c .before .before .before .before .before .before .before .before .before .before .before .before .before .loop .i) (c .before .before .before .before .before .before .before .before .before .before .before .before .before .loop .slot) (c .before .before .before .before .before .before .before .before .before .before .before .before .before .loop .sum) (c .before .before .before .before .before .before .before .before .before .before .before .before .before .loop .map) (c .before .before .before .before .before .before .before .before .before .before .before .before .before .loop .inv) (c .before .before .before .before .before .before .before .before .before .before .before .before .loop-test .taken)) w (D .small) in omega (arith, g)
+add-sum c = stood-sum (stood (c .before))
 
 add-slot-2 : tie.Need-add-slot-2 Inv-loop μ-loop
-add-slot-2 c = let r = c .before .before .before .before .before .before .before .before .before .before .before .before .before .loop .inv in let p = c .before .before .before .before .before .before .before .before .before .before .before .before .before .before .before .pre in omega (arith, r .slot-is, p .elements, p .room, p .small)
+add-slot-2 c = stood-slot-on (stood (c .before))
 
 add-i-2 : tie.Need-add-i-2 Inv-loop μ-loop
-add-i-2 c = omega arith
+add-i-2 c = stood-on (stood (c .before))
 
 loop-less-2 : tie.Need-loop-less-2 Inv-loop μ-loop
-loop-less-2 c = omega arith
+loop-less-2 c = stood-less (stood (c .before))
 
 loop-again-2 : tie.Need-loop-again-2 Inv-loop μ-loop
-loop-again-2 c = let A = c .before .before .before .before .before .before .before .before .before .before .before .before .before .before .before .args in let B = A .b .now in let D = texts-slots B (A .n) (A .slots) (A .start) (c .before .before .before .before .before .before .before .before .before .before .before .before .before .before .before .pre) (bytes-of B (λ i. c .before .before .before .before .before .before .before .before .before .before .before .before .before .before .shared-slice-known .given i .fits)) in any-next 8 (texts (A .n)) B (A .n) (A .slots) (A .start) D (c .before .before .before .before .before .before .before .before .before .before .before .before .before .loop .i) (c .before .before .before .before .before .before .before .before .before .before .before .before .before .loop .slot) (c .before .before .before .before .before .before .before .before .before .before .before .before .before .loop .sum) (c .before .before .before .before .before .before .before .before .before .before .before .before .before .loop .map) (c .before .before .before .before .before .before .before .before .before .before .before .before .before .loop .inv) (c .before .before .before .before .before .before .before .before .before .before .before .before .loop-test .taken) string (text-kid (A .n) (c .before .before .before .before .before .before .before .before .before .before .before .before .before .loop .i) (c .before .before .before .before .before .before .before .before .before .before .before .before .loop-test .taken)) (sym (c .before .before .before .before .before .before .before .before .before .before .before .is-null .ensures) ∙ c .before .before .before .before .before .before .before .before .before .before .if1 .left) (c .before .before .before .before .before .before .before .before .before .get8 .result) (c .before .before .before .before .before .before .before .before .before .get8 .ensures) (c .before .before .before .before .before .before .before .before .slot-offset .result) (c .before .before .before .before .before .before .before .before .slot-offset .ensures) (c .before .before .before .before .before .before .before .slot-size .result) (c .before .before .before .before .before .before .before .slot-size .ensures) (c .before .before .before .before .before .before .before .before .slot-offset .result + c .before .before .before .before .before .before .before .slot-size .result) (c .before .before .before .before .before .before .pad-size .result) refl (c .before .before .before .before .before .before .pad-size .ensures) (c .before .before .before .before .place .result) (c .before .before .before .before .place .ensures .0) (not-false _ (c .before .before .if2 .left)) _ (c .before .before .before .before .place .ensures .1) (text-fine _) (c .before .pad-clear .result) (c .before .pad-clear .ensures) (not-false _ (c .if3 .left))
+loop-again-2 c = any-known (stood (c .before)) (c .if3 .taken)
+
+pad-clear-requires : tie.Need-pad-clear-requires Inv-loop μ-loop
+pad-clear-requires c κs = stood-pad (stood (c .before))
+
+returns-2 : tie.Need-returns-2 Inv-loop μ-loop
+returns-2 c = any-unpadded (stood (c .before .before .before)) (c .before .pad-clear .ensures) (c .if4 .taken)
+
+sub-sum-2 : tie.Need-sub-sum-2 Inv-loop μ-loop
+sub-sum-2 c = stood-order (stood (c .before .before .before))
+
+add-sum-2 : tie.Need-add-sum-2 Inv-loop μ-loop
+add-sum-2 c = stood-sum (stood (c .before .before .before))
+
+add-slot-3 : tie.Need-add-slot-3 Inv-loop μ-loop
+add-slot-3 c = stood-slot-on (stood (c .before .before .before))
+
+add-i-3 : tie.Need-add-i-3 Inv-loop μ-loop
+add-i-3 c = stood-on (stood (c .before .before .before))
+
+loop-less-3 : tie.Need-loop-less-3 Inv-loop μ-loop
+loop-less-3 c = stood-less (stood (c .before .before .before))
+
+loop-again-3 : tie.Need-loop-again-3 Inv-loop μ-loop
+loop-again-3 c = any-next (stood (c .before .before .before)) (text-sound _) (c .before .pad-clear .ensures) (c .if4 .left)
 
 returns-3 : tie.Need-returns-3 Inv-loop μ-loop
-returns-3 c = let A = c .before .before .before .args in let B = A .b .now in let D = texts-slots B (A .n) (A .slots) (A .start) (c .before .before .before .pre) (bytes-of B (λ i. c .before .before .shared-slice-known .given i .fits)) in any-end 8 (texts (A .n)) B (A .n) (A .slots) (A .start) D (c .before .loop .i) (c .before .loop .slot) (c .before .loop .sum) (c .before .loop .map) (c .before .loop .inv) (omega arith)
+returns-3 c = any-end (c .before .loop .inv) (c .loop-test .left)
 
 pub any-texts-spec : {M : Type 1} → statement M
 any-texts-spec =
@@ -107,12 +170,18 @@ any-texts-spec =
     slice-aggregate-place
     place-requires
     returns
-    pad-clear-requires
-    returns-2
     sub-sum
     add-sum
     add-slot-2
     add-i-2
     loop-less-2
     loop-again-2
+    pad-clear-requires
+    returns-2
+    sub-sum-2
+    add-sum-2
+    add-slot-3
+    add-i-3
+    loop-less-3
+    loop-again-3
     returns-3)

@@ -1,33 +1,46 @@
 -- `checking::lists::full_texts` meets its contract: before element i, what is left leads to the same end. Assumes nothing.
-use mathlib.Core.Path.{_≡_, refl, sym, _∙_}
-use Prim.Native.Nat.{_+_, _-_}
-use native.Mathlib.Omega.{arith}
-use borrow.Author.Tests.{not-true, not-false}
+use mathlib.Core.Path.{sym, _∙_}
+use Prim.Native.Nat.{_-_}
 use Rattle.words.proofs.Numbers.{bytes-of}
-use Rattle.layout.specs.Layout.{string}
+use Rattle.schema.specs.Types.{text, st}
 use Rattle.checking.specs.Room.{texts}
-use Rattle.checking.proofs.Loops.{At, at-start, at-end, slot-room, bit-room, at-null, at-long, at-unpadded, at-next}
-use Rattle.checking.proofs.Leaves.{texts-slots, text-kid, text-fine}
+use Rattle.checking.proofs.Cursor.{
+  AtCursor,
+  Here,
+  order-start,
+  order-end,
+  order-stop,
+  order-fits,
+  order-slot,
+  here-slot-on,
+  here-on,
+  here-less,
+  here-long,
+  here-pad,
+  here-unpadded,
+  here-next,
+}
+use Rattle.checking.proofs.Leaves.{texts-slots, text-outside, text-varies, text-sound}
 use Rattle.checking.proofs.lists.full_texts.Statement.{statement}
 use Rattle.checking.proofs.lists.full_texts.Tie as tie
 
 abbrev Inv-loop : tie.InvT-loop
-Inv-loop b n slots start i₀ slot₀ cur₀ i slot cur = At 8 (texts n) b n slots start i slot cur
+Inv-loop b n slots start i₀ slot₀ cur₀ i slot cur = AtCursor 8 (λ _. text st) (texts n) b n slots start i slot cur
 
 abbrev μ-loop : tie.MeasureT-loop
 μ-loop b n slots start i₀ slot₀ cur₀ i slot cur = n - i
 
 loop-holds : tie.Need-loop-holds Inv-loop μ-loop
-loop-holds c = let A = c .before .args in let B = c .before .args .b .now in let D = texts-slots B (A .n) (A .slots) (A .start) (c .before .pre .0) (bytes-of B (λ i. c .shared-slice-known .given i .fits)) in at-start 8 (texts (A .n)) B (A .n) (A .slots) (A .start) D
+loop-holds c = order-start (texts-slots _ _ _ _ (c .before .pre .0) (bytes-of _ (λ i. c .shared-slice-known .given i .fits)))
 
 get8-requires : tie.Need-get8-requires Inv-loop μ-loop
-get8-requires c κs = let A = c .before .before .before .args in let B = c .before .before .before .args .b .now in let D = texts-slots B (A .n) (A .slots) (A .start) (c .before .before .before .pre .0) (bytes-of B (λ i. c .before .before .shared-slice-known .given i .fits)) in omega (arith, slot-room 8 (texts (A .n)) B (A .n) (A .slots) (A .start) D (c .before .loop .i) (c .before .loop .slot) (c .before .loop .cur) (c .before .loop .inv) (c .loop-test .taken), D .room)
+get8-requires c κs = order-slot (c .before .loop .inv) (c .loop-test .taken)
 
 slot-offset-requires : tie.Need-slot-offset-requires Inv-loop μ-loop
 slot-offset-requires c κs = tt
 
 any-texts-requires : tie.Need-any-texts-requires Inv-loop μ-loop
-any-texts-requires c κs = c .before .before .before .before .before .before .pre .0
+any-texts-requires c κs = (c .before .before .before .before .before .before .pre .0, c .before .before .before .before .loop .inv .known)
 
 returns : tie.Need-returns Inv-loop μ-loop
 returns c = c .any-texts .ensures
@@ -36,34 +49,49 @@ slot-size-requires : tie.Need-slot-size-requires Inv-loop μ-loop
 slot-size-requires c κs = tt
 
 add-end : tie.Need-add-end Inv-loop μ-loop
-add-end c = let p = c .before .before .before .before .before .loop .inv in omega (arith, p .high, c .slot-size .ensures, (c .before .before .before .before .before .before .before .pre .0) .small)
+add-end c = order-fits (c .before .before .before .before .before .loop .inv) (c .before .before .before .get8 .ensures) (c .slot-size .ensures)
 
 pad-size-requires : tie.Need-pad-size-requires Inv-loop μ-loop
-pad-size-requires c κs = let p = c .before .before .before .before .before .loop .inv in omega (arith, p .high, c .slot-size .ensures, (c .before .before .before .before .before .before .before .pre .0) .small)
+pad-size-requires c κs = order-stop (c .before .before .before .before .before .loop .inv) (c .before .before .before .get8 .ensures) (c .slot-size .ensures)
+
+-- what the slot of the string says
+here : (c : tie.After-pad-size Inv-loop μ-loop)
+    → Here (c .before .before .before .before .before .before .loop .inv) (c .before .slot-size .result) (c .pad-size .result)
+here c = record {
+  less = c .before .before .before .before .before .loop-test .taken;
+  kid = text-outside _ _ (c .before .before .before .before .before .loop-test .taken);
+  varies = text-varies;
+  here = c .before .before .before .before .before .before .before .before .pre .1 .none _ (c .before .before .before .before .before .loop-test .taken);
+  number = c .before .before .before .before .get8 .result;
+  reads = c .before .before .before .before .get8 .ensures;
+  from = sym (c .before .before .if1 .left) ∙ c .before .before .before .slot-offset .ensures;
+  size = c .before .slot-size .ensures;
+  to = c .pad-size .ensures;
+}
 
 returns-2 : tie.Need-returns-2 Inv-loop μ-loop
-returns-2 c = let A = c .before .before .before .before .before .before .before .before .before .args in let B = c .before .before .before .before .before .before .before .before .before .args .b .now in let D = texts-slots B (A .n) (A .slots) (A .start) (c .before .before .before .before .before .before .before .before .before .pre .0) (bytes-of B (λ i. c .before .before .before .before .before .before .before .before .shared-slice-known .given i .fits)) in at-long 8 (texts (A .n)) B (A .n) (A .slots) (A .start) D (c .before .before .before .before .before .before .before .loop .i) (c .before .before .before .before .before .before .before .loop .slot) (c .before .before .before .before .before .before .before .loop .cur) (c .before .before .before .before .before .before .before .loop .inv) (c .before .before .before .before .before .before .loop-test .taken) string (text-kid (A .n) (c .before .before .before .before .before .before .before .loop .i) (c .before .before .before .before .before .before .loop-test .taken)) (c .before .before .before .before .before .before .before .before .before .pre .1 .none (c .before .before .before .before .before .before .before .loop .i) (c .before .before .before .before .before .before .loop-test .taken)) (c .before .before .before .before .before .get8 .result) (c .before .before .before .before .before .get8 .ensures) (c .before .before .before .before .slot-offset .result) (c .before .before .before .before .slot-offset .ensures) (c .before .before .before .if1 .left) (c .before .before .slot-size .result) (c .before .before .slot-size .ensures) (c .before .before .before .before .before .before .before .loop .cur + c .before .before .slot-size .result) (c .before .pad-size .result) refl (c .before .pad-size .ensures) (c .if2 .taken)
+returns-2 c = here-long (here (c .before)) (c .if2 .taken)
 
 pad-clear-requires : tie.Need-pad-clear-requires Inv-loop μ-loop
-pad-clear-requires c κs = let A = c .before .before .before .before .before .before .before .before .before .args in let B = c .before .before .before .before .before .before .before .before .before .args .b .now in let D = texts-slots B (A .n) (A .slots) (A .start) (c .before .before .before .before .before .before .before .before .before .pre .0) (bytes-of B (λ i. c .before .before .before .before .before .before .before .before .shared-slice-known .given i .fits)) in let p = c .before .before .before .before .before .before .before .loop .inv in (omega (arith, p .low, D .data₀, D .map, c .before .pad-size .ensures), omega arith, omega (arith, p .high, c .before .before .slot-size .ensures, D .small), c .before .pad-size .ensures)
+pad-clear-requires c κs = here-pad (here (c .before)) (c .if2 .left)
 
 returns-3 : tie.Need-returns-3 Inv-loop μ-loop
-returns-3 c = let A = c .before .before .before .before .before .before .before .before .before .before .before .args in let B = c .before .before .before .before .before .before .before .before .before .before .before .args .b .now in let D = texts-slots B (A .n) (A .slots) (A .start) (c .before .before .before .before .before .before .before .before .before .before .before .pre .0) (bytes-of B (λ i. c .before .before .before .before .before .before .before .before .before .before .shared-slice-known .given i .fits)) in at-unpadded 8 (texts (A .n)) B (A .n) (A .slots) (A .start) D (c .before .before .before .before .before .before .before .before .before .loop .i) (c .before .before .before .before .before .before .before .before .before .loop .slot) (c .before .before .before .before .before .before .before .before .before .loop .cur) (c .before .before .before .before .before .before .before .before .before .loop .inv) (c .before .before .before .before .before .before .before .before .loop-test .taken) string (text-kid (A .n) (c .before .before .before .before .before .before .before .before .before .loop .i) (c .before .before .before .before .before .before .before .before .loop-test .taken)) (c .before .before .before .before .before .before .before .before .before .before .before .pre .1 .none (c .before .before .before .before .before .before .before .before .before .loop .i) (c .before .before .before .before .before .before .before .before .loop-test .taken)) (c .before .before .before .before .before .before .before .get8 .result) (c .before .before .before .before .before .before .before .get8 .ensures) (c .before .before .before .before .before .before .slot-offset .result) (c .before .before .before .before .before .before .slot-offset .ensures) (c .before .before .before .before .before .if1 .left) (c .before .before .before .before .slot-size .result) (c .before .before .before .before .slot-size .ensures) (c .before .before .before .before .before .before .before .before .before .loop .cur + c .before .before .before .before .slot-size .result) (c .before .before .before .pad-size .result) refl (c .before .before .before .pad-size .ensures) (omega arith) (c .before .pad-clear .result) (c .before .pad-clear .ensures) (not-true _ (c .if3 .taken))
+returns-3 c = here-unpadded (here (c .before .before .before)) (c .before .before .if2 .left) (c .before .pad-clear .ensures) (c .if3 .taken)
 
 add-slot : tie.Need-add-slot Inv-loop μ-loop
-add-slot c = let r = c .before .before .before .before .before .before .before .before .before .loop .inv in let A = c .before .before .before .before .before .before .before .before .before .before .before .args in let p = c .before .before .before .before .before .before .before .before .before .before .before .pre .0 in omega (arith, r .slot-is, p .elements, p .room, p .small)
+add-slot c = here-slot-on (here (c .before .before .before))
 
 add-i : tie.Need-add-i Inv-loop μ-loop
-add-i c = omega arith
+add-i c = here-on (here (c .before .before .before))
 
 loop-less : tie.Need-loop-less Inv-loop μ-loop
-loop-less c = omega arith
+loop-less c = here-less (here (c .before .before .before))
 
 loop-again : tie.Need-loop-again Inv-loop μ-loop
-loop-again c = let A = c .before .before .before .before .before .before .before .before .before .before .before .args in let B = c .before .before .before .before .before .before .before .before .before .before .before .args .b .now in let D = texts-slots B (A .n) (A .slots) (A .start) (c .before .before .before .before .before .before .before .before .before .before .before .pre .0) (bytes-of B (λ i. c .before .before .before .before .before .before .before .before .before .before .shared-slice-known .given i .fits)) in at-next 8 (texts (A .n)) B (A .n) (A .slots) (A .start) D (c .before .before .before .before .before .before .before .before .before .loop .i) (c .before .before .before .before .before .before .before .before .before .loop .slot) (c .before .before .before .before .before .before .before .before .before .loop .cur) (c .before .before .before .before .before .before .before .before .before .loop .inv) (c .before .before .before .before .before .before .before .before .loop-test .taken) string (text-kid (A .n) (c .before .before .before .before .before .before .before .before .before .loop .i) (c .before .before .before .before .before .before .before .before .loop-test .taken)) (c .before .before .before .before .before .before .before .before .before .before .before .pre .1 .none (c .before .before .before .before .before .before .before .before .before .loop .i) (c .before .before .before .before .before .before .before .before .loop-test .taken)) (c .before .before .before .before .before .before .before .get8 .result) (c .before .before .before .before .before .before .before .get8 .ensures) (c .before .before .before .before .before .before .slot-offset .result) (c .before .before .before .before .before .before .slot-offset .ensures) (c .before .before .before .before .before .if1 .left) (c .before .before .before .before .slot-size .result) (c .before .before .before .before .slot-size .ensures) (c .before .before .before .before .before .before .before .before .before .loop .cur + c .before .before .before .before .slot-size .result) (c .before .before .before .pad-size .result) refl (c .before .before .before .pad-size .ensures) (omega arith) (text-fine _) (c .before .pad-clear .result) (c .before .pad-clear .ensures) (not-false _ (c .if3 .left))
+loop-again c = here-next (here (c .before .before .before)) (c .before .before .if2 .left) (text-sound _) (c .before .pad-clear .ensures) (c .if3 .left)
 
 returns-4 : tie.Need-returns-4 Inv-loop μ-loop
-returns-4 c = let A = c .before .before .before .args in let B = c .before .before .before .args .b .now in let D = texts-slots B (A .n) (A .slots) (A .start) (c .before .before .before .pre .0) (bytes-of B (λ i. c .before .before .shared-slice-known .given i .fits)) in at-end 8 (texts (A .n)) B (A .n) (A .slots) (A .start) D (c .before .loop .i) (c .before .loop .slot) (c .before .loop .cur) (c .before .loop .inv) (omega arith)
+returns-4 c = order-end (c .before .loop .inv) (c .loop-test .left)
 
 pub full-texts-spec : {M : Type 1} → statement M
 full-texts-spec =

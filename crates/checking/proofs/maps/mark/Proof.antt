@@ -1,10 +1,9 @@
 -- `checking::maps::mark` meets its contract: marking what is left marks all. Assumes nothing.
-use mathlib.Core.Path.{_≡_, refl, sym, ap, _∙_}
-use Prim.Native.Nat.{_+_, _-_, _≤_}
+use mathlib.Core.Path.{_≡_, refl, sym, _∙_}
+use Prim.Native.Nat.{_-_, _≤_}
 use native.Mathlib.Omega.{arith}
 use lib.ListN.{length}
 use Rattle.checking.specs.Maps.{marked}
-use Rattle.words.proofs.BitLaws.{length-put}
 use Rattle.checking.proofs.Marks.{marked-step, marked-end}
 use Rattle.checking.proofs.maps.mark.Statement.{statement}
 use Rattle.checking.proofs.maps.mark.Tie as tie
@@ -28,13 +27,20 @@ loop-less : tie.Need-loop-less Inv-loop μ-loop
 loop-less c = omega arith
 
 loop-again : tie.Need-loop-again Inv-loop μ-loop
-loop-again c = let a = c .before .before .before .before .before .before .before .args in let v = c .before .before .before .before .before .loop .inv in let l = c .before .before .before .before .before .loop in (omega (arith, v .0), omega arith, c .before .before .set-null .kept .0 ∙ v .2, rw (c .before .before .set-null .ensures) (sym (marked-step (l .m) (a .at) (l .q) (a .b) (c .before .before .before .before .loop-test .taken))) ∙ v .3)
+loop-again c = let a = c .before .before .before .before .before .before .before .args in let v = c .before .before .before .before .before .loop .inv in
+    let l = c .before .before .before .before .before .loop in (
+      omega (arith, v .0),
+      omega arith,
+      c .before .before .set-null .kept .0 ∙ v .2,
+      rw (c .before .before .set-null .ensures) (sym (marked-step (l .m) (a .at) (l .q) (a .b) (c .before .before .before .before .loop-test .taken))) ∙ v .3,
+    )
 
 same-length : tie.Need-same-length Inv-loop μ-loop
 same-length c = c .before .loop .inv .2
 
 returns : tie.Need-returns Inv-loop μ-loop
-returns c = let a = c .before .before .before .args in let v = c .before .loop .inv in sym (marked-end (c .before .loop .m) (a .at) (c .before .loop .q) (a .b) (omega arith)) ∙ v .3
+returns c = let a = c .before .before .before .args in let v = c .before .loop .inv in sym
+    (marked-end (c .before .loop .m) (a .at) (c .before .loop .q) (a .b) (omega arith)) ∙ v .3
 
 pub mark-spec : {M : Type 1} → statement M
 mark-spec =
