@@ -4,7 +4,8 @@
  * is lent. Every function takes any bytes of any length and ends with a result or a numbered refusal, and a refusal alters no byte of a
  * row, a batch or an output.
  *
- * Each answers one number: the refusal's number in the upper half, 0 there for done, and a length in the lower half. */
+ * Each answers one number: the refusal's number in the upper half, 0 there for done, and in the lower half a length, or for 7 the
+ * place of the first fault, counted from the row's first byte. */
 #ifndef LOAFCOMPASS_H
 #define LOAFCOMPASS_H
 
@@ -23,7 +24,7 @@ enum loaf_refusal {
     LOAF_ROOM = 4,        /* the output is too small; the length is the length needed */
     LOAF_NO_PLACE = 5,    /* there is no such place */
     LOAF_NULL_BEFORE = 6, /* a null stands before the path's end */
-    LOAF_LAYOUT = 7,      /* the row breaks the layout */
+    LOAF_LAYOUT = 7,      /* the row breaks the layout; the place says where */
     LOAF_UNFIT = 8,       /* the value does not fit the place */
     LOAF_RESIZE = 9,      /* the value would change the place's size, or the nullness of a string or binary */
     LOAF_BATCH = 10       /* the batch ends inside a size or a row */
@@ -31,6 +32,7 @@ enum loaf_refusal {
 
 static inline uint32_t loaf_number(uint64_t answer) { return (uint32_t)(answer >> 32); }
 static inline uint32_t loaf_length(uint64_t answer) { return (uint32_t)answer; }
+static inline uint32_t loaf_place(uint64_t answer) { return (uint32_t)answer; }
 
 /* Whether the bytes are a schema: done, or 1. */
 uint64_t loaf_judge(const uint8_t *schema, size_t schema_length);
@@ -58,7 +60,7 @@ uint64_t loaf_set(const uint8_t *schema, size_t schema_length, uint8_t *row, siz
 
 /* Batches: frames back to back, each a row's size as 4 bytes, big endian, and the row. Rows count from 0, and a row's range is its own bytes,
  * without its size. A batch may be of any length, so what could be over 32 bits stands in words lent beside the code, and the lower half of
- * the code is 0 but where a line below says otherwise. */
+ * the code is 0 but for the place of a 7, which counts from that row's own first byte, and where a line below says otherwise. */
 
 /* How many rows the batch has, in answer[0]: done, or 10, and 4 with the length 1 if no word is lent. */
 uint64_t loaf_batch_count(const uint8_t *batch, size_t batch_length, uint64_t *answer, size_t answer_length);

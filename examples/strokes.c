@@ -15,7 +15,8 @@ static uint8_t row[256];
 static size_t length;
 
 static void say(const char *what, uint64_t answer) {
-    if (loaf_number(answer)) printf("%s: refused %" PRIu32 "\n", what, loaf_number(answer));
+    if (loaf_number(answer) == LOAF_LAYOUT) printf("%s: refused 7, at byte %" PRIu32 "\n", what, loaf_place(answer));
+    else if (loaf_number(answer)) printf("%s: refused %" PRIu32 "\n", what, loaf_number(answer));
     else printf("%s: done, length %" PRIu32 "\n", what, loaf_length(answer));
 }
 

@@ -1,9 +1,9 @@
 #!/usr/bin/env python3
-"""Makes the stored runs, NAME.in and NAME.out, or NAME.batch, NAME.out and
-NAME.err where something is said, and the rows of examples/.
+"""Makes the stored runs, NAME.in or NAME.batch, NAME.out, and NAME.err where
+something is said, and the rows of examples/.
 
-Inputs come from the second program's writer. The expected lines are typed
-here, from the document; the second program's card must say the same.
+Inputs come from the second program's writer. The expected lines and places are
+typed here, from the document; the second program's card must say the same.
 """
 
 import os
@@ -40,17 +40,28 @@ def write(folder, name, data):
         file.write(data)
 
 
-def store(folder, name, data, lines):
+def store(folder, name, data, lines, said=''):
     """Writes the input, and answers its card."""
     want = ''.join(line + '\n' for line in lines)
-    assert second.card(data) == want, name
+    assert second.card(data) == (want, said), name
     write(folder, name, data)
     return want
 
 
-def run(name, data, *lines):
-    want = store(HERE, name + '.in', data, lines)
+def run(name, data, *lines, said=''):
+    want = store(HERE, name + '.in', data, lines, said)
     write(HERE, name + '.out', want.encode())
+    if said:
+        write(HERE, name + '.err', said.encode())
+
+
+def broken(place):
+    """What is said of a row whose first fault is at this byte."""
+    return 'the row is broken at byte %d\n' % place
+
+
+def broken_run(name, schema, row, place):
+    run(name, whole(schema, row), 'refused 7', said=broken(place))
 
 
 def row(name, schema, cells, *lines):
@@ -158,9 +169,9 @@ run('every_level_reversed',
     '2 st 53544b505752545048')
 
 # The second string, of nine bytes, stands first; the other leaves eight bytes free behind it, or stands in its last eight.
-for name, first_at, behind in (('reversed_with_a_gap', 48, bytes(8) + b'STK' + bytes(5)), ('reversed_and_crossed', 32, b'')):
-    run(name, whole(b'ro\x02stst', bytes(8) + n(first_at << 32 | 3, 8) + n(24 << 32 | 9, 8)
-                    + b'PWRPWRPWR' + bytes(7) + behind), 'refused 7')
+# The gap is the row's, told at 0; of the two that cross the later field is wrong, though it stands first.
+for name, first_at, behind, place in (('reversed_with_a_gap', 48, bytes(8) + b'STK' + bytes(5), 0), ('reversed_and_crossed', 32, b'', 16)):
+    broken_run(name, b'ro\x02stst', bytes(8) + n(first_at << 32 | 3, 8) + n(24 << 32 | 9, 8) + b'PWRPWRPWR' + bytes(7) + behind, place)
 
 # --- Refusals -------------------------------------------------------------------
 
@@ -170,14 +181,21 @@ run('no_schema', b'\x00\x00', 'refused 1')
 run('short_of_schema', b'\x07\x00ro\x02i4i', 'refused 1')
 run('bad_schema', whole(b'ro\x02i4', bytes(24)), 'refused 1')
 run('root_not_struct', whole(b'lii4', bytes(8)), 'refused 1')
-run('no_row', whole(b'ro\x02i4i8', b''), 'refused 7')
-run('bool_two', whole(b'ro\x01bo', bytes(8) + n(2, 8)), 'refused 7')
+broken_run('no_row', b'ro\x02i4i8', b'', 0)
+broken_run('bool_two', b'ro\x01bo', bytes(8) + n(2, 8), 8)
 
 TWO_TEXTS = row_of(b'ro\x02stst', [b'STK', b'PWR'])
-run('case_h', whole(b'ro\x02stst', TWO_TEXTS[:16] + n(24 << 32 | 3, 8) + TWO_TEXTS[24:]), 'refused 7')
+broken_run('case_h', b'ro\x02stst', TWO_TEXTS[:16] + n(24 << 32 | 3, 8) + TWO_TEXTS[24:], 16)
 
 # The first field is sound, and no line of it is printed before the second is found broken.
-run('late_fault', whole(b'ro\x02i8st', bytes(8) + n(1, 8) + n(24 << 32 | 3, 8) + b'STK\0\0\0\0\x01'), 'refused 7')
+broken_run('late_fault', b'ro\x02i8st', bytes(8) + n(1, 8) + n(24 << 32 | 3, 8) + b'STK\0\0\0\0\x01', 31)
+
+# The map has no byte for its values array, which would stand where the row ends.
+broken_run('no_values', b'ro\x01mai8i8', bytes(8) + n(16 << 32 | 16, 8) + n(8, 8) + n(0, 8), 32)
+
+# The bool that is deep in field 0 is told, and not the slot of field 1 before it, which points nowhere.
+broken_run('deep_fault', b'ro\x02liro\x01bost',
+           bytes(8) + n(24 << 32 | 40, 8) + n(0, 8) + n(1, 8) + bytes(8) + n(24 << 32 | 16, 8) + bytes(8) + n(2, 8), 56)
 
 # --- Batches ----------------------------------------------------------------------
 
@@ -212,14 +230,15 @@ batch_run('batch_three_rows', PAIR, frame(FIRST) + frame(OTHER) + frame(FIRST),
           'row 1', '0 i4 7', '1 i8 1',
           'row 2', '0 i4 -2', '1 i8 null')
 batch_run('batch_row_of_no_lines', b'ro\x01list', frame(row_of(b'ro\x01list', [[]])) * 2, 'row 0', 'row 1')
-batch_run('batch_refused_row', PAIR, frame(FIRST) + frame(BROKEN) + frame(FIRST), 'refused 7', said='row 1 of the batch is refused\n')
+batch_run('batch_refused_row', PAIR, frame(FIRST) + frame(BROKEN) + frame(FIRST), 'refused 7',
+          said='row 1 of the batch is broken at byte 12\n')
 
 # 10 is the whole batch's, and comes before a row's own refusal.
 batch_run('batch_ends_in_a_row', PAIR, frame(BROKEN) + frame(FIRST)[:-1], 'refused 10')
 batch_run('batch_ends_in_a_size', PAIR, frame(FIRST) + b'\0\0\0', 'refused 10')
 batch_run('batch_size_little_endian', PAIR, n(24, 4) + FIRST, 'refused 10')
 batch_run('batch_size_all_ones', PAIR, b'\xFF' * 4 + FIRST, 'refused 10')
-batch_run('batch_row_of_no_bytes', PAIR, bytes(4), 'refused 7', said='row 0 of the batch is refused\n')
+batch_run('batch_row_of_no_bytes', PAIR, bytes(4), 'refused 7', said='row 0 of the batch is broken at byte 0\n')
 batch_run('batch_bad_schema', b'ro\x02i4', frame(BROKEN)[:-1], 'refused 1')
 
 for name, data in (('batch_no_input', b''), ('batch_one_byte', b'\x07'), ('batch_short_of_schema', b'\x07\x00ro\x02i4i')):
@@ -231,8 +250,8 @@ STROKES = b'ro\x02' + b'ro\x02i4i4' * 2
 SOUND = row_of(STROKES, [[i4(1000), i4(5)], [i4(1001), i4(7)]])
 store(EXAMPLES, 'sound.card', whole(STROKES, SOUND), ['0.0 i4 1000', '0.1 i4 5', '1.0 i4 1001', '1.1 i4 7'])
 
-# The March accident: both slots point at the one stroke that there is.
-store(EXAMPLES, 'march.card', whole(STROKES, SOUND[:16] + SOUND[8:16] + SOUND[24:48]), ['refused 7'])
+# The March accident: both slots point at the one stroke that there is, and the second slot, at 16, is told.
+store(EXAMPLES, 'march.card', whole(STROKES, SOUND[:16] + SOUND[8:16] + SOUND[24:48]), ['refused 7'], broken(16))
 
 # Three rows of the stroke log, in one batch.
 SECOND = row_of(STROKES, [[i4(1250), i4(18)], Null(bytes(8))])

@@ -57,13 +57,13 @@ def row_text(schema, row):
 
 
 def card(data):
-    """What the tool prints for this input."""
+    """What the tool prints for this input, and what it says of a row that breaks the layout."""
     try:
         schema, row = parts(data)
         rows.check(schema, row)
     except Refused as refused:
-        return 'refused %d\n' % refused.number
-    return row_text(schema, row)
+        return 'refused %d\n' % refused.number, 'the row is broken at byte %d\n' % refused.place if refused.number == 7 else ''
+    return row_text(schema, row), ''
 
 
 # --- Batches --------------------------------------------------------------------
@@ -74,7 +74,8 @@ def cards(data):
         schema, batch = parts(data)
         batches.check(schema, batch)
     except batches.RowRefused as refused:
-        return 'refused %d\n' % refused.number, 'row %d of the batch is refused\n' % refused.row
+        how = 'broken at byte %d' % refused.place if refused.number == 7 else 'refused'
+        return 'refused %d\n' % refused.number, 'row %d of the batch is %s\n' % (refused.row, how)
     except Refused as refused:
         return 'refused %d\n' % refused.number, ''
     return ''.join('row %d\n%s' % (k, row_text(schema, row)) for k, row in enumerate(batches.framed(batch))), ''
@@ -139,7 +140,7 @@ def main():
     parser.add_argument('program', nargs='+')
     options = parser.parse_args()
     for name, inputs, count, program, expected in (
-            ('row', checked_rows(options.seed, options.count), options.count, options.program, lambda data: (card(data), '')),
+            ('row', checked_rows(options.seed, options.count), options.count, options.program, card),
             ('batch', random_batches(options.seed, options.batches), options.batches, options.program + ['--batch'], cards)):
         accepted = compare('seed %d, %s' % (options.seed, name), inputs, program, expected)
         if accepted is None:

@@ -88,7 +88,8 @@ def hex_or_dash(data):
 
 
 def refusal(r):
-    return 'refused %d %d' % (r.number, r.length)
+    """The number, and the length that 4 carries or the place that 7 carries, else 0."""
+    return 'refused %d %d' % (r.number, r.place if r.number == 7 else r.length)
 
 
 def output_line(call, req):

@@ -6,7 +6,8 @@
 
 The judges of each row are the reading that tries all orders, the one that
 sorts, and the library.  Of most rows it is also known from how they were made
-whether they are sound.
+whether they are sound, and of some broken ones where, by the account that lists
+all faults.
 """
 
 import pathlib
@@ -14,6 +15,7 @@ import sys
 
 import all_orders
 import answers
+import faults
 import layouts
 import long_rows
 import order_rows
@@ -25,6 +27,9 @@ from trees import plain, replaced, tree_values
 
 # Requests in one run of the driver.
 TOGETHER = 20000
+
+# Of every so many broken rows all faults are listed, which is slow.
+LISTED_EVERY = 9
 
 
 class Comparison:
@@ -65,6 +70,14 @@ def judged(comparison, schema, row, sound, where):
         differ('%s, sound is %s, all orders say otherwise' % (where, sound), schema, row)
     sorted_and_driven(comparison, schema, row, by_all_orders, where)
     return by_all_orders
+
+
+def place_listed(schema, row, where):
+    """The line of a check, which the library is held to, has the place that comes first of all faults."""
+    place = faults.place(judge(schema), row)
+    line = answers.answer(request('c', schema, row))
+    if line != ('done' if place is None else 'refused 7 %d' % place):
+        differ('%s, listing all faults says %s, sorting %s' % (where, place, line), schema, row)
 
 
 def sorted_and_driven(comparison, schema, row, sound, where):
@@ -149,6 +162,8 @@ def all_rows(comparison, shape, cells, tally):
             tally['broken'] += 1
             where = 'a row broken at one place'
             tally['sound'] += judged(comparison, schema, broken, sound, where)
+            if tally['broken'] % LISTED_EVERY == 0:
+                place_listed(schema, broken, where)
 
 
 def long_ones(comparison):

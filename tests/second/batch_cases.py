@@ -17,7 +17,8 @@ SETTINGS = ((5, b'TPH', 20, b'TPH'), (5, b'', 48, b''), (0, b'', 60, ZEROS))
 # A check refuses these two; a read of the string refuses only the second.
 PADDING_ROW = C_ROW[:-1] + b'\x01'
 SLOT_ROW = I_ROW_9
-BROKEN = (PADDING_ROW, SLOT_ROW, C_ROW[:-8], b'')
+# Rows that break the layout, each with its place.
+BROKEN = ((PADDING_ROW, 23), (SLOT_ROW, 8), (C_ROW[:-8], 8), (b'', 0))
 
 LIMIT_ROW = ZEROS + u(16368, 4) + u(16, 4) + b'x' * 16368
 LONG_ROW = LIMIT_ROW + b'\0'
@@ -57,9 +58,9 @@ def refused_frames(cases, name, batch, schema=C_SCHEMA):
             cases.state(name, appending(batch, row, room, schema), '%s %s' % (line, fill(batch, room)))
 
 
-def refused_rows(cases, name, batch, k, number, schema=C_SCHEMA):
-    """Row k's own refusal, of every op that checks it."""
-    line = 'refused %d 0' % number
+def refused_rows(cases, name, batch, k, number, place=0, schema=C_SCHEMA):
+    """Row k's own refusal, of every op that checks it; a place counts from that row's first byte."""
+    line = 'refused %d %d' % (number, place)
     cases.state(name, request('k', schema, batch), '%s row %d' % (line, k))
     cases.state(name, in_row('f', schema, batch, k), line)
     cases.state(name, in_row('z', schema, batch, k, kind=6), '%s %s' % (line, batch.hex()))
@@ -216,7 +217,7 @@ def row_numbers(cases):
                     'done ' + written_over(many, 20 * k + 12, u(700, 2)).hex())
         # The rest of a slot is not zero.
         wrong = written_over(many, 20 * k + 19, b'\x01')
-        cases.state('many', request('k', schema, wrong), 'refused 7 0 row %d' % k)
+        cases.state('many', request('k', schema, wrong), 'refused 7 15 row %d' % k)
     cases.state('many', in_row('f', schema, many, 600), 'refused 5 0')
     cases.state('many', request('n', b'', bytes(70000)), 'count 17500')
     cases.state('many', in_row('f', schema, bytes(70000), 17499), 'refused 7 0')
@@ -232,8 +233,8 @@ def rooms(cases):
     cases.state('used over', appending(THREE, LONG_ROW, 0), 'refused 10 0 -')
     for room in range(len(THREE), len(THREE) + 28):
         cases.state('room', appending(THREE, C_ROW, room), 'refused 4 96 ' + fill(THREE, room))
-        for row in BROKEN:
-            cases.state('room', appending(THREE, row, room), 'refused 7 0 ' + fill(THREE, room))
+        for row, place in BROKEN:
+            cases.state('room', appending(THREE, row, room), 'refused 7 %d %s' % (place, fill(THREE, room)))
     after = THREE + bytes.fromhex('00000018') + C_ROW
     for room in range(96, 130):
         cases.state('room', appending(THREE, C_ROW, room), 'done 96 ' + fill(after, room))

@@ -21,11 +21,11 @@ def orders(cases):
             cases.state('5 first', in_row('g', C_SCHEMA, batch, k), 'refused 5 0')
             cases.state('5 first', in_row('z', C_SCHEMA, batch, k, kind=6), 'refused 5 0 ' + batch.hex())
     # Rows in turn: the earlier row's 7 before the later one's 3, and the other way round.
-    for first, number in ((frame(PADDING_ROW), 7), (LONG_FRAME, 3)):
+    for first, number, place in ((frame(PADDING_ROW), 7, 23), (LONG_FRAME, 3, 0)):
         for second in (frame(PADDING_ROW), LONG_FRAME, frame(b''), THREE):
-            cases.state('in turn', request('k', C_SCHEMA, first + second), 'refused %d 0 row 0' % number)
-            cases.state('in turn', request('k', C_SCHEMA, THREE + first + second), 'refused %d 0 row 3' % number)
-            refused_rows(cases, 'in turn', THREE[:28] + first + second, 1, number)
+            cases.state('in turn', request('k', C_SCHEMA, first + second), 'refused %d %d row 0' % (number, place))
+            cases.state('in turn', request('k', C_SCHEMA, THREE + first + second), 'refused %d %d row 3' % (number, place))
+            refused_rows(cases, 'in turn', THREE[:28] + first + second, 1, number, place)
     # A row that is too long is 3 even where it breaks the layout, and its bytes are still counted.
     batch = frame(bytes(16385)) + frame(D_ROW)
     refused_rows(cases, '3 before 7', batch, 0, 3)
@@ -34,7 +34,7 @@ def orders(cases):
 
 def neighbours(cases):
     """Wrong rows before and behind row k have no say, nor has their number."""
-    for wrong in BROKEN + (LONG_ROW,):
+    for wrong, place in BROKEN + ((LONG_ROW, 0),):
         batch = frame(wrong) + frame(C_ROW) + frame(wrong)
         start = len(wrong) + 8
         cases.state('neighbours', request('n', C_SCHEMA, batch), 'count 3')
@@ -46,23 +46,23 @@ def neighbours(cases):
         after = batch + frame(NULL_ROW)
         cases.state('neighbours', appending(batch, NULL_ROW, len(after)), 'done %d %s' % (len(after), after.hex()))
         for k in (0, 2):
-            number = 3 if wrong is LONG_ROW else 7
-            cases.state('neighbours', in_row('f', C_SCHEMA, batch, k), 'refused %d 0' % number)
+            line = 'refused 3 0' if wrong is LONG_ROW else 'refused 7 %d' % place
+            cases.state('neighbours', in_row('f', C_SCHEMA, batch, k), line)
             cases.state('neighbours', in_row('z', C_SCHEMA, batch, k, kind=5, third=b'TPH'),
-                        'refused %d 0 %s' % (number, batch.hex()))
+                        '%s %s' % (line, batch.hex()))
     # A read judges its walk alone, in a batch as in a row.
     batch = frame(PADDING_ROW) + frame(SLOT_ROW)
     cases.state('walk', in_row('g', C_SCHEMA, batch, 0), 'bytes 16 3')
-    cases.state('walk', in_row('g', C_SCHEMA, batch, 1), 'refused 7 0')
+    cases.state('walk', in_row('g', C_SCHEMA, batch, 1), 'refused 7 8')
     cases.state('walk', in_row('g', C_SCHEMA, batch, 1, ()), 'container 0 24 1')
     cases.state('walk', in_row('g', C_SCHEMA, batch, 1, (1,)), 'refused 5 0')
     # A row's extent ends with the row: a slot must not reach into the next one.
     reaching = ZEROS + u(8, 4) + u(16, 4)
     batch = frame(reaching) + frame(C_ROW)
-    cases.state('reach', in_row('g', C_SCHEMA, batch, 0), 'refused 7 0')
-    refused_rows(cases, 'reach', batch, 0, 7)
+    cases.state('reach', in_row('g', C_SCHEMA, batch, 0), 'refused 7 8')
+    refused_rows(cases, 'reach', batch, 0, 7, 8)
     nested = frame(F_ROW[:-8]) + frame(F_ROW)
-    cases.state('reach', in_row('g', F_SCHEMA, nested, 0, (0,)), 'refused 7 0')
+    cases.state('reach', in_row('g', F_SCHEMA, nested, 0, (0,)), 'refused 7 8')
     cases.state('reach', in_row('g', F_SCHEMA, nested, 1, (0, 0, 2)), 'number 3')
 
 

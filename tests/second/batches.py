@@ -15,7 +15,7 @@ class RowRefused(Refused):
     """The refusal of one row when all are checked, with that row's number."""
 
     def __init__(self, refused, row):
-        super().__init__(refused.number, refused.length)
+        super().__init__(refused.number, refused.length, refused.place)
         self.row = row
 
 

@@ -1,4 +1,4 @@
-"""The document's table A to N, its further cases and those of batches, as requests with answers.
+"""The document's table A to N, its further cases, those of batches and of places, as requests with answers.
 
 Where the document states bytes, sizes or numbers they are written out by hand
 and not computed; the rest is answered by the second reading.  Making the cases
@@ -10,6 +10,7 @@ from answers import request
 from batch_cases import THREE, framing_cases
 from batch_orders import order_cases
 from further import further_cases
+from places import place_cases
 from table import A_ROW, A_SCHEMA, C_ROW, C_SCHEMA, ZEROS, fill, table_cases
 
 
@@ -59,6 +60,7 @@ def requests_and_answers():
     further_cases(cases)
     framing_cases(cases)
     order_cases(cases)
+    place_cases(cases)
     assert all(answers.within_rooms(req) for _, req, _ in cases.made)
     return cases.made
 

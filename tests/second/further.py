@@ -14,8 +14,8 @@ def bool_bytes(cases):
     for byte in (0, 1, 2, 3, 128, 255):
         row = sound[:8] + bytes([byte]) + sound[9:]
         fine = byte < 2
-        cases.state('bool', request('c', schema, row), 'done' if fine else 'refused 7 0')
-        cases.state('bool', request('r', schema, row, (0,)), 'bool %d' % byte if fine else 'refused 7 0')
+        cases.state('bool', request('c', schema, row), 'done' if fine else 'refused 7 8')
+        cases.state('bool', request('r', schema, row, (0,)), 'bool %d' % byte if fine else 'refused 7 8')
         # Off the path nothing is judged.
         cases.state('bool', request('r', schema, row, (1,)), 'number 9')
         cases.state('bool', request('w', schema, b'robo' + bytes([byte]) + b'i1\x09', room=24),
@@ -28,13 +28,13 @@ def bool_bytes(cases):
         cases.state('bool', request('r', schema, null, (0,)), 'null')
         # In a list a bool takes one byte.
         in_list = ZEROS + bytes.fromhex('1800000010000000') + u(2, 8) + ZEROS + bytes([1, byte]) + bytes(6)
-        cases.state('bool', request('c', b'ro\x01libo', in_list), 'done' if fine else 'refused 7 0')
+        cases.state('bool', request('c', b'ro\x01libo', in_list), 'done' if fine else 'refused 7 33')
         cases.state('bool', request('r', b'ro\x01libo', in_list, (0, 0)), 'bool 1')
         cases.state('bool', request('r', b'ro\x01libo', in_list, (0, 1)),
-                    'bool %d' % byte if fine else 'refused 7 0')
+                    'bool %d' % byte if fine else 'refused 7 33')
     # The rest of a slot is zero for check, and no affair of the walk's.
     row = sound[:9] + b'\x01' + sound[10:]
-    cases.state('bool', request('c', schema, row), 'refused 7 0')
+    cases.state('bool', request('c', schema, row), 'refused 7 9')
     cases.state('bool', request('r', schema, row, (0,)), 'bool 1')
 
 
@@ -88,10 +88,12 @@ def cuts(cases):
     paths = ((), (0,), (0, 0), (0, 1), (0, 0, 0), (0, 1, 0), (0, 1, 2), (0, 2), (0, 0, 3))
     for n in range(len(F_ROW)):
         row = F_ROW[:n]
-        cases.state('cut', request('c', F_SCHEMA, row), 'refused 7 0')
-        cases.state('cut', request('l', F_SCHEMA, row, room=70), 'refused 7 0 ' + 'aa' * 70)
+        # The root's own size is wrong, or the map runs past the cut: its slot stands at 8.
+        checked = 'refused 7 0' if n < 16 or n % 8 else 'refused 7 8'
+        cases.state('cut', request('c', F_SCHEMA, row), checked)
+        cases.state('cut', request('l', F_SCHEMA, row, room=70), checked + ' ' + 'aa' * 70)
         cases.state('cut', request('s', F_SCHEMA, row, (0, 0, 0), kind=2, value=7),
-                    'refused 7 0 ' + answers.hex_or_dash(row))
+                    '%s %s' % (checked, answers.hex_or_dash(row)))
         for path in paths:
             if path == ():
                 line = 'container 0 %d 1' % n if n >= 16 else 'refused 7 0'
@@ -99,7 +101,7 @@ def cuts(cases):
                 line = 'refused 5 0'
             else:
                 # The map's extent runs past the cut, and that is judged first.
-                line = 'refused 7 0'
+                line = 'refused 7 8' if n >= 16 else 'refused 7 0'
             cases.state('cut', request('r', F_SCHEMA, row, path), line)
     for n in range(len(F_LISTING)):
         cases.state('cut', request('w', F_SCHEMA, F_LISTING[:n], room=104), 'refused 2 0 ' + 'aa' * 104)
@@ -134,7 +136,7 @@ def list_counts(cases):
                 # One bit past the last element.
                 over = bytearray(row)
                 over[24 + count // 8] |= 1 << count % 8
-                cases.state('list', request('c', schema, bytes(over)), 'refused 7 0')
+                cases.state('list', request('c', schema, bytes(over)), 'refused 7 %d' % (24 + count // 8))
                 cases.state('list', request('r', schema, bytes(over), (0, last)), 'number %d' % numbers[-1])
         schema = b'ro\x01list'
         listing = b'roli' + u(count, 4) + text(b'ab') * count
@@ -249,17 +251,17 @@ def slips(cases):
     cases.state('nested offset', request('r', schema, row, (0,)), 'number -1')
     # Sign in the rest of a slot.
     wrong = row[:8] + b'\xff' * 8 + row[16:]
-    cases.state('sign', request('c', schema, wrong), 'refused 7 0')
+    cases.state('sign', request('c', schema, wrong), 'refused 7 9')
     cases.state('sign', request('r', schema, wrong, (0,)), 'number -1')
     # The values array stands where K says, even when K leaves a gap that check refuses.
     gap = (ZEROS + u(96, 4) + u(16, 4) + u(48, 8) + F_ROW[24:64] + u(99, 8) + F_ROW[64:])
-    cases.state('K', request('c', F_SCHEMA, gap), 'refused 7 0')
+    cases.state('K', request('c', F_SCHEMA, gap), 'refused 7 24')
     cases.state('K', request('r', F_SCHEMA, gap, (0, 0)), 'container 24 48 3')
     cases.state('K', request('r', F_SCHEMA, gap, (0, 1)), 'container 72 40 3')
     cases.state('K', request('r', F_SCHEMA, gap, (0, 1, 2)), 'number 30')
     # Unequal counts: each array is sound by itself.
     uneven = (ZEROS + u(80, 4) + u(16, 4) + F_ROW[16:64] + u(2, 8) + ZEROS + u(10, 8) + u(20, 8))
-    cases.state('counts', request('c', F_SCHEMA, uneven), 'refused 7 0')
+    cases.state('counts', request('c', F_SCHEMA, uneven), 'refused 7 64')
     cases.state('counts', request('r', F_SCHEMA, uneven, (0, 0, 2)), 'number 3')
     cases.state('counts', request('r', F_SCHEMA, uneven, (0, 1, 2)), 'refused 5 0')
     # Keys may be null or equal.
@@ -279,8 +281,9 @@ def slips(cases):
 # D:    the null bit, for then the slot may hold anything.
 # E:    counts 11 and 14 take in zeros; ten null bits; 80 bits of elements.
 # F:    three null bits and 192 bits of elements in each array.
+# G:    two null bits and 128 bits of the numbers.
 # N:    none.
-SOUND_FLIPS = {'A': 98, 'B': 98, 'C': 25, 'D': 1, 'E': 92, 'F': 390, 'N': 0}
+SOUND_FLIPS = {'A': 98, 'B': 98, 'C': 25, 'D': 1, 'E': 92, 'F': 390, 'G': 130, 'N': 0}
 
 
 def bit_changes(cases):

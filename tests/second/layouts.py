@@ -1,7 +1,9 @@
 """The two forms that the document gives contents: the listing, and the layout, written and judged."""
 
-from schemas import (BOOL, BYTES, LIST, MAP, NULL_MARK, STRUCT, Null, Refused, bitmap_size, number_at,
-                     pad, padded)
+import bisect
+
+from schemas import (BOOL, BYTES, LIST, MAP, NULL_MARK, STRUCT, Null, Refused, bitmap_size, broken_at,
+                     number_at, pad, padded)
 
 LISTING_LIMIT = 65536
 
@@ -152,70 +154,76 @@ def content(t, cell, path=(), rank=None):
 
 
 # --- The layout, judged strictly ---------------------------------------------
+#
+# Faults are met in the order that request Q-3 gives, and the first one ends the
+# reading with its place, counted from the row's first byte.
 
-def decode(t, row, start, end):
-    """The contents that row[start:end] lays out, every byte of it judged."""
+def decode(t, row, start, end, slot=0, count=None):
+    """The contents that row[start:end] lays out, every byte of it judged.
+
+    `slot` is the place of a wrong size or end: where the value's slot stands, 0
+    of the root, and of a map's array its own first byte.  `count` is the number
+    of keys, which the array of a map's values must have too.
+    """
+    size = end - start
     if t.kind == BYTES:
         return row[start:end]
     if t.kind == STRUCT:
-        return decode_container(row, start, end, 0, t.parts.__getitem__, len(t.parts), 8)
-    if end - start < 8:
-        raise Refused(7)
+        n = len(t.parts)
+        if size < bitmap_size(n) + 8 * n or size % 8:
+            raise broken_at(slot)
+        return decode_children(row, start, end, slot, 0, t.parts.__getitem__, n, 8)
+    if size < 8 or size % 8:
+        raise broken_at(slot)
     head = number_at(row, start, 8)
     if t.kind == LIST:
         element = t.parts[0]
-        return decode_container(row, start, end, 8, lambda i: element, head, element.room)
+        if 8 + bitmap_size(head) + pad(head * element.room) > size or count not in (None, head):
+            raise broken_at(start)
+        return decode_children(row, start, end, slot, 8, lambda i: element, head, element.room)
     split = start + 8 + head
-    if split > end:
-        raise Refused(7)
-    keys = decode(t.parts[0], row, start + 8, split)
-    values = decode(t.parts[1], row, split, end)
-    if len(keys) != len(values):
-        raise Refused(7)
-    return [keys, values]
+    if head % 8 or split > end:
+        raise broken_at(start)
+    keys = decode(t.parts[0], row, start + 8, split, start + 8)
+    return [keys, decode(t.parts[1], row, split, end, split, len(keys))]
 
 
-def decode_container(row, start, end, head, types, n, room):
+def decode_children(row, start, end, slot, head, types, n, room):
+    """The contents of a struct or an array whose size and header are right."""
     bitmap = start + head
     slots = bitmap + bitmap_size(n)
     slots_end = slots + n * room
     fixed_end = slots + pad(n * room)
-    if fixed_end > end:
-        raise Refused(7)
     bits = number_at(row, bitmap, slots - bitmap)
-    if bits >> n:
-        raise Refused(7)
-    if any(row[slots_end:fixed_end]):
-        raise Refused(7)
-    places = [slots + i * room for i in range(n)]
-    extents = {at: extent(row, start, at) for i, at in enumerate(places)
-               if types(i).varying and not bits >> i & 1}
-    # Values stand in some order one after another without gaps: sorted, with an
-    # empty one before the value that starts where it stands, each begins where
-    # the one before it ends.  What stands there is looked at when this holds:
-    # then no byte is looked at under two values, however deep they go.
-    free = fixed_end
-    for first, last in sorted(extents.values()):
-        if first != free:
-            raise Refused(7)
-        free = first + pad(last - first)
-    if free != end:
-        raise Refused(7)
+    past = bits >> n << n
+    if past:
+        raise broken_at(bitmap + ((past & -past).bit_length() - 1) // 8)
     cells = []
-    for i, at in enumerate(places):
+    ranges = []
+    free = end - fixed_end
+    for i in range(n):
         t = types(i)
+        at = slots + i * room
         if bits and bits >> i & 1:
             cells.append(Null(row[at:at + room]))
         elif t.varying:
-            first, last = extents[at]
-            if any(row[last:first + pad(last - first)]):
-                raise Refused(7)
-            cells.append(decode(t, row, first, last))
+            first, last = extent(row, start, at)
+            behind = first + pad(last - first)
+            if first < fixed_end or (first - start) % 8 or behind > end or not apart(ranges, first, behind):
+                raise broken_at(at)
+            cells.append(decode(t, row, first, last, at))
+            zeros(row, last, behind)
+            free -= behind - first
         else:
-            cell = row[at:at + t.width]
-            if t.kind == BOOL and cell[0] > 1 or any(row[at + t.width:at + room]):
-                raise Refused(7)
-            cells.append(cell)
+            if t.kind == BOOL and row[at] > 1:
+                raise broken_at(at)
+            zeros(row, at + t.width, at + room)
+            cells.append(row[at:at + t.width])
+    zeros(row, slots_end, fixed_end)
+    # The values lie apart from each other between the fixed part and the end,
+    # so they leave no gap exactly if their sizes make up all of it.
+    if free:
+        raise broken_at(slot)
     return cells
 
 
@@ -224,3 +232,24 @@ def extent(row, start, at):
     slot = number_at(row, at, 8)
     first = start + (slot >> 32)
     return first, first + (slot & 0xFFFFFFFF)
+
+
+def zeros(row, first, last):
+    """Refuses the first byte between the two that is not zero."""
+    if any(row[first:last]):
+        raise broken_at(next(at for at in range(first, last) if row[at]))
+
+
+def apart(ranges, first, behind):
+    """Whether a value lies apart from its earlier siblings; then its range is kept with theirs.
+
+    Theirs are sorted and apart: each ends where the next begins or before, an
+    empty one before the value that starts where it stands.  So only the two
+    next to it can be in the way, and what a value holds is looked at when it is
+    known that no sibling before it holds it, however deep they go.
+    """
+    i = bisect.bisect(ranges, (first, behind))
+    if i > 0 and ranges[i - 1][1] > first or i < len(ranges) and ranges[i][0] < behind:
+        return False
+    ranges.insert(i, (first, behind))
+    return True

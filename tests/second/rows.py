@@ -6,12 +6,13 @@ The three are meant to be read beside the document: each section here carries a
 section's rules in the same order.
 
 Every entry takes any bytes.  It answers, or it raises Refused with the
-document's number; it raises nothing else.
+document's number, and with the place of the first fault where that is 7; it
+raises nothing else.
 """
 
 from layouts import content, decode, listing_of, parse_listing
-from schemas import (BOOL, BYTES, FLOAT, INT, LIST, MAP, STRUCT, Refused, bitmap_size, judge, number_at,
-                     pad, signed_at)
+from schemas import (BOOL, BYTES, FLOAT, INT, LIST, MAP, STRUCT, Refused, bitmap_size, broken_at, judge,
+                     number_at, pad, signed_at)
 
 ROW_LIMIT = 16384
 PATH_LIMIT = 16
@@ -53,24 +54,28 @@ def type_at(root, path):
     return t
 
 
-def own_rules(t, row, start, size):
-    """A varying value's own rules in its extent; a container's count."""
+def own_rules(t, row, start, size, slot):
+    """A varying value's own rules in its extent; a container's count.
+
+    A wrong size is a fault of the slot that gives it, a wrong count or K one of
+    the value's own first byte.
+    """
     if t.kind == BYTES:
         return None
     if t.kind == STRUCT:
         n = len(t.parts)
         if size < bitmap_size(n) + 8 * n:
-            raise Refused(7)
+            raise broken_at(slot)
         return n
     if size < 8:
-        raise Refused(7)
+        raise broken_at(slot)
     head = number_at(row, start, 8)
     if t.kind == LIST:
         if 8 + bitmap_size(head) + pad(head * t.parts[0].room) > size:
-            raise Refused(7)
+            raise broken_at(start)
         return head
     if head % 8 != 0 or 8 + head > size:
-        raise Refused(7)
+        raise broken_at(start)
     return 2
 
 
@@ -79,7 +84,7 @@ def walk(root, row, path):
     t = root
     start, size = 0, len(row)
     place = Place(t)
-    count = own_rules(t, row, start, size)
+    count = own_rules(t, row, start, size, 0)
     last = len(path) - 1
     for k, step in enumerate(path):
         if t.kind == MAP:
@@ -90,7 +95,8 @@ def walk(root, row, path):
                 start, size = start + 8 + keys_size, size - 8 - keys_size
             t = t.parts[step]
             place = Place(t)
-            count = own_rules(t, row, start, size)
+            # A map's array has no slot: its first byte stands for one.
+            count = own_rules(t, row, start, size, start)
             continue
         if step >= count:
             raise Refused(5)
@@ -115,11 +121,11 @@ def walk(root, row, path):
             offset, length = slot >> 32, slot & 0xFFFFFFFF
             fixed = head + bitmap_size(count) + pad(count * room)
             if offset < fixed or offset % 8 != 0 or offset + length > size:
-                raise Refused(7)
+                raise broken_at(place.slot)
             start, size = start + offset, length
-            count = own_rules(t, row, start, size)
+            count = own_rules(t, row, start, size, place.slot)
         elif t.kind == BOOL and row[place.slot] > 1:
-            raise Refused(7)
+            raise broken_at(place.slot)
     place.start, place.size, place.count = start, size, count
     return place
 

@@ -8,12 +8,18 @@ FIELD_LIMIT = 128
 
 
 class Refused(Exception):
-    """The document's number, and the length that only number 4 carries."""
+    """The document's number, the length that only number 4 carries, and the place that only 7 does."""
 
-    def __init__(self, number, length=0):
-        super().__init__(number, length)
+    def __init__(self, number, length=0, place=0):
+        super().__init__(number, length, place)
         self.number = number
         self.length = length
+        self.place = place
+
+
+def broken_at(place):
+    """The refusal of a row that breaks the layout, with the place of its first fault."""
+    return Refused(7, place=place)
 
 
 # --- Numbers in bytes --------------------------------------------------------

@@ -14,11 +14,14 @@ import all_orders
 import answers
 import batches
 import cases
+import faults
 import layouts
+import places
 import requests
 import rows
 import schemas
 import sequences
+import table
 from batch_requests import bad_frames, batch_scene
 from damage import bad_listing, bad_row
 from making import Chooser, any_order, sound_schema
@@ -33,7 +36,17 @@ def refusal(call, *args):
         call(*args)
     except schemas.Refused as r:
         assert r.length == 0 or r.number == 4
+        assert r.place == 0 or r.number == 7
         return r.number
+    return None
+
+
+def broken_place(call, *args):
+    """The place that a call's 7 carries, None where it answers or is refused otherwise."""
+    try:
+        call(*args)
+    except schemas.Refused as r:
+        return r.place if r.number == 7 else None
     return None
 
 
@@ -126,12 +139,45 @@ def check_row(root, schema, row, tally):
         tally['rows of which all orders were tried'] += 1
     except all_orders.TooMany:
         pass
+    place = broken_place(rows.check, schema, row)
+    assert place == faults.place(root, row), (schema, row, place)
     if number is not None:
-        assert refusal(rows.list_back, schema, row, 70000) == 7
+        assert place <= len(row)
+        assert broken_place(rows.list_back, schema, row, 70000) == place
+        assert broken_place(rows.set_leaf, schema, row, (0,), None) == place
         return False
     cells = layouts.decode(root, row, 0, len(row))
     check_contents(root, schema, cells, row, layouts.listing_of(root, cells))
     return True
+
+
+def check_read(root, schema, row, path):
+    """A read of any row: its 7 has the place that the second account gives, and no other read has one."""
+    if len(row) > rows.ROW_LIMIT or refusal(rows.type_at, root, path) is not None:
+        return False
+    place = broken_place(rows.read, schema, row, path)
+    assert place == faults.place(root, row, path), (schema, row, path, place)
+    return place is not None
+
+
+def check_places():
+    """The second account of places against those that were counted by hand, and on each bit of the document's rows."""
+    for name, schema, row, place in places.broken_rows():
+        root = schemas.judge(schema)
+        assert faults.place(root, row) == place, name
+        assert not all_orders.accepted(root, row), name
+    for schema, row, path, line in places.READS:
+        assert check_read(schemas.judge(schema), schema, row, path) == line.startswith('refused 7'), (schema, row, path)
+    found = 0
+    for _, schema, _, row, _ in table.WRITTEN:
+        root = schemas.judge(schema)
+        for bit in range(8 * len(row)):
+            changed = bytearray(row)
+            changed[bit // 8] ^= 1 << bit % 8
+            place = broken_place(rows.check, schema, bytes(changed))
+            assert place == faults.place(root, bytes(changed)), (schema, changed)
+            found += place is not None
+    return found
 
 
 def check_set(choose, scene, cells, values):
@@ -195,9 +241,11 @@ def check_scene(choose, tally):
     assert check_contents(root, schema, cells, other, scene.listing) == values
     tally['places'] += len(values)
     for _ in range(8):
-        row, _ = bad_row(choose, scene)
+        row, near = bad_row(choose, scene)
         tally['damaged rows'] += 1
         tally['of them sound'] += check_row(root, schema, row, tally)
+        for path in {path_for(choose, scene, near) for _ in range(3)}:
+            tally['broken reads'] += check_read(root, schema, row, path)
     for _ in range(8):
         tally['settings'] += 1
         tally['of them done'] += check_set(choose, scene, cells, values) is not None
@@ -311,11 +359,11 @@ def check_again(schema, batch):
 
 
 def check_numbers(req):
-    """A refusal has one of its op's numbers, a length only with 4, a row's number only of a check of all."""
+    """A refusal has one of its op's numbers, a length only with 4, a place with 7, a row's number only of a check of all."""
     words = answers.answer(req).split(' ')
     if words[0] == 'refused' and req.op != 't':
         assert int(words[1]) in answers.NUMBERS[req.op], req
-        assert words[2] == '0' or words[1] == '4', req
+        assert words[2] == '0' or words[1] in '47', req
         assert ('row' in words) == (req.op == 'k' and words[1] in '37'), req
 
 
@@ -346,8 +394,9 @@ def main():
     parser.add_argument('--scenes', type=int, default=3000)
     args = parser.parse_args()
     print('%d cases hold' % len(cases.requests_and_answers()))
+    print('%d places of single bits agree' % check_places())
     choose = Chooser('selftest/%d' % args.seed)
-    tally = dict.fromkeys(('places', 'damaged rows', 'of them sound',
+    tally = dict.fromkeys(('places', 'damaged rows', 'of them sound', 'broken reads',
                            'rows of which all orders were tried', 'settings', 'of them done',
                            'damaged listings', 'of them taken', 'requests about batches', 'batches taken apart'), 0)
     for number in range(args.scenes):

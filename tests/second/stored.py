@@ -1,5 +1,5 @@
 #!/usr/bin/env python3
-"""The run that is kept beside the driver: each op, refusals with their bytes, a path of 17 steps.
+"""The run that is kept beside the driver: each op, refusals with their bytes, a path of 17 steps, places.
 
     stored.py            whether crates/drive/stdin and stdout are what is made here
     stored.py --write    write them
@@ -9,6 +9,7 @@ import pathlib
 import sys
 
 import answers
+import places
 import table
 from answers import request
 
@@ -20,6 +21,10 @@ FIVE, SIX = table.ZEROS + table.u(5, 8), table.ZEROS + table.u(6, 8)
 ONE_ROW = bytes.fromhex('00000010') + FIVE
 TWO_ROWS = ONE_ROW + bytes.fromhex('00000010') + SIX
 CUT = TWO_ROWS[:-1]
+
+# The rest of the second row's slot is not zero, at that row's byte 12.
+BROKEN = SIX[:12] + b'\x01' + SIX[13:]
+BROKEN_ROW = ONE_ROW + bytes.fromhex('00000010') + BROKEN
 
 REQUESTS = (
     request('j', table.F_SCHEMA),
@@ -54,6 +59,17 @@ REQUESTS = (
     request('z', SMALL, TWO_ROWS, (0,), room=1, kind=2, value=7),
     request('z', SMALL, TWO_ROWS, (0,), room=2, kind=9),
     request('z', SMALL, TWO_ROWS, (0,), room=1, kind=9),
+    request('c', places.STROKES, places.MARCH),
+    request('l', places.STROKES, places.MARCH, room=3),
+    request('s', places.STROKES, places.MARCH, (0, 0), kind=2, value=7),
+    request('r', table.C_SCHEMA, table.J_ROW, (0,)),
+    request('o', table.F_SCHEMA, table.F_ROW[:-8], (0, 1, 2)),
+    request('r', b'ro\x01mai8i8', places.NO_VALUES, (0, 1)),
+    request('f', SMALL, BROKEN_ROW, room=1),
+    request('k', SMALL, BROKEN_ROW),
+    request('A', SMALL, ONE_ROW, room=22, third=BROKEN),
+    request('g', table.C_SCHEMA, bytes.fromhex('00000018') + table.J_ROW, (0,)),
+    request('z', SMALL, BROKEN_ROW, (0,), room=1, kind=9),
 )
 
 

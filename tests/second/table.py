@@ -128,21 +128,21 @@ def table_cases(cases):
     reads('N', N_SCHEMA, N_ROW, (0, 0), 'refused 5 0')
 
     cases.written('H before', H_SCHEMA, H_LISTING, H_SOUND)
-    cases.state('H', request('c', H_SCHEMA, H_ROW), 'refused 7 0')
-    cases.state('H', request('l', H_SCHEMA, H_ROW, room=20), 'refused 7 0 ' + fill(b'', 20))
+    cases.state('H', request('c', H_SCHEMA, H_ROW), 'refused 7 16')
+    cases.state('H', request('l', H_SCHEMA, H_ROW, room=20), 'refused 7 16 ' + fill(b'', 20))
     cases.state('H', request('s', H_SCHEMA, H_ROW, (1,), kind=5, third=b'TPH'),
-                'refused 7 0 ' + H_ROW.hex())
+                'refused 7 16 ' + H_ROW.hex())
     # The walk has no rule about siblings.
     reads('H', H_SCHEMA, H_ROW, (0,), 'bytes 24 3')
     reads('H', H_SCHEMA, H_ROW, (1,), 'bytes 24 3')
 
     cases.state('I', request('c', C_SCHEMA, I_ROW_8), 'done')
-    cases.state('I', request('c', C_SCHEMA, I_ROW_9), 'refused 7 0')
+    cases.state('I', request('c', C_SCHEMA, I_ROW_9), 'refused 7 8')
     reads('I', C_SCHEMA, I_ROW_8, (0,), 'bytes 16 8')
-    reads('I', C_SCHEMA, I_ROW_9, (0,), 'refused 7 0')
+    reads('I', C_SCHEMA, I_ROW_9, (0,), 'refused 7 8')
 
-    reads('J', C_SCHEMA, J_ROW, (0,), 'refused 7 0')
-    cases.state('J', request('c', C_SCHEMA, J_ROW), 'refused 7 0')
+    reads('J', C_SCHEMA, J_ROW, (0,), 'refused 7 8')
+    cases.state('J', request('c', C_SCHEMA, J_ROW), 'refused 7 8')
     cases.state('J', request('t', C_SCHEMA, J_ROW, (0,), third=b'none'), b'none'.hex())
 
     for count, fixed in ((64, 520), (65, 536)):

@@ -5,6 +5,7 @@ use mathlib.Core.List.{List, []}
 use Prim.Native.Nat.{ℕ}
 use lib.Dec.{eqb}
 use lib.Ieee.{Float, Format, binary32, binary64, nanBits, ofBits, toBits}
+use Rattle.layout.specs.Refusals as N
 use Rattle.layout.specs.Reading as R
 use Rattle.layout.specs.Setting as S
 use Rattle.layout.specs.Entries as E
@@ -16,63 +17,77 @@ use Rattle.answers.specs.declared.Length.{Length}
 use Rattle.answers.specs.declared.Length.the-variants as L
 use Rattle.answers.specs.declared.Answer.{Answer}
 use Rattle.answers.specs.declared.Answer.the-variants as A
-use Rattle.answers.specs.Meaning.{numberOf, lengthOf, outcomeMeans, lengthMeans, noAnswer, plain, float, floatMeans, nanMeans, meaning, Numbered, givenMeans}
+use Rattle.answers.specs.Meaning.{numberOf, lengthOf, refusalMeans, outcomeMeans, lengthMeans, noAnswer, plain, float, floatMeans, nanMeans, meaning}
+use Rattle.answers.specs.Meaning.{Numbered, givenMeans}
 use Rattle.answers.specs.declared.Given.{Given}
 use Rattle.answers.specs.declared.Given.the-variants as G
 use Rattle.answers.proofs.FloatLaws.{plain-back, plain-not-nan}
 
 -- ---- refusals
 
--- the refusal of a number and a length
-abbrev refusal : ℕ → ℕ → Refusal
-refusal n l =
+-- the refusal of a meaning and a length
+abbrev refusal : N.Refusal → ℕ → Refusal
+refusal (N.brokenAt p) l = F.Layout p
+refusal (N.numbered n) l =
     cond (eqb n 1) F.Schema
     (cond (eqb n 2) F.Listing
     (cond (eqb n 3) F.TooLong
     (cond (eqb n 4) (F.Room l)
-    (cond (eqb n 5) F.NoPlace (cond (eqb n 6) F.NullBefore (cond (eqb n 7) F.Layout (cond (eqb n 8) F.Unfit (cond (eqb n 9) F.Resize F.Batch))))))))
+    (cond (eqb n 5) F.NoPlace (cond (eqb n 6) F.NullBefore (cond (eqb n 8) F.Unfit (cond (eqb n 9) F.Resize F.Batch)))))))
 
-refusal-back : (r : Refusal) → refusal (numberOf r) (lengthOf r) ≡ r
+refusal-back : (r : Refusal) → refusal (refusalMeans r) (lengthOf r) ≡ r
 refusal-back F.Schema = refl
 refusal-back F.Listing = refl
 refusal-back F.TooLong = refl
 refusal-back (F.Room n) = refl
 refusal-back F.NoPlace = refl
 refusal-back F.NullBefore = refl
-refusal-back F.Layout = refl
+refusal-back (F.Layout p) = refl
 refusal-back F.Unfit = refl
 refusal-back F.Resize = refl
 refusal-back F.Batch = refl
 
--- a refusal is its number and its length
-pub refusal-one : (r s : Refusal) → numberOf r ≡ numberOf s → lengthOf r ≡ lengthOf s → r ≡ s
-refusal-one r s n l = sym (refusal-back r) ∙ ap (λ (m : ℕ). refusal m (lengthOf r)) n ∙ ap (refusal (numberOf s)) l ∙ refusal-back s
+-- a refusal is its number, its place and its length
+pub refusal-one : (r s : Refusal) → refusalMeans r ≡ refusalMeans s → lengthOf r ≡ lengthOf s → r ≡ s
+refusal-one r s n l = sym (refusal-back r) ∙ ap (λ (m : N.Refusal). refusal m (lengthOf r)) n ∙ ap (refusal (refusalMeans s)) l ∙ refusal-back s
+
+pub number-means : (r : Refusal) → N.numberIn (refusalMeans r) ≡ numberOf r
+number-means F.Schema = refl
+number-means F.Listing = refl
+number-means F.TooLong = refl
+number-means (F.Room n) = refl
+number-means F.NoPlace = refl
+number-means F.NullBefore = refl
+number-means (F.Layout p) = refl
+number-means F.Unfit = refl
+number-means F.Resize = refl
+number-means F.Batch = refl
 
 -- only 4 has a length
-pub no-length : (r : Refusal) → (numberOf r ≡ 4 → ⊥) → lengthOf r ≡ 0
+pub no-length : (r : Refusal) → (refusalMeans r ≡ N.numbered 4 → ⊥) → lengthOf r ≡ 0
 no-length F.Schema h = refl
 no-length F.Listing h = refl
 no-length F.TooLong h = refl
 no-length (F.Room n) h = absurd (h refl)
 no-length F.NoPlace h = refl
 no-length F.NullBefore h = refl
-no-length F.Layout h = refl
+no-length (F.Layout p) h = refl
 no-length F.Unfit h = refl
 no-length F.Resize h = refl
 no-length F.Batch h = refl
 
--- so the number alone tells any other
-pub number-one : (r s : Refusal) → numberOf r ≡ numberOf s → (numberOf r ≡ 4 → ⊥) → r ≡ s
+-- so number and place tell any other
+pub number-one : (r s : Refusal) → refusalMeans r ≡ refusalMeans s → (refusalMeans r ≡ N.numbered 4 → ⊥) → r ≡ s
 number-one r s n h = refusal-one r s n (no-length r h ∙ sym (no-length s (λ e. h (n ∙ e))))
 
 -- ---- outcomes and lengths
 
-pub outcome-one : (a b : Outcome) → outcomeMeans a ≡ outcomeMeans b → (outcomeMeans a ≡ E.refused 4 → ⊥) → a ≡ b
+pub outcome-one : (a b : Outcome) → outcomeMeans a ≡ outcomeMeans b → (outcomeMeans a ≡ E.refused (N.numbered 4) → ⊥) → a ≡ b
 outcome-one O.Done O.Done e h = refl
 outcome-one O.Done (O.Refused s) e h = cc
 outcome-one (O.Refused r) O.Done e h = cc
 outcome-one (O.Refused r) (O.Refused s) e h =
-    let n : numberOf r ≡ numberOf s = cc in
+    let n : refusalMeans r ≡ refusalMeans s = cc in
     ap O.Refused (number-one r s n (λ q. h (ap E.refused q)))
 
 pub length-one : (a b : Length) → lengthMeans a ≡ lengthMeans b → a ≡ b
@@ -80,7 +95,7 @@ length-one (L.Done m) (L.Done n) e = cc
 length-one (L.Done m) (L.Refused s) e = cc
 length-one (L.Refused r) (L.Done n) e = cc
 length-one (L.Refused r) (L.Refused s) e =
-    let n : numberOf r ≡ numberOf s = cc in
+    let n : refusalMeans r ≡ refusalMeans s = cc in
     let l : lengthOf r ≡ lengthOf s = cc in
     ap L.Refused (refusal-one r s n l)
 
@@ -138,7 +153,7 @@ answer-back (A.Float64Nan b) h = nan-back binary64 b (h .known)
 answer-back (A.Bytes o n) h = refl
 answer-back (A.Container o n k) h = refl
 answer-back (A.Refused r) h =
-    ap A.Refused (ap (refusal (numberOf r)) (sym (no-length r (λ q. h .roomless (ap R.refused q)))) ∙ refusal-back r)
+    ap A.Refused (ap (refusal (refusalMeans r)) (sym (no-length r (λ q. h .roomless (ap R.refused q)))) ∙ refusal-back r)
 
 -- of every meaning that a reading gives there is one answer
 pub meaning-one : (a b : Answer) → meaning a ≡ meaning b → Numbered (meaning a) → a ≡ b

@@ -1,10 +1,11 @@
 -- The document's number and values for each case of the enums. Assumes nothing: these are definitions.
 use mathlib.Core.Path.{_≡_}
-use mathlib.Core.Bool.{Bool, true, false, not, _&&_, cond}
+use mathlib.Core.Bool.{Bool, not, _&&_, cond}
 use mathlib.Core.Option.{Option, none, some}
 use mathlib.Core.List.{List}
 use Prim.Native.Nat.{ℕ}
 use lib.Ieee.{Float, Format, binary32, binary64, fits, isNan, nanBits, toBits}
+use Rattle.layout.specs.Refusals as N
 use Rattle.layout.specs.Reading as R
 use Rattle.layout.specs.Setting as S
 use Rattle.layout.specs.Entries as E
@@ -31,7 +32,7 @@ numberOf F.TooLong = 3
 numberOf (F.Room n) = 4
 numberOf F.NoPlace = 5
 numberOf F.NullBefore = 6
-numberOf F.Layout = 7
+numberOf (F.Layout p) = 7
 numberOf F.Unfit = 8
 numberOf F.Resize = 9
 numberOf F.Batch = 10
@@ -44,28 +45,54 @@ lengthOf F.TooLong = 0
 lengthOf (F.Room n) = n
 lengthOf F.NoPlace = 0
 lengthOf F.NullBefore = 0
-lengthOf F.Layout = 0
+lengthOf (F.Layout p) = 0
 lengthOf F.Unfit = 0
 lengthOf F.Resize = 0
 lengthOf F.Batch = 0
 
+-- only 7 has a place
+abbrev pub placeOf : Refusal → ℕ
+placeOf F.Schema = 0
+placeOf F.Listing = 0
+placeOf F.TooLong = 0
+placeOf (F.Room n) = 0
+placeOf F.NoPlace = 0
+placeOf F.NullBefore = 0
+placeOf (F.Layout p) = p
+placeOf F.Unfit = 0
+placeOf F.Resize = 0
+placeOf F.Batch = 0
+
+-- the number, and of a 7 the place
+abbrev pub refusalMeans : Refusal → N.Refusal
+refusalMeans F.Schema = N.numbered 1
+refusalMeans F.Listing = N.numbered 2
+refusalMeans F.TooLong = N.numbered 3
+refusalMeans (F.Room n) = N.numbered 4
+refusalMeans F.NoPlace = N.numbered 5
+refusalMeans F.NullBefore = N.numbered 6
+refusalMeans (F.Layout p) = N.brokenAt p
+refusalMeans F.Unfit = N.numbered 8
+refusalMeans F.Resize = N.numbered 9
+refusalMeans F.Batch = N.numbered 10
+
 -- ---- outcomes
 
--- judge, check and set: done, or a refusal's number
+-- judge, check and set: done, or a refusal
 abbrev pub outcomeMeans : Outcome → E.Verdict
 outcomeMeans O.Done = E.done
-outcomeMeans (O.Refused r) = E.refused (numberOf r)
+outcomeMeans (O.Refused r) = E.refused (refusalMeans r)
 
--- write and list: the length n of what was written, or a refusal's number and length
+-- write and list: the length n of what was written, or a refusal and its length
 abbrev pub lengthMeans : Length → E.Sized
 lengthMeans (L.Done n) = E.takes n
-lengthMeans (L.Refused r) = E.refusedWith (numberOf r) (lengthOf r)
+lengthMeans (L.Refused r) = E.refusedWith (refusalMeans r) (lengthOf r)
 
 -- ---- answers
 
 -- the document refuses with no number 0: an answer of this meaning is none of its answers
 abbrev pub noAnswer : R.Answer
-noAnswer = R.refused 0
+noAnswer = R.refused (N.numbered 0)
 
 -- a number of the format that is no NaN
 abbrev pub plain : Format → Float → Bool
@@ -93,12 +120,12 @@ meaning (A.Float64 x) = floatMeans binary64 x
 meaning (A.Float64Nan b) = nanMeans binary64 b
 meaning (A.Bytes o n) = R.bytes o n
 meaning (A.Container o n k) = R.container o n k
-meaning (A.Refused r) = R.refused (numberOf r)
+meaning (A.Refused r) = R.refused (refusalMeans r)
 
 -- one of the document's answers, and not 4, whose length this meaning leaves out
 pub record Numbered (a : R.Answer) : Type 0 where
   pub known : a ≡ noAnswer → ⊥
-  pub roomless : a ≡ R.refused 4 → ⊥
+  pub roomless : a ≡ R.refused (N.numbered 4) → ⊥
 
 -- ---- settings, with the bytes u beside them
 

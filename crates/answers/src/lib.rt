@@ -5,6 +5,7 @@ pub mod paths;
 pub mod refusals;
 pub mod settings;
 
+// The place of a fault counts from the row's first byte.
 pub enum Refusal {
     Schema,
     Listing,
@@ -12,7 +13,7 @@ pub enum Refusal {
     Room { needed: usize },
     NoPlace,
     NullBefore,
-    Layout,
+    Layout { place: usize },
     Unfit,
     Resize,
     Batch,

@@ -1,6 +1,6 @@
-// A refusal's number and length in the document.
+// A refusal's number, length and place in the document.
 ghost use mathlib.Core.Path.{_≡_};
-ghost use Rattle.answers.specs.Meaning.{numberOf, lengthOf};
+ghost use Rattle.answers.specs.Meaning.{numberOf, lengthOf, placeOf};
 use crate::Refusal;
 
 pub fn number(r: Refusal) -> u8
@@ -13,7 +13,7 @@ pub fn number(r: Refusal) -> u8
         Refusal::Room { needed: _ } => 4,
         Refusal::NoPlace => 5,
         Refusal::NullBefore => 6,
-        Refusal::Layout => 7,
+        Refusal::Layout { place: _ } => 7,
         Refusal::Unfit => 8,
         Refusal::Resize => 9,
         Refusal::Batch => 10,
@@ -30,7 +30,24 @@ pub fn length(r: Refusal) -> usize
         Refusal::TooLong => 0,
         Refusal::NoPlace => 0,
         Refusal::NullBefore => 0,
-        Refusal::Layout => 0,
+        Refusal::Layout { place: _ } => 0,
+        Refusal::Unfit => 0,
+        Refusal::Resize => 0,
+        Refusal::Batch => 0,
+    }
+}
+
+pub fn place(r: Refusal) -> usize
+    ensures { λ n. ⌜ n ≡ placeOf r ⌝ }
+{
+    match r {
+        Refusal::Layout { place } => place,
+        Refusal::Schema => 0,
+        Refusal::Listing => 0,
+        Refusal::TooLong => 0,
+        Refusal::Room { needed: _ } => 0,
+        Refusal::NoPlace => 0,
+        Refusal::NullBefore => 0,
         Refusal::Unfit => 0,
         Refusal::Resize => 0,
         Refusal::Batch => 0,

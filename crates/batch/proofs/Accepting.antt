@@ -8,6 +8,7 @@ use lib.ListN.{length, getD, set}
 use Rattle.schema.specs.Reading.{judged}
 use Rattle.schema.specs.declared.Judged.{Judged}
 use Rattle.schema.specs.declared.Judged.the-variants.{Accepted, Refused}
+use Rattle.layout.specs.Refusals as N
 use Rattle.layout.specs.Entries.{verdict, checkOf as rowCheck}
 use Rattle.layout.specs.Entries as E
 use Rattle.batch.specs.Frames.{framed}
@@ -17,7 +18,7 @@ use Rattle.batch.specs.Batches.{AllChecked, checkedNone, checkedRow, Sou
 use Rattle.batch.proofs.Taken.{check-row-is, from-done}
 
 module _ (s : List ℕ) where
-  in-turn : (k : ℕ) (m : Option ℕ) (c : Checking) → inTurn k m c ≡ B.done → (m ≡ none) × (c ≡ B.done)
+  in-turn : (k : ℕ) (m : Option N.Refusal) (c : Checking) → inTurn k m c ≡ B.done → (m ≡ none) × (c ≡ B.done)
   in-turn k none c e = (refl, e)
   in-turn k (some n) c e = let z : _≡_ {A = ℕ} 0 1 = cc in absurd (omega arith)
 
@@ -32,15 +33,15 @@ module _ (s : List ℕ) where
   unfolding checkRows
   all-back a k checkedNone = refl
   all-back a k (checkedRow {row = row} {rows = rows} e h) =
-      ap (λ (m : Option ℕ). inTurn k m (checkRows s (suc k) rows)) (from-done (rowBad s row) (sym (check-row-is s row a) ∙ e)) ∙ all-back a (suc k) h
+      ap (λ (m : Option N.Refusal). inTurn k m (checkRows s (suc k) rows)) (from-done (rowBad s row) (sym (check-row-is s row a) ∙ e)) ∙ all-back a (suc k) h
 
   pub sound : (b : List ℕ) → checkOf s b ≡ B.done → Sound s b
   unfolding checkOf
   sound b e = go (judged s) refl (framed b) refl
     where
       go : (j : Judged) → judged s ≡ j → (m : Option (List (List ℕ))) → framed b ≡ m → Sound s b
-      go Refused a m q = let z : B.refused 1 ≡ B.done = rw a at e in let o : _≡_ {A = ℕ} 0 1 = cc in absurd (omega arith)
-      go Accepted a none q = let z : B.refused 10 ≡ B.done = rw (a, q) at e in let o : _≡_ {A = ℕ} 0 1 = cc in absurd (omega arith)
+      go Refused a m q = let z : B.refused (N.numbered 1) ≡ B.done = rw a at e in let o : _≡_ {A = ℕ} 0 1 = cc in absurd (omega arith)
+      go Accepted a none q = let z : B.refused (N.numbered 10) ≡ B.done = rw (a, q) at e in let o : _≡_ {A = ℕ} 0 1 = cc in absurd (omega arith)
       go Accepted a (some rows) q =
           let z : checkRows s 0 rows ≡ B.done = rw (a, q) at e in
           record { schema = a; rows = rows; is = q; checked = all-forth a 0 rows z }

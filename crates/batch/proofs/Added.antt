@@ -15,19 +15,20 @@ use Rattle.words.proofs.Runs.{sets-then}
 use Rattle.schema.specs.Reading.{judged}
 use Rattle.schema.specs.declared.Judged.{Judged}
 use Rattle.schema.specs.declared.Judged.the-variants.{Accepted, Refused}
+use Rattle.layout.specs.Refusals as N
 use Rattle.layout.specs.Setting.{_or_}
 use Rattle.layout.specs.Entries.{Verdict, verdict, Sized, takes, refusedWith, schemaBad, sizedAfter, checkOf as rowCheck}
 use Rattle.layout.specs.Entries as E
 use Rattle.answers.specs.declared.Refusal.{Refusal}
 use Rattle.answers.specs.declared.Refusal.the-variants as F
 use Rattle.answers.specs.declared.Length.the-variants as L
-use Rattle.answers.specs.Meaning.{numberOf, lengthOf}
+use Rattle.answers.specs.Meaning.{refusalMeans, lengthOf}
 use Rattle.answers.proofs.Unique.{no-length}
 use Rattle.row.specs.Demand1.{Ends}
 use Rattle.row.specs.Demand1 as D
 use Rattle.row.proofs.Among.{not-among}
 use Rattle.row.proofs.Demand1.{demand1}
-use Rattle.checking.proofs.Tests.{cut-some, cut-none}
+use Rattle.layout.proofs.Reader.{cut-some, cut-none}
 use Rattle.batch.specs.Frames.{be, frame, framed}
 use Rattle.batch.specs.Entries.{rowBad, lentRows, framedAt, appendOf, appendedOf}
 use Rattle.batch.specs.Meaning.{Appends, afterSchema}
@@ -35,9 +36,10 @@ use Rattle.batch.proofs.Sizes.{length-be}
 use Rattle.batch.proofs.Framing.{length-frame}
 
 -- a refusal of a check is not 4, so it has no length
-number-of : (n : ℕ) (v : Verdict) → Ends (1 ∷ 3 ∷ 7 ∷ []) v → E.refused n ≡ v → n ≡ 4 → ⊥
-number-of n v D.done e = let z : _≡_ {A = ℕ} 0 1 = cc in absurd (omega arith)
-number-of n v (D.refused {n = m} o) e = let z : m ≡ n = cc in λ q. not-among 4 o refl (z ∙ q)
+number-of : (r : N.Refusal) (v : Verdict) → Ends (1 ∷ 3 ∷ 7 ∷ []) v → E.refused r ≡ v → r ≡ N.numbered 4 → ⊥
+number-of r v D.done e = let z : _≡_ {A = ℕ} 0 1 = cc in absurd (omega arith)
+number-of r v (D.refused (D.number {n = m} o _)) e = λ q. let z : m ≡ 4 = cc in not-among 4 o refl z
+number-of r v (D.refused (D.place o)) e = λ q. let z : _≡_ {A = ℕ} 0 1 = cc in absurd (omega arith)
 
 -- a checked row is short
 pub row-small : (s row : List ℕ) → E.done ≡ rowCheck s row → length row ≤ 16384
@@ -45,8 +47,8 @@ unfolding rowCheck
 row-small s row e = go (judged s) refl (leb (length row) 16384) refl
   where
     go : (j : Judged) → judged s ≡ j → (v : Bool) → leb (length row) 16384 ≡ v → length row ≤ 16384
-    go Refused a v h = let z : E.done ≡ E.refused 1 = rw a at e in let o : _≡_ {A = ℕ} 0 1 = cc in absurd (omega arith)
-    go Accepted a false h = let z : E.done ≡ E.refused 3 = rw (a, h) at e in let o : _≡_ {A = ℕ} 0 1 = cc in absurd (omega arith)
+    go Refused a v h = let z : E.done ≡ E.refused (N.numbered 1) = rw a at e in let o : _≡_ {A = ℕ} 0 1 = cc in absurd (omega arith)
+    go Accepted a false h = let z : E.done ≡ E.refused (N.numbered 3) = rw (a, h) at e in let o : _≡_ {A = ℕ} 0 1 = cc in absurd (omega arith)
     go Accepted a true h = leb-true (length row) 16384 h
 
 module _ (room : List ℕ) (used : ℕ) where
@@ -60,7 +62,7 @@ module _ (room : List ℕ) (used : ℕ) where
 
 module _ (s room : List ℕ) (used : ℕ) (row : List ℕ) where
   -- what an answer leaves
-  leaves : (n k : ℕ) → refusedWith n k ≡ appendOf s room used row → room ≡ appendedOf s room used row
+  leaves : (n : N.Refusal) (k : ℕ) → refusedWith n k ≡ appendOf s room used row → room ≡ appendedOf s room used row
   unfolding appendedOf
   leaves n k e = rw (← e)
 
@@ -69,7 +71,7 @@ module _ (s room : List ℕ) (used : ℕ) (row : List ℕ) where
   append-broken e z = rw z (record { answers = go (judged s) refl; leaves = leaves _ _ (go (judged s) refl) })
     where
       go : (j : Judged) → judged s ≡ j
-          → refusedWith (numberOf (afterSchema (judged s) F.Batch)) (lengthOf (afterSchema (judged s) F.Batch)) ≡ appendOf s room used row
+          → refusedWith (refusalMeans (afterSchema (judged s) F.Batch)) (lengthOf (afterSchema (judged s) F.Batch)) ≡ appendOf s room used row
       go Accepted a = rw (a, e)
       go Refused a = rw a
 
@@ -79,7 +81,7 @@ module _ (s room : List ℕ) (used : ℕ) (row : List ℕ) where
     sized E.done = sizedAfter none (used + length (frame row)) (length room)
     sized (E.refused n) = refusedWith n 0
 
-    sized-after : (m : Option ℕ) → sizedAfter m (used + length (frame row)) (length room) ≡ sized (verdict m)
+    sized-after : (m : Option N.Refusal) → sizedAfter m (used + length (frame row)) (length room) ≡ sized (verdict m)
     unfolding sized
     sized-after none = refl
     sized-after (some n) = refl
@@ -88,15 +90,15 @@ module _ (s room : List ℕ) (used : ℕ) (row : List ℕ) where
     unfolding appendOf rowCheck
     append-is = rw e (again (schemaBad s) (rowBad s row))
       where
-        again : (m n : Option ℕ) → sizedAfter (m or none or n) (used + length (frame row)) (length room) ≡ sized (verdict (m or n))
+        again : (m n : Option N.Refusal) → sizedAfter (m or none or n) (used + length (frame row)) (length room) ≡ sized (verdict (m or n))
         again none n = sized-after n
         again (some i) n = sized-after (some i)
 
-    pub append-refused : (r : Refusal) → E.refused (numberOf r) ≡ rowCheck s row → Appends s room used row (L.Refused r) room
+    pub append-refused : (r : Refusal) → E.refused (refusalMeans r) ≡ rowCheck s row → Appends s room used row (L.Refused r) room
     unfolding sized
     append-refused r q =
-        let l : lengthOf r ≡ 0 = no-length r (number-of (numberOf r) (rowCheck s row) (demand1 .check s row) q) in
-        let z : refusedWith (numberOf r) (lengthOf r) ≡ appendOf s room used row = ap (refusedWith (numberOf r)) l ∙ ap sized q ∙ sym append-is in
+        let l : lengthOf r ≡ 0 = no-length r (number-of (refusalMeans r) (rowCheck s row) (demand1 .check s row) q) in
+        let z : refusedWith (refusalMeans r) (lengthOf r) ≡ appendOf s room used row = ap (refusedWith (refusalMeans r)) l ∙ ap sized q ∙ sym append-is in
         record { answers = z; leaves = leaves _ _ z }
 
     module _ (q : E.done ≡ rowCheck s row) (needed : ℕ) (n : needed ≡ used + 4 + length row) where
@@ -106,8 +108,9 @@ module _ (s room : List ℕ) (used : ℕ) (row : List ℕ) where
       pub append-short : length room < needed → Appends s room used row (L.Refused (F.Room needed)) room
       unfolding sized
       append-short h =
-          let z : refusedWith 4 needed ≡ appendOf s room used row = sym (append-is ∙ ap sized (sym q) ∙ rw (whole, lt-leb needed (length room) h)) in
-          record { answers = z; leaves = leaves 4 needed z }
+          let z : refusedWith (N.numbered 4) needed ≡ appendOf s room used row = sym
+          (append-is ∙ ap sized (sym q) ∙ rw (whole, lt-leb needed (length room) h)) in
+          record { answers = z; leaves = leaves (N.numbered 4) needed z }
 
       pub append-done : needed ≤ length room → {mid room′ : List ℕ} → mid ≡ sets room used (be 4 (length row))
           → room′ ≡ sets mid (used + 4) (part row 0 (length row)) → Appends s room used row (L.Done needed) room′

@@ -1,13 +1,14 @@
 -- The worked batches, computed from the definitions. Assumes nothing.
 use mathlib.Core.Path.{refl}
 use native.Mathlib.Decide.{decLe, decLt, ℕ-discrete}
-use Rattle.words.specs.Bytes.{le, num, fill}
+use Rattle.words.specs.Bytes.{le, num, fill, zerosAhead, highBits, pastByte}
 use Rattle.schema.specs.Marks.{types, markAt}
 use Rattle.schema.specs.Kinds.{find, placeOf, kindOf, placed as placedKind, headKind, kindAt}
 use Rattle.schema.specs.Types.{fixedPlace, textPlace, fixedAt, textAt, place, width, mark, count, field}
 use Rattle.schema.specs.Reading.{parseAll, parseRo, parseKind, parse as parseTy, judged}
 use Rattle.schema.specs.Walk.{typeAt as tyAt, fieldsOf}
 use Rattle.layout.specs.Reader.{assert, cut}
+use Rattle.layout.specs.Faults.{assertAt, cutAt, seenFrom, within, yielded, inRow, faultIn}
 use Rattle.layout.specs.Tiles.{total, both?, change?, stands?}
 use Rattle.layout.specs.Cells.{fromCells, toCells, onNull, bytes, parts}
 use Rattle.layout.specs.Layout.{number, string, inside, outside, kidOf, slotOf, kidGet, flags, slots, tails, reads, bodyPut, bodyGet, struct, array}
@@ -23,8 +24,10 @@ use Rattle.batch.specs.Table.{Table}
 
 -- to unfold this is to unfold the definitions
 computes : Unit {0}
-unfolding le num fill types markAt find placeOf kindOf placedKind headKind kindAt fixedPlace textPlace fixedAt textAt place width mark count field
-    parseAll parseRo parseKind parseTy judged tyAt fieldsOf assert cut total both? change? stands? fromCells toCells onNull bytes parts
+unfolding le num fill zerosAhead highBits pastByte types markAt find placeOf kindOf placedKind headKind kindAt fixedPlace textPlace fixedAt textAt
+    place width mark count field
+    parseAll parseRo parseKind parseTy judged tyAt fieldsOf assert cut assertAt cutAt seenFrom within yielded inRow faultIn total both? change? stands?
+    fromCells toCells onNull bytes parts
     number string inside outside kidOf slotOf kidGet flags slots tails reads bodyPut bodyGet struct array pair limit codec
     must mustStep own bySlot byFlag child stepIn goOn walk typeAt placed valueOf answerOf found readIn
     boolBytes signedBytes float32Bytes float64Bytes inBytes suits keepsText keeps refusalIn judgeAt writeFixed write writeAt outcome setIn

@@ -7,7 +7,7 @@ use native.Mathlib.Omega.{arith}
 use lib.ListN.{length, drop, length-drop}
 use lib.Seq.{drop-drop}
 use Rattle.layout.specs.Reader.{cut}
-use Rattle.checking.proofs.Tests.{cut-some, cut-none}
+use Rattle.layout.proofs.Reader.{cut-some, cut-none}
 use Rattle.batch.specs.Frames.{first}
 use Rattle.batch.specs.Places.{Says, FrameEnd}
 

@@ -9,6 +9,7 @@ use lib.Seq.{drop-cons, drop-length}
 use Rattle.words.specs.Bytes.{part}
 use Rattle.schema.specs.Reading.{judged}
 use Rattle.schema.specs.declared.Judged.the-variants.{Accepted, Refused}
+use Rattle.layout.specs.Refusals as N
 use Rattle.layout.specs.Entries.{Verdict, verdict, checkOf as rowCheck}
 use Rattle.layout.specs.Entries as E
 use Rattle.batch.specs.Frames.{framed}
@@ -23,11 +24,11 @@ pub record InOrder (s b : List ℕ) (n : ℕ) : Type 0 where
   pub is : (rows : List (List ℕ)) → framed b ≡ some rows → checkOf s b ≡ checkRows s n (drop n (rowsOf b))
 
 module _ (s b : List ℕ) where
-  pub check-no : judged s ≡ Refused → B.refused 1 ≡ checkOf s b
+  pub check-no : judged s ≡ Refused → B.refused (N.numbered 1) ≡ checkOf s b
   unfolding checkOf
   check-no a = rw a
 
-  pub check-broken : judged s ≡ Accepted → framed b ≡ none → B.refused 10 ≡ checkOf s b
+  pub check-broken : judged s ≡ Accepted → framed b ≡ none → B.refused (N.numbered 10) ≡ checkOf s b
   unfolding checkOf
   check-broken a e = rw (a, e)
 
@@ -62,7 +63,7 @@ module _ {s b : List ℕ} {n : ℕ} (a : judged s ≡ Accepted) (c : InOrder s b
           turn r ∙ rw sound;
     })
 
-    pub order-refused : (m : ℕ) → E.refused m ≡ rowCheck s (part b (at + 4) (end - (at + 4))) → refusedIn (framed b) n m ≡ checkOf s b
+    pub order-refused : (m : N.Refusal) → E.refused m ≡ rowCheck s (part b (at + 4) (end - (at + 4))) → refusedIn (framed b) n m ≡ checkOf s b
     order-refused m e = go (framed b) refl
       where
         go : (rows : Option (List (List ℕ))) → framed b ≡ rows → refusedIn (framed b) n m ≡ checkOf s b

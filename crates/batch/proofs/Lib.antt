@@ -13,4 +13,5 @@ pub mod Settings
 pub mod Batches
 pub mod Numbers
 pub mod Single
+pub mod Low
 pub mod Cases

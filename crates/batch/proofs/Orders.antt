@@ -14,6 +14,7 @@ use Rattle.words.proofs.Runs.{sets-same}
 use Rattle.schema.specs.Reading.{judged}
 use Rattle.schema.specs.declared.Judged.{Judged}
 use Rattle.schema.specs.declared.Judged.the-variants.{Accepted, Refused}
+use Rattle.layout.specs.Refusals as N
 use Rattle.layout.specs.Setting.{Setting}
 use Rattle.layout.specs.Setting as S
 use Rattle.layout.specs.Reading as R
@@ -24,7 +25,7 @@ use Rattle.answers.specs.declared.Refusal.{Refusal}
 use Rattle.answers.specs.declared.Refusal.the-variants as F
 use Rattle.answers.specs.declared.Outcome.{Outcome}
 use Rattle.answers.specs.declared.Outcome.the-variants as O
-use Rattle.answers.specs.Meaning.{numberOf}
+use Rattle.answers.specs.Meaning.{refusalMeans}
 use Rattle.setting.specs.Writes.{SetAs}
 use Rattle.batch.specs.Frames.{framed}
 use Rattle.batch.specs.Entries.{rowOf, startOf, noRow, rowBad, Fetching, range, fetchAfter, fetchOf}
@@ -46,7 +47,7 @@ abbrev fetched : Verdict → ℕ → ℕ → Fetching
 fetched E.done o n = range o n
 fetched (E.refused m) o n = B.refused m
 
-fetched-after : (m : Option ℕ) (o n : ℕ) → fetchAfter m o n ≡ fetched (verdict m) o n
+fetched-after : (m : Option N.Refusal) (o n : ℕ) → fetchAfter m o n ≡ fetched (verdict m) o n
 fetched-after none o n = refl
 fetched-after (some m) o n = refl
 
@@ -54,28 +55,28 @@ fetched-after (some m) o n = refl
 
 -- the refusal of an entry that asks of row k, where there is none
 pub record NoRow (s b : List ℕ) (k : ℕ) (r : Refusal) : Type 0 where
-  pub is : noRow s b k ≡ some (numberOf r)
+  pub is : noRow s b k ≡ some (refusalMeans r)
 
 module _ {s b : List ℕ} {k : ℕ} {r : Refusal} where
   pub no-row-broken : framed b ≡ none → r ≡ afterSchema (judged s) F.Batch → NoRow s b k r
   no-row-broken e z = record { is = rw z (go (judged s) refl) }
     where
-      go : (j : Judged) → judged s ≡ j → noRow s b k ≡ some (numberOf (afterSchema (judged s) F.Batch))
+      go : (j : Judged) → judged s ≡ j → noRow s b k ≡ some (refusalMeans (afterSchema (judged s) F.Batch))
       go Accepted a = rw (a, e)
       go Refused a = rw a
 
   pub no-row-past : Ended b k → r ≡ afterSchema (judged s) F.NoPlace → NoRow s b k r
   no-row-past e z = record { is = rw z (go (judged s) refl) }
     where
-      go : (j : Judged) → judged s ≡ j → noRow s b k ≡ some (numberOf (afterSchema (judged s) F.NoPlace))
+      go : (j : Judged) → judged s ≡ j → noRow s b k ≡ some (refusalMeans (afterSchema (judged s) F.NoPlace))
       go Accepted a = rw (a, e .is, le-ltb k (length (e .rows)) (e .few))
       go Refused a = rw a
 
-  pub fetch-none : NoRow s b k r → B.refused (numberOf r) ≡ fetchOf s b k
+  pub fetch-none : NoRow s b k r → B.refused (refusalMeans r) ≡ fetchOf s b k
   unfolding fetchOf
   fetch-none n = rw (n .is)
 
-  pub read-none : (p : List ℕ) → NoRow s b k r → R.refused (numberOf r) ≡ readOf s b k p
+  pub read-none : (p : List ℕ) → NoRow s b k r → R.refused (refusalMeans r) ≡ readOf s b k p
   unfolding readOf
   read-none p n = rw (n .is)
 
@@ -126,7 +127,7 @@ module _ (s : List ℕ) {b : List ℕ} {k start end : ℕ} (at : RowAt b k start
   pub fetch-done : E.done ≡ rowCheck s lent → range start (end - start) ≡ fetchOf s b k
   fetch-done e = fetch-by E.done e
 
-  pub fetch-refused : (n : ℕ) → E.refused n ≡ rowCheck s lent → B.refused n ≡ fetchOf s b k
+  pub fetch-refused : (n : N.Refusal) → E.refused n ≡ rowCheck s lent → B.refused n ≡ fetchOf s b k
   fetch-refused n e = fetch-by (E.refused n) e
 
   pub read-by : (p : List ℕ) (r : R.Answer) → r ≡ rowRead s lent p → r ≡ readOf s b k p

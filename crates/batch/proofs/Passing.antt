@@ -11,9 +11,10 @@ use lib.Dec.{eqb}
 use borrow.Author.Tests.{eqb-true, eqb-false}
 use Rattle.words.specs.Bytes.{part}
 use Rattle.words.proofs.Parts.{length-part}
+use Rattle.layout.specs.Refusals as N
 use Rattle.layout.specs.Entries.{takes, refusedWith}
 use Rattle.answers.specs.declared.Refusal.{Refusal}
-use Rattle.answers.specs.Meaning.{numberOf, lengthOf}
+use Rattle.answers.specs.Meaning.{refusalMeans, lengthOf}
 use Rattle.batch.specs.declared.Counted.{Counted}
 use Rattle.batch.specs.declared.Counted.the-variants as C
 use Rattle.batch.specs.declared.frames.Found.{Found}
@@ -98,7 +99,7 @@ module _ {b : List ℕ} {at n : ℕ} (p : Passed b at n) where
   unfolding countOf
   count-end e = ap takes (sym (p .counts)) ∙ sym (ap counted (passed-end e))
 
-  pub count-broken : at < length b → first (drop at b) ≡ none → refusedWith 10 0 ≡ countOf b
+  pub count-broken : at < length b → first (drop at b) ≡ none → refusedWith (N.numbered 10) 0 ≡ countOf b
   unfolding countOf
   count-broken l e = sym (ap counted (passed-broken l e))
 
@@ -169,7 +170,7 @@ count-whole {b} {c} {n} h e = go (framed b) refl
   where
     go : (m : Option (List (List ℕ))) → framed b ≡ m → Whole b n
     go none q =
-        let z : takes n ≡ refusedWith 10 0 = sym (ap countMeans h) ∙ e ∙ ap counted q in
+        let z : takes n ≡ refusedWith (N.numbered 10) 0 = sym (ap countMeans h) ∙ e ∙ ap counted q in
         let o : _≡_ {A = ℕ} 0 1 = cc in absurd (omega arith)
     go (some rows) q =
         let z : takes n ≡ takes (length rows) = sym (ap countMeans h) ∙ e ∙ ap counted q in
@@ -178,7 +179,7 @@ count-whole {b} {c} {n} h e = go (framed b) refl
 -- a count that is refused says that the batch can't be taken apart, with 10 and no length
 pub record Broken (b : List ℕ) (r : Refusal) : Type 0 where
   pub is : framed b ≡ none
-  pub number : numberOf r ≡ 10
+  pub number : refusalMeans r ≡ N.numbered 10
   pub length : lengthOf r ≡ 0
 
 pub count-none : {b : List ℕ} {c : Counted} {r : Refusal} → c ≡ C.Refused r → countMeans c ≡ countOf b → Broken b r
@@ -187,8 +188,8 @@ count-none {b} {c} {r} h e = go (framed b) refl
   where
     go : (m : Option (List (List ℕ))) → framed b ≡ m → Broken b r
     go none q =
-        let z : refusedWith (numberOf r) (lengthOf r) ≡ refusedWith 10 0 = sym (ap countMeans h) ∙ e ∙ ap counted q in
+        let z : refusedWith (refusalMeans r) (lengthOf r) ≡ refusedWith (N.numbered 10) 0 = sym (ap countMeans h) ∙ e ∙ ap counted q in
         record { is = q; number = cc; length = cc }
     go (some rows) q =
-        let z : refusedWith (numberOf r) (lengthOf r) ≡ takes (length rows) = sym (ap countMeans h) ∙ e ∙ ap counted q in
+        let z : refusedWith (refusalMeans r) (lengthOf r) ≡ takes (length rows) = sym (ap countMeans h) ∙ e ∙ ap counted q in
         let o : _≡_ {A = ℕ} 0 1 = cc in absurd (omega arith)

@@ -12,8 +12,9 @@ use Rattle.words.proofs.Parts.{bytes-part}
 use Rattle.words.proofs.Runs.{getD-sets-lo, getD-sets-hi}
 use Rattle.schema.specs.Reading.{judged}
 use Rattle.schema.specs.declared.Judged.the-variants.{Accepted}
+use Rattle.layout.specs.Refusals as N
 use Rattle.layout.specs.Setting.{Setting, _or_, Outcome, refuses, becomes}
-use Rattle.layout.specs.Demand.{Proper, numberIn}
+use Rattle.layout.specs.Demand.{Proper, refusalOf}
 use Rattle.layout.specs.Entries.{verdict, setAfter, readOf as rowRead, setOf as rowSet}
 use Rattle.layout.specs.Entries as E
 use Rattle.row.proofs.Demand3.{demand3}
@@ -172,11 +173,11 @@ module _ {s b : List ℕ} {h : Known s b} {k : ℕ} {p : List ℕ} {x : Setting}
       let l : j < length rows′ = rw length-set (w .counts) in
       does (after z) j l q y (w .row) (ap (λ (u : List ℕ). rowSet s u q y) same ∙ w .is)
 
-number-alike : (m : Option ℕ) (o : Outcome) (b b′ : List ℕ) (i j : ℕ) → numberIn (setAfter m (within b′ j o)) ≡ numberIn (setAfter m (within b i o))
-unfolding numberIn
-number-alike none (refuses n) b b′ i j = refl
-number-alike none (becomes row) b b′ i j = refl
-number-alike (some m) o b b′ i j = refl
+refusal-alike : (m : Option N.Refusal) (o : Outcome) (b b′ : List ℕ) (i j : ℕ) → refusalOf (setAfter m (within b′ j o)) ≡ refusalOf (setAfter m (within b i o))
+unfolding refusalOf
+refusal-alike none (refuses n) b b′ i j = refl
+refusal-alike none (becomes row) b b′ i j = refl
+refusal-alike (some m) o b b′ i j = refl
 
 -- ---- the laws
 
@@ -210,12 +211,12 @@ module _ (s : List ℕ) where
   others b j k p x b′ hb n e = edit-others (edit (known-set k p x hb e) k p x e) j n
 
   pub unmoved : (b : List ℕ) (j k : ℕ) (p q : List ℕ) (x y : Setting) (b′ : List ℕ) → Bytes b → j ≢ k → setOf s b j p x ≡ becomes b′
-      → numberIn (setOf s b′ k q y) ≡ numberIn (setOf s b k q y)
+      → refusalOf (setOf s b′ k q y) ≡ refusalOf (setOf s b k q y)
   unfolding setOf
   unmoved b j k p q x y b′ hb n e =
       let z = edit (known-set j p x hb e) j p x e in
       let same : rowOf b′ k ≡ rowOf b k = row-same z k (λ i. n (sym i)) in
-      rw (missing-same z k, same) (number-alike (noRow s b k) (rowSet s (rowOf b k) q y) b b′ (startOf b k) (startOf b′ k))
+      rw (missing-same z k, same) (refusal-alike (noRow s b k) (rowSet s (rowOf b k) q y) b b′ (startOf b k) (startOf b′ k))
 
   pub either-order : (b : List ℕ) (j k : ℕ) (p q : List ℕ) (x y : Setting) (b₁ b₂ : List ℕ) → Bytes b → j ≢ k
       → setOf s b j p x ≡ becomes b₁ → setOf s b k q y ≡ becomes b₂ → Meet s b₁ b₂ j k p q x y

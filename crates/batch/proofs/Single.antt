@@ -3,11 +3,12 @@ use mathlib.Core.Path.{_≡_, refl, sym, ap, ap₂, _∙_}
 use mathlib.Core.List.{List, [], _∷_}
 use Prim.Native.Nat.{ℕ}
 use native.Mathlib.Omega.{arith}
+use Rattle.layout.specs.Refusals as N
 use Rattle.layout.specs.Setting as S
 use Rattle.layout.specs.Entries as E
 use Rattle.layout.specs.Entries.{setVerdict}
 use Rattle.answers.specs.declared.Outcome.{Outcome}
-use Rattle.answers.specs.Meaning.{numberOf, lengthOf, Numbered}
+use Rattle.answers.specs.Meaning.{refusalMeans, lengthOf, Numbered}
 use Rattle.answers.proofs.Unique.{refusal-one, number-one, outcome-one, length-one, meaning-one}
 use Rattle.row.specs.Demand1.{Sets}
 use Rattle.row.specs.Demand1 as D
@@ -23,7 +24,7 @@ use Rattle.batch.specs.Entries as B
 use Rattle.batch.specs.Entries.{Fetching, Checking, fetchOf, checkOf, readOf, setOf}
 use Rattle.batch.specs.Meaning.{countMeans, fetchMeans, checkMeans}
 use Rattle.batch.specs.Demand1.{Finds, Checks, fetchNumbers, setNumbers}
-use Rattle.batch.specs.Demand1 as N
+use Rattle.batch.specs.Demand1 as G
 use Rattle.batch.specs.Unique.{Unique}
 use Rattle.batch.proofs.Numbers.{demand1}
 
@@ -32,45 +33,49 @@ counts (C.Rows m) (C.Rows n) e = cc
 counts (C.Rows m) (C.Refused s) e = cc
 counts (C.Refused r) (C.Rows n) e = cc
 counts (C.Refused r) (C.Refused s) e =
-    let n : numberOf r ≡ numberOf s = cc in
+    let n : refusalMeans r ≡ refusalMeans s = cc in
     let l : lengthOf r ≡ lengthOf s = cc in
     ap C.Refused (refusal-one r s n l)
 
 -- 4, whose length these meanings leave out, is none of the numbers
-no-four : (v : Fetching) → Finds fetchNumbers v → v ≡ B.refused 4 → ⊥
-no-four v N.range e = let z : _≡_ {A = ℕ} 0 1 = cc in absurd (omega arith)
-no-four v (N.refused {n = n} o) e = let z : n ≡ 4 = cc in not-among 4 o refl z
+no-four : (v : Fetching) → Finds fetchNumbers v → v ≡ B.refused (N.numbered 4) → ⊥
+no-four v G.range e = let z : _≡_ {A = ℕ} 0 1 = cc in absurd (omega arith)
+no-four v (G.refused (D.number {n = n} o _)) e = let z : n ≡ 4 = cc in not-among 4 o refl z
+no-four v (G.refused (D.place o)) e = let z : _≡_ {A = ℕ} 0 1 = cc in absurd (omega arith)
 
-fetched : (r r′ : Fetched) → fetchMeans r ≡ fetchMeans r′ → (fetchMeans r ≡ B.refused 4 → ⊥) → r ≡ r′
+fetched : (r r′ : Fetched) → fetchMeans r ≡ fetchMeans r′ → (fetchMeans r ≡ B.refused (N.numbered 4) → ⊥) → r ≡ r′
 fetched (T.Row a n) (T.Row b m) e h = let p : a ≡ b = cc in let q : n ≡ m = cc in ap₂ T.Row p q
 fetched (T.Row a n) (T.Refused s) e h = cc
 fetched (T.Refused r) (T.Row b m) e h = cc
 fetched (T.Refused r) (T.Refused s) e h =
-    let n : numberOf r ≡ numberOf s = cc in
+    let n : refusalMeans r ≡ refusalMeans s = cc in
     ap T.Refused (number-one r s n (λ q. h (ap B.refused q)))
 
-no-four-all : (v : Checking) → Checks (1 ∷ 10 ∷ []) (3 ∷ 7 ∷ []) v → v ≡ B.refused 4 → ⊥
-no-four-all v N.done e = let z : _≡_ {A = ℕ} 0 1 = cc in absurd (omega arith)
-no-four-all v (N.refused {n = n} o) e = let z : n ≡ 4 = cc in not-among 4 o refl z
-no-four-all v (N.refusedRow o) e = let z : _≡_ {A = ℕ} 0 1 = cc in absurd (omega arith)
+no-four-all : (v : Checking) → Checks (1 ∷ 10 ∷ []) (3 ∷ 7 ∷ []) v → v ≡ B.refused (N.numbered 4) → ⊥
+no-four-all v G.done e = let z : _≡_ {A = ℕ} 0 1 = cc in absurd (omega arith)
+no-four-all v (G.refused (D.number {n = n} o _)) e = let z : n ≡ 4 = cc in not-among 4 o refl z
+no-four-all v (G.refused (D.place o)) e = let z : _≡_ {A = ℕ} 0 1 = cc in absurd (omega arith)
+no-four-all v (G.refusedRow o) e = let z : _≡_ {A = ℕ} 0 1 = cc in absurd (omega arith)
 
-no-four-row : (v : Checking) (k : ℕ) → Checks (1 ∷ 10 ∷ []) (3 ∷ 7 ∷ []) v → v ≡ B.refusedRow k 4 → ⊥
-no-four-row v k N.done e = let z : _≡_ {A = ℕ} 0 1 = cc in absurd (omega arith)
-no-four-row v k (N.refused o) e = let z : _≡_ {A = ℕ} 0 1 = cc in absurd (omega arith)
-no-four-row v k (N.refusedRow {n = n} o) e = let z : n ≡ 4 = cc in not-among 4 o refl z
+no-four-row : (v : Checking) (k : ℕ) → Checks (1 ∷ 10 ∷ []) (3 ∷ 7 ∷ []) v → v ≡ B.refusedRow k (N.numbered 4) → ⊥
+no-four-row v k G.done e = let z : _≡_ {A = ℕ} 0 1 = cc in absurd (omega arith)
+no-four-row v k (G.refused o) e = let z : _≡_ {A = ℕ} 0 1 = cc in absurd (omega arith)
+no-four-row v k (G.refusedRow (D.number {n = n} o _)) e = let z : n ≡ 4 = cc in not-among 4 o refl z
+no-four-row v k (G.refusedRow (D.place o)) e = let z : _≡_ {A = ℕ} 0 1 = cc in absurd (omega arith)
 
-checked : (r r′ : Checked) → checkMeans r ≡ checkMeans r′ → (checkMeans r ≡ B.refused 4 → ⊥) → ((k : ℕ) → checkMeans r ≡ B.refusedRow k 4 → ⊥) → r ≡ r′
+checked : (r r′ : Checked) → checkMeans r ≡ checkMeans r′ → (checkMeans r ≡ B.refused (N.numbered 4) → ⊥)
+    → ((k : ℕ) → checkMeans r ≡ B.refusedRow k (N.numbered 4) → ⊥) → r ≡ r′
 checked K.Done K.Done e h g = refl
 checked K.Done (K.Refused s) e h g = cc
 checked K.Done (K.RefusedRow k s) e h g = cc
 checked (K.Refused r) K.Done e h g = cc
-checked (K.Refused r) (K.Refused s) e h g = let n : numberOf r ≡ numberOf s = cc in ap K.Refused (number-one r s n (λ q. h (ap B.refused q)))
+checked (K.Refused r) (K.Refused s) e h g = let n : refusalMeans r ≡ refusalMeans s = cc in ap K.Refused (number-one r s n (λ q. h (ap B.refused q)))
 checked (K.Refused r) (K.RefusedRow k s) e h g = cc
 checked (K.RefusedRow j r) K.Done e h g = cc
 checked (K.RefusedRow j r) (K.Refused s) e h g = cc
 checked (K.RefusedRow j r) (K.RefusedRow k s) e h g =
     let i : j ≡ k = cc in
-    let n : numberOf r ≡ numberOf s = cc in
+    let n : refusalMeans r ≡ refusalMeans s = cc in
     ap₂ K.RefusedRow i (number-one r s n (λ q. g j (ap (B.refusedRow j) q)))
 
 -- reading: neither 4 nor 0, which stands for a float's case without its float
@@ -78,9 +83,10 @@ pub numbered-read : (s b : List ℕ) (k : ℕ) (p : List ℕ) → Numbered (read
 numbered-read s b k p = numbered (readOf s b k p) refl refl (demand1 .read s b k p)
 
 -- setting
-no-four-set : (o : S.Outcome) → Sets setNumbers o → setVerdict o ≡ E.refused 4 → ⊥
+no-four-set : (o : S.Outcome) → Sets setNumbers o → setVerdict o ≡ E.refused (N.numbered 4) → ⊥
 no-four-set o D.becomes e = let z : _≡_ {A = ℕ} 0 1 = cc in absurd (omega arith)
-no-four-set o (D.refused {n = n} q) e = let z : n ≡ 4 = cc in not-among 4 q refl z
+no-four-set o (D.refused (D.number {n = n} q _)) e = let z : n ≡ 4 = cc in not-among 4 q refl z
+no-four-set o (D.refused (D.place q)) e = let z : _≡_ {A = ℕ} 0 1 = cc in absurd (omega arith)
 
 pub unique : Unique
 unique = record {

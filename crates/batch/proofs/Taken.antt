@@ -17,7 +17,7 @@ use Rattle.schema.specs.Reading.{judged}
 use Rattle.schema.specs.Walk.{fieldsOf}
 use Rattle.schema.specs.declared.Judged.{Judged}
 use Rattle.schema.specs.declared.Judged.the-variants.{Accepted, Refused}
-use Rattle.layout.specs.Cells.{Cell}
+use Rattle.layout.specs.Refusals as N
 use Rattle.layout.specs.Walk.{Seat, Seen, bad, nullAt, seen}
 use Rattle.layout.specs.Setting.{Setting, isNull, inBytes, orEmpty, textOf, unless, _or_, writeFixed, write, writeAt, outcome, setIn, Outcome, refuses, becomes}
 use Rattle.layout.specs.Entries.{verdict, takes, refusedWith, schemaBad, rowLong, setAfter, sizedAfter, checkOf as rowCheck, setOf as rowSet}
@@ -29,7 +29,7 @@ use Rattle.batch.proofs.Framing.{framing-append}
 
 -- ---- what no refusal shows
 
-pub or-none : (a b : Option ℕ) → (a or b) ≡ none → (a ≡ none) × (b ≡ none)
+pub or-none : (a b : Option N.Refusal) → (a or b) ≡ none → (a ≡ none) × (b ≡ none)
 or-none none b e = (refl, e)
 or-none (some n) b e = let z : _≡_ {A = ℕ} 0 1 = cc in absurd (omega arith)
 
@@ -42,7 +42,7 @@ schema-of s e = go (judged s) refl
   where
     go : (j : Judged) → judged s ≡ j → judged s ≡ Accepted
     go Accepted a = a
-    go Refused a = let z : _≡_ {A = Option ℕ} (some 1) none = rw a at e in cc
+    go Refused a = let z : _≡_ {A = Option N.Refusal} (some (N.numbered 1)) none = rw a at e in cc
 
 pub record Rows (m : Option (List (List ℕ))) : Type 0 where
   pub rows : List (List ℕ)
@@ -71,27 +71,27 @@ pub check-row-is : (s row : List ℕ) → judged s ≡ Accepted → rowCheck s r
 unfolding rowCheck
 check-row-is s row a = rw a
 
-pub from-done : (m : Option ℕ) → verdict m ≡ E.done → m ≡ none
+pub from-done : (m : Option N.Refusal) → verdict m ≡ E.done → m ≡ none
 from-done none e = refl
 from-done (some n) e = let o : _≡_ {A = ℕ} 0 1 = cc in absurd (omega arith)
 
-pub from-refused : (m : Option ℕ) (n : ℕ) → verdict m ≡ E.refused n → m ≡ some n
+pub from-refused : (m : Option N.Refusal) (n : N.Refusal) → verdict m ≡ E.refused n → m ≡ some n
 from-refused none n e = let o : _≡_ {A = ℕ} 0 1 = cc in absurd (omega arith)
 from-refused (some k) n e = cc
 
-pub fetch-of : (m : Option ℕ) (o n start len : ℕ) → fetchAfter m o n ≡ range start len → (m ≡ none) × (o ≡ start) × (n ≡ len)
+pub fetch-of : (m : Option N.Refusal) (o n start len : ℕ) → fetchAfter m o n ≡ range start len → (m ≡ none) × (o ≡ start) × (n ≡ len)
 fetch-of none o n start len e = (refl, cc, cc)
 fetch-of (some i) o n start len e = let z : _≡_ {A = ℕ} 0 1 = cc in absurd (omega arith)
 
-pub sized-of : (m : Option ℕ) (need room n : ℕ) → sizedAfter m need room ≡ takes n → (m ≡ none) × (need ≡ n) × (need ≤ room)
+pub sized-of : (m : Option N.Refusal) (need room n : ℕ) → sizedAfter m need room ≡ takes n → (m ≡ none) × (need ≡ n) × (need ≤ room)
 sized-of (some i) need room n e = let z : _≡_ {A = ℕ} 0 1 = cc in absurd (omega arith)
 sized-of none need room n e = go (leb need room) refl
   where
-    go : (v : Bool) → leb need room ≡ v → (_≡_ {A = Option ℕ} none none) × (need ≡ n) × (need ≤ room)
+    go : (v : Bool) → leb need room ≡ v → (_≡_ {A = Option N.Refusal} none none) × (need ≡ n) × (need ≤ room)
     go true h = let z : takes need ≡ takes n = rw h at e in (refl, cc, leb-true need room h)
-    go false h = let z : refusedWith 4 need ≡ takes n = rw h at e in let o : _≡_ {A = ℕ} 0 1 = cc in absurd (omega arith)
+    go false h = let z : refusedWith (N.numbered 4) need ≡ takes n = rw h at e in let o : _≡_ {A = ℕ} 0 1 = cc in absurd (omega arith)
 
-pub set-of : (m : Option ℕ) (o : Outcome) (row : List ℕ) → setAfter m o ≡ becomes row → (m ≡ none) × (o ≡ becomes row)
+pub set-of : (m : Option N.Refusal) (o : Outcome) (row : List ℕ) → setAfter m o ≡ becomes row → (m ≡ none) × (o ≡ becomes row)
 set-of none o row e = (refl, e)
 set-of (some n) o row e = let z : _≡_ {A = ℕ} 0 1 = cc in absurd (omega arith)
 
@@ -131,11 +131,11 @@ unfolding writeAt
 written-long none x v row = refl
 written-long (some t) x v row = write-long t x v row
 
-outcome-long : (c : Option Cell) (r : Option ℕ) (w row row′ : List ℕ) → length w ≡ length row → outcome c r w ≡ becomes row′ → length row′ ≡ length row
+outcome-long : (c : Option ℕ) (r : Option N.Refusal) (w row row′ : List ℕ) → length w ≡ length row → outcome c r w ≡ becomes row′ → length row′ ≡ length row
 unfolding outcome
-outcome-long none r w row row′ h e = let z : _≡_ {A = ℕ} 0 1 = cc in absurd (omega arith)
-outcome-long (some c) (some n) w row row′ h e = let z : _≡_ {A = ℕ} 0 1 = cc in absurd (omega arith)
-outcome-long (some c) none w row row′ h e = let z : w ≡ row′ = cc in ap length (sym z) ∙ h
+outcome-long (some p) r w row row′ h e = let z : _≡_ {A = ℕ} 0 1 = cc in absurd (omega arith)
+outcome-long none (some n) w row row′ h e = let z : _≡_ {A = ℕ} 0 1 = cc in absurd (omega arith)
+outcome-long none none w row row′ h e = let z : w ≡ row′ = cc in ap length (sym z) ∙ h
 
 pub set-long : (s row p : List ℕ) (x : Setting) (row′ : List ℕ) → rowSet s row p x ≡ becomes row′ → length row′ ≡ length row
 unfolding rowSet setIn

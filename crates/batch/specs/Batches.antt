@@ -10,7 +10,7 @@ use Rattle.words.specs.Bytes.{Bytes, part}
 use Rattle.schema.specs.Reading.{judged}
 use Rattle.schema.specs.declared.Judged.the-variants.{Accepted}
 use Rattle.layout.specs.Setting.{Setting, becomes}
-use Rattle.layout.specs.Demand.{Proper, numberIn}
+use Rattle.layout.specs.Demand.{Proper, refusalOf}
 use Rattle.layout.specs.Entries.{takes}
 use Rattle.layout.specs.Entries as E
 use Rattle.row.specs.Demand2.{Demand2}
@@ -97,4 +97,4 @@ pub record Batches (s : List ℕ) : Type 0 where
       → setOf s b j p x ≡ becomes b₁ → setOf s b k q y ≡ becomes b₂ → Meet s b₁ b₂ j k p q x y
   -- and a setting in one row changes no refusal of a setting in another
   pub unmoved : (b : List ℕ) (j k : ℕ) (p q : List ℕ) (x y : Setting) (b′ : List ℕ) → Bytes b → j ≢ k → setOf s b j p x ≡ becomes b′
-      → numberIn (setOf s b′ k q y) ≡ numberIn (setOf s b k q y)
+      → refusalOf (setOf s b′ k q y) ≡ refusalOf (setOf s b k q y)

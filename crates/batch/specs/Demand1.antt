@@ -4,28 +4,29 @@ use mathlib.Core.Path.{_≡_}
 use mathlib.Core.List.{List, [], _∷_}
 use Prim.Native.Nat.{ℕ}
 use lib.ListN.{length}
+use Rattle.layout.specs.Refusals.{Refusal, numbered}
 use Rattle.layout.specs.Setting as S
 use Rattle.layout.specs.Setting.{Setting}
 use Rattle.layout.specs.Entries as E
-use Rattle.row.specs.Demand1.{OneOf, Fills, Gives, Sets}
+use Rattle.row.specs.Demand1.{Told, Fills, Gives, Sets}
 use Rattle.batch.specs.Entries as B
 use Rattle.batch.specs.Entries.{Fetching, Checking, countOf, fetchOf, checkOf, appendOf, appendedOf, readOf, setOf}
 
 -- a number of rows, or 10
 pub data Counts : E.Sized → Type 0 where
   rows : {n : ℕ} → Counts (E.takes n)
-  broken : Counts (E.refusedWith 10 0)
+  broken : Counts (E.refusedWith (numbered 10) 0)
 
 -- a range, or one of the numbers
 pub data Finds (ns : List ℕ) : Fetching → Type 0 where
   range : {start len : ℕ} → Finds ns (B.range start len)
-  refused : {n : ℕ} → OneOf ns n → Finds ns (B.refused n)
+  refused : {r : Refusal} → Told ns r → Finds ns (B.refused r)
 
 -- done, one of the numbers ns, or one of the numbers ms with a row's number
 pub data Checks (ns ms : List ℕ) : Checking → Type 0 where
   done : Checks ns ms B.done
-  refused : {n : ℕ} → OneOf ns n → Checks ns ms (B.refused n)
-  refusedRow : {k n : ℕ} → OneOf ms n → Checks ns ms (B.refusedRow k n)
+  refused : {r : Refusal} → Told ns r → Checks ns ms (B.refused r)
+  refusedRow : {k : ℕ} {r : Refusal} → Told ms r → Checks ns ms (B.refusedRow k r)
 
 abbrev pub fetchNumbers : List ℕ
 fetchNumbers = 1 ∷ 10 ∷ 5 ∷ 3 ∷ 7 ∷ []
@@ -44,5 +45,6 @@ pub record Demand1 : Type 0 where
   pub read : (s b : List ℕ) (k : ℕ) (p : List ℕ) → Gives readNumbers (readOf s b k p)
   pub set : (s b : List ℕ) (k : ℕ) (p : List ℕ) (x : Setting) → Sets setNumbers (setOf s b k p x)
   -- a refusal leaves every lent byte
-  pub append-leaves : (s room : List ℕ) (used : ℕ) (row : List ℕ) (n k : ℕ) → appendOf s room used row ≡ E.refusedWith n k → appendedOf s room used row ≡ room
-  pub set-leaves : (s b : List ℕ) (k : ℕ) (p : List ℕ) (x : Setting) (n : ℕ) → setOf s b k p x ≡ S.refuses n → E.rowAfter (setOf s b k p x) b ≡ b
+  pub append-leaves : (s room : List ℕ) (used : ℕ) (row : List ℕ) (r : Refusal) (k : ℕ) → appendOf s room used row ≡ E.refusedWith r k
+      → appendedOf s room used row ≡ room
+  pub set-leaves : (s b : List ℕ) (k : ℕ) (p : List ℕ) (x : Setting) (r : Refusal) → setOf s b k p x ≡ S.refuses r → E.rowAfter (setOf s b k p x) b ≡ b

@@ -7,6 +7,7 @@ use lib.Dec.{ltb}
 use lib.ListN.{length, take, getD}
 use lib.Seq.{sets}
 use Rattle.layout.specs.Reader.{_>>=_, cut}
+use Rattle.layout.specs.Refusals.{Refusal, numbered}
 use Rattle.layout.specs.Reading.{Answer}
 use Rattle.layout.specs.Setting.{Setting, isSome, unless, _or_, Outcome, refuses, becomes}
 use Rattle.layout.specs.Entries as E
@@ -30,26 +31,26 @@ abbrev pub startOf : List ℕ → ℕ → ℕ
 startOf b k = length (framing (take k (rowsOf b))) + 4
 
 -- 10: the batch ends inside a size or a row
-abbrev pub batchBad : Option (List (List ℕ)) → Option ℕ
+abbrev pub batchBad : Option (List (List ℕ)) → Option Refusal
 batchBad rows = unless (isSome rows) 10
 
 -- 5: no row of that number
-abbrev pub rowMissing : List ℕ → ℕ → Option ℕ
+abbrev pub rowMissing : List ℕ → ℕ → Option Refusal
 rowMissing b k = unless (ltb k (length (rowsOf b))) 5
 
 -- 1, 10 and 5, for an entry that asks of row k
-abbrev pub noRow : List ℕ → List ℕ → ℕ → Option ℕ
+abbrev pub noRow : List ℕ → List ℕ → ℕ → Option Refusal
 noRow s b k = schemaBad s or batchBad (framed b) or rowMissing b k
 
--- 3 and 7 of a row
-abbrev pub rowBad : List ℕ → List ℕ → Option ℕ
+-- 3 and 7 of a row: a 7's place counts from that row's first byte
+abbrev pub rowBad : List ℕ → List ℕ → Option Refusal
 rowBad s row = rowLong row or layoutBad s row
 
 -- ---- counting
 
--- the number of rows, or a refusal's number
+-- the number of rows, or a refusal
 abbrev pub counted : Option (List (List ℕ)) → Sized
-counted none = refusedWith 10 0
+counted none = refusedWith (numbered 10) 0
 counted (some rows) = takes (length rows)
 
 unfoldable pub countOf : List ℕ → Sized
@@ -57,33 +58,33 @@ countOf b = counted (framed b)
 
 -- ---- fetching
 
--- a row's own bytes, by their start and their length; or a refusal's number
+-- a row's own bytes, by their start and their length; or a refusal
 pub data Fetching : Type 0 where
   range : ℕ → ℕ → Fetching
-  refused : ℕ → Fetching
+  refused : Refusal → Fetching
 
-abbrev pub fetchAfter : Option ℕ → ℕ → ℕ → Fetching
+abbrev pub fetchAfter : Option Refusal → ℕ → ℕ → Fetching
 fetchAfter none start len = range start len
-fetchAfter (some n) start len = refused n
+fetchAfter (some r) start len = refused r
 
 unfoldable pub fetchOf : List ℕ → List ℕ → ℕ → Fetching
 fetchOf s b k = fetchAfter (noRow s b k or rowBad s (rowOf b k)) (startOf b k) (length (rowOf b k))
 
 -- ---- checking all
 
--- done; a refusal's number; or the number of a row, and of its refusal
+-- done; a refusal; or the number of a row, and its refusal
 pub data Checking : Type 0 where
   done : Checking
-  refused : ℕ → Checking
-  refusedRow : ℕ → ℕ → Checking
+  refused : Refusal → Checking
+  refusedRow : ℕ → Refusal → Checking
 
-abbrev pub checkAfter : Option ℕ → Checking → Checking
+abbrev pub checkAfter : Option Refusal → Checking → Checking
 checkAfter none c = c
-checkAfter (some n) c = refused n
+checkAfter (some r) c = refused r
 
-abbrev pub inTurn : ℕ → Option ℕ → Checking → Checking
+abbrev pub inTurn : ℕ → Option Refusal → Checking → Checking
 inTurn k none c = c
-inTurn k (some n) c = refusedRow k n
+inTurn k (some r) c = refusedRow k r
 
 -- rows in turn, the first of them row k
 unfoldable pub checkRows : List ℕ → ℕ → List (List ℕ) → Checking
@@ -107,19 +108,19 @@ appendOf s room used row = sizedAfter (schemaBad s or batchBad (lentRows room us
 -- the row in its frame behind the batch, all else as it was; after a refusal all as it was
 abbrev pub framedAt : Sized → List ℕ → ℕ → List ℕ → List ℕ
 framedAt (takes n) room used row = sets room used (frame row)
-framedAt (refusedWith n k) room used row = room
+framedAt (refusedWith r k) room used row = room
 
 unfoldable pub appendedOf : List ℕ → List ℕ → ℕ → List ℕ → List ℕ
 appendedOf s room used row = framedAt (appendOf s room used row) room used row
 
--- ---- one place of row k: ranges count from that row's first byte
+-- ---- one place of row k: ranges and places count from that row's first byte
 
 unfoldable pub readOf : List ℕ → List ℕ → ℕ → List ℕ → Answer
 readOf s b k p = readAfter (noRow s b k) (E.readOf s (rowOf b k) p)
 
 -- the batch with a row's bytes in the place of those from `at` on
 abbrev pub within : List ℕ → ℕ → Outcome → Outcome
-within b at (refuses n) = refuses n
+within b at (refuses r) = refuses r
 within b at (becomes row) = becomes (sets b at row)
 
 unfoldable pub setOf : List ℕ → List ℕ → ℕ → List ℕ → Setting → Outcome

@@ -7,6 +7,7 @@ use lib.Dec.{eqb}
 use lib.ListN.{length, drop}
 use Rattle.words.specs.Bytes.{part}
 use Rattle.schema.specs.Kinds.{pick}
+use Rattle.layout.specs.Refusals.{Refusal, numbered}
 use Rattle.batch.specs.Frames.{big, framing, first, framed}
 use Rattle.batch.specs.Entries.{rowOf, startOf, Checking, refused, refusedRow}
 use Rattle.batch.specs.declared.frames.Found.{Found}
@@ -66,7 +67,7 @@ pub data Finds (b : List ℕ) (k : ℕ) : Found → Type 0 where
   isPast : Ended b k → Finds b k F.Past
   isAt : {start end : ℕ} → RowAt b k start end → Finds b k (F.At start end)
 
--- what the refusal n of row k comes to: 10 of the whole batch is before it
-abbrev pub refusedIn : Option (List (List ℕ)) → ℕ → ℕ → Checking
-refusedIn none k n = refused 10
-refusedIn (some rows) k n = refusedRow k n
+-- what the refusal r of row k comes to: 10 of the whole batch is before it
+abbrev pub refusedIn : Option (List (List ℕ)) → ℕ → Refusal → Checking
+refusedIn none k r = refused (numbered 10)
+refusedIn (some rows) k r = refusedRow k r

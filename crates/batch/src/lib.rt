@@ -5,7 +5,7 @@ ghost use Prim.Native.Nat.{_+_};
 ghost use Rattle.schema.specs.Reading.{judged};
 ghost use Rattle.schema.specs.declared.Judged.the-variants.{Accepted};
 ghost use Rattle.layout.specs.Entries.{checkOf as rowCheck};
-ghost use Rattle.answers.specs.Meaning.{numberOf, outcomeMeans, meaning, settingOf};
+ghost use Rattle.answers.specs.Meaning.{refusalMeans, outcomeMeans, meaning, settingOf};
 ghost use Rattle.answers.specs.Paths.{pathOf};
 ghost use Rattle.setting.specs.Writes.{SetAs};
 ghost use Rattle.batch.specs.Frames.{framed};
@@ -34,7 +34,7 @@ pub enum Fetched {
     Refused(Refusal),
 }
 
-// A refusal of one row comes with that row's number.
+// A refusal of one row comes with that row's number. The place of a 7 counts from that row's first byte.
 pub enum Checked {
     Done,
     Refused(Refusal),
@@ -83,17 +83,16 @@ fn judge_row(schema: &[u8], row: &[u8]) -> Outcome
     if 16384 < row.len() {
         return Outcome::Refused(Refusal::TooLong);
     }
-    if checking::check_row(schema, row) {
-        Outcome::Done
-    } else {
-        Outcome::Refused(Refusal::Layout)
+    match checking::check_row(schema, row) {
+        checking::Checked::Sound => Outcome::Done,
+        checking::Checked::Broken { place } => Outcome::Refused(Refusal::Layout { place }),
     }
 }
 
 // The refusal of row n, whose frame ends at a place: 10 of the whole batch comes before it.
 fn refuse_row(b: &[u8], end: usize, n: usize, r: Refusal) -> Checked
     requires { ⌜ Passed (now b) end (n + 1) ⌝ }
-    ensures { λ c. ⌜ checkMeans c ≡ refusedIn (framed (now (b .entry))) n (numberOf r) ⌝ }
+    ensures { λ c. ⌜ checkMeans c ≡ refusedIn (framed (now (b .entry))) n (refusalMeans r) ⌝ }
 {
     match frames::count_on(b, end, n + 1) {
         Counted::Rows(_) => Checked::RefusedRow { row: n, refusal: r },
@@ -165,8 +164,8 @@ pub fn append(schema: &[u8], room: &mut [u8], used: usize, row: &[u8]) -> Length
     Length::Done(needed)
 }
 
-// One place of row k, read by its path: the answer, or refused with 1, 10 or 5, then as `row::read` refuses. Ranges count from that row's
-// first byte.
+// One place of row k, read by its path: the answer, or refused with 1, 10 or 5, then as `row::read` refuses. Ranges and
+// places count from that row's first byte.
 pub fn read(schema: &[u8], batch: &[u8], k: usize, path: Path) -> Answer
     ensures { λ r. ⌜ meaning r ≡ readOf (now (schema .entry)) (now (batch .entry)) k (pathOf path) ⌝ }
 {

@@ -12,25 +12,28 @@ use borrow.Author.Tests.{leb-true}
 use Rattle.schema.specs.Reading.{judged}
 use Rattle.schema.specs.declared.Judged.{Judged}
 use Rattle.schema.specs.declared.Judged.the-variants.{Accepted, Refused}
+use Rattle.layout.specs.Refusals as N
 use Rattle.layout.specs.Setting.{unless, _or_}
 use Rattle.layout.specs.Entries.{Verdict, done, refused, verdict, isAccepted, layoutBad, checkOf}
 use Rattle.answers.specs.declared.Outcome.{Outcome}
 use Rattle.answers.specs.declared.Outcome.the-variants as O
 use Rattle.answers.specs.declared.Refusal.{Refusal}
 use Rattle.answers.specs.Meaning.{numberOf, outcomeMeans}
+use Rattle.answers.proofs.Unique.{number-means}
 use Rattle.reading.specs.Finding.{Open}
 use Rattle.card.specs.Lines.{refusal, Puts}
 use Rattle.card.specs.Whole.{cardOf, Walked}
 use Rattle.card.specs.Output.{byVerdict, judgedText}
 use Rattle.card.proofs.Lengths.{refusal-most}
 
-not-done : (n : ℕ) → done ≡ refused n → ⊥
+not-done : (n : N.Refusal) → done ≡ refused n → ⊥
 not-done n e = let z : _≡_ {A = ℕ} 0 1 = cc in omega arith
 
 module _ (s row : List ℕ) where
-  opens : (j : Judged) → judged s ≡ j → (t : Bool) → leb (length row) 16384 ≡ t → (x : Option ℕ) → done ≡ verdict (unless (isAccepted j) 1 or (unless t 3 or x)) → Open s row
-  opens Refused e t f x d = absurd (not-done 1 d)
-  opens Accepted e false f x d = absurd (not-done 3 d)
+  opens : (j : Judged) → judged s ≡ j → (t : Bool) → leb (length row) 16384 ≡ t → (x : Option N.Refusal)
+      → done ≡ verdict (unless (isAccepted j) 1 or (unless t 3 or x)) → Open s row
+  opens Refused e t f x d = absurd (not-done (N.numbered 1) d)
+  opens Accepted e false f x d = absurd (not-done (N.numbered 3) d)
   opens Accepted e true f x d = record { schema = e; short = leb-true (length row) 16384 f }
 
   pub accepted-opens : done ≡ checkOf s row → Open s row
@@ -46,7 +49,7 @@ module _ (s row : List ℕ) where
 
   pub text-refused : (r : Outcome) (f : Refusal) (n : ℕ) → outcomeMeans r ≡ checkOf s row → r ≡ O.Refused f → n ≡ numberOf f → refusal n ≡ judgedText s row
   unfolding judgedText
-  text-refused r f n m e q = ap refusal q ∙ ap (λ (v : Verdict). byVerdict v (cardOf s row)) (ap outcomeMeans (sym e) ∙ m)
+  text-refused r f n m e q = ap refusal (q ∙ sym (number-means f)) ∙ ap (λ (v : Verdict). byVerdict v (cardOf s row)) (ap outcomeMeans (sym e) ∙ m)
 
 -- ---- a text as a whole
 

@@ -4,13 +4,14 @@ use mathlib.Core.Path.{_≡_, refl}
 use mathlib.Core.List.{List, [], _∷_, _++_}
 use Prim.Native.Nat.{ℕ}
 use native.Mathlib.Decide.{decLe, decLt, ℕ-discrete}
-use Rattle.words.specs.Bytes.{le, num, fill, zeros}
+use Rattle.words.specs.Bytes.{le, num, fill, zeros, zerosAhead, highBits, pastByte}
 use Rattle.schema.specs.Marks.{types, markAt}
 use Rattle.schema.specs.Kinds.{find, placeOf, kindOf, placed as placedKind, headKind, kindAt}
 use Rattle.schema.specs.Types.{fixedPlace, textPlace, fixedAt, textAt, place, width, mark, count, field}
 use Rattle.schema.specs.Reading.{parseAll, parseRo, parseKind, parse as parseTy, judged}
 use Rattle.schema.specs.Walk.{typeAt as tyAt, fieldsOf}
 use Rattle.layout.specs.Reader.{assert, cut}
+use Rattle.layout.specs.Faults.{assertAt, cutAt, seenFrom, within, yielded, inRow, faultIn}
 use Rattle.layout.specs.Tiles.{total, both?, either?, change?, aparts?, stands?}
 use Rattle.layout.specs.Cells.{fromCells, toCells, onNull, bytes as cellBytes, parts}
 use Rattle.layout.specs.Layout.{number, string, inside, outside, kidOf, slotOf, kidGet, flags, slots, tails, reads, bodyPut, bodyGet, struct, array, pair, limit, codec}
@@ -44,7 +45,8 @@ two = (114 ∷ 111 ∷ 119 ∷ 32 ∷ 48 ∷ 10 ∷ []) ++ output ++ (114 ∷ 11
 -- to unfold this is to unfold the definitions
 computes : Unit {0}
 unfolding le num fill types markAt find placeOf kindOf placedKind headKind kindAt fixedPlace textPlace fixedAt textAt place width mark count field
-    parseAll parseRo parseKind parseTy judged tyAt fieldsOf assert cut total both? either? change? aparts? stands? fromCells toCells onNull cellBytes parts
+    parseAll parseRo parseKind parseTy judged tyAt fieldsOf assert cut assertAt cutAt seenFrom within yielded inRow faultIn
+    zerosAhead highBits pastByte total both? either? change? aparts? stands? fromCells toCells onNull cellBytes parts
     number string inside outside kidOf slotOf kidGet flags slots tails reads bodyPut bodyGet struct array pair limit codec
     must mustStep own bySlot byFlag child stepIn goOn walk typeAt placed valueOf answerOf found readIn checkOf readOf
     announced splitOf hex decimalIn decimal signed hexes bytes dotted path contents line numbered hasLine below markIn lineAt inOrder cardFrom cardOf

@@ -18,6 +18,7 @@ use Rattle.schema.specs.Walk.{fieldsOf}
 use Rattle.schema.specs.declared.Opened.{Opened}
 use Rattle.schema.specs.declared.Opened.the-variants.{Fixed as OFixed, Text as OText, List as OList, Map as OMap, Struct as OStruct, Nothing as ONothing}
 use Rattle.schema.proofs.Table.{place-fixed}
+use Rattle.layout.specs.Refusals.{numbered}
 use Rattle.layout.specs.Reading as R
 use Rattle.layout.specs.Reading.{Answer, valueOf, placed}
 use Rattle.answers.specs.declared.Answer.{Answer as Case}
@@ -169,9 +170,9 @@ module _ (s row : List ℕ) (path : Path) (few : path .len ≤ 16) (O : Open s r
   unfolding hasLine below
   shows-under out at e = shows-none s row (pathOf path) _ (read-under s row (pathOf path) O f G e) out at 0 refl refl (omega arith)
 
-  pub shows-broken : (out : List ℕ) (at : ℕ) → f ≡ Broken → Shows s row (pathOf path) out at (record { next = at; count = 0 }) out
+  pub shows-broken : (out : List ℕ) (at q : ℕ) → f ≡ Broken q → Shows s row (pathOf path) out at (record { next = at; count = 0 }) out
   unfolding hasLine below
-  shows-broken out at e = shows-none s row (pathOf path) _ (read-broken s row (pathOf path) O f G e) out at 0 refl refl (omega arith)
+  shows-broken out at q e = shows-none s row (pathOf path) _ (read-broken s row (pathOf path) O f G q e) out at 0 refl refl (omega arith)
 
   module _ (x : Opened) (d : ℕ) (z : Seat) (e : f ≡ Null x d z) where
     null-reads : Reads s row (pathOf path) A.Null
@@ -231,7 +232,7 @@ Flat (A.Bytes o n) = Unit {0}
 Flat (A.Container o n k) = ⊥
 Flat (A.Refused r) = Unit {0}
 
-float-below : (b : Bool) (f : Format) (n : ℕ) → 0 ≡ below (cond b (float f n) (R.refused 0))
+float-below : (b : Bool) (f : Format) (n : ℕ) → 0 ≡ below (cond b (float f n) (R.refused (numbered 0)))
 unfolding below
 float-below true binary32 n = refl
 float-below true binary64 n = refl

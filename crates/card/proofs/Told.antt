@@ -10,6 +10,7 @@ use lib.ListN.{length}
 use mir.Val.{boolByte}
 use Rattle.words.specs.Bytes.{part}
 use Rattle.words.specs.Bits.{digit}
+use Rattle.layout.specs.Refusals.{numbered}
 use Rattle.layout.specs.Reading as R
 use Rattle.answers.specs.declared.Answer.{Answer as Case}
 use Rattle.answers.specs.declared.Answer.the-variants as A
@@ -49,7 +50,8 @@ module _ {out out′ : List ℕ} {at r : ℕ} (row : List ℕ) (x : Case) where
   told-float binary64 n p = p
 
   -- a case that stands for no float is none of reading's answers
-  only : (f : Format) (n : ℕ) (v : Bool) → ReadGives (cond v (float f n) (R.refused 0)) → Puts out at (hex (wide f) n) r out′ → Puts out at (contents row (cond v (float f n) (R.refused 0))) r out′
+  only : (f : Format) (n : ℕ) (v : Bool) → ReadGives (cond v (float f n) (R.refused (numbered 0))) → Puts out at (hex (wide f) n) r out′
+      → Puts out at (contents row (cond v (float f n) (R.refused (numbered 0)))) r out′
   only f n true g p = told-float f n p
   only f n false g p = absurd (no-zero g)
 

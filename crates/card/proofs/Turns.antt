@@ -17,6 +17,7 @@ use Rattle.batch.proofs.Passing.{passed-end, passed-stands, row-next}
 use Rattle.batch.proofs.Batches.{batches}
 use Rattle.answers.specs.declared.Refusal.{Refusal}
 use Rattle.answers.specs.Meaning.{numberOf}
+use Rattle.answers.proofs.Unique.{number-means}
 use Rattle.reading.specs.Finding.{Open}
 use Rattle.card.specs.Lines.{refusal, Puts}
 use Rattle.card.specs.Whole.{cardOf, Spilt, Walked}
@@ -123,7 +124,7 @@ module _ (s b : List ℕ) (c : Checked) (m : checkMeans c ≡ checkOf s b) where
   batch-done e = by-answer K.Done e
 
   pub batch-refused : (f : Refusal) (n : ℕ) → c ≡ K.Refused f → n ≡ numberOf f → refusal n ≡ batchText s b
-  batch-refused f n e q = ap refusal q ∙ by-answer (K.Refused f) e
+  batch-refused f n e q = ap refusal (q ∙ sym (number-means f)) ∙ by-answer (K.Refused f) e
 
   pub row-refused : (k : ℕ) (f : Refusal) (n : ℕ) → c ≡ K.RefusedRow k f → n ≡ numberOf f → refusal n ≡ batchText s b
-  row-refused k f n e q = ap refusal q ∙ by-answer (K.RefusedRow k f) e
+  row-refused k f n e q = ap refusal (q ∙ sym (number-means f)) ∙ by-answer (K.RefusedRow k f) e

@@ -65,7 +65,7 @@ contents row (R.float32 n) = hex 8 n
 contents row (R.float64 n) = hex 16 n
 contents row (R.bytes o n) = bytes (part row o n)
 contents row (R.container o n k) = []
-contents row (R.refused n) = []
+contents row (R.refused r) = []
 
 -- path, space, mark, space, contents, and the line's end
 unfoldable pub line : List ℕ → List ℕ → List ℕ → Answer → List ℕ

@@ -3,6 +3,7 @@ use mathlib.Core.List.{List}
 use Prim.Native.Nat.{ℕ, _-_}
 use lib.ListN.{length}
 use Rattle.words.specs.Bytes.{part}
+use Rattle.layout.specs.Refusals.{numberIn}
 use Rattle.layout.specs.Entries.{Verdict, done, refused, checkOf}
 use Rattle.card.specs.Input.{splitOf}
 use Rattle.card.specs.Lines.{refusal}
@@ -13,7 +14,7 @@ use Rattle.card.specs.declared.input.Split.the-variants.{Short, Parts}
 -- the card of an accepted row, or only the refusal, with the number that check gives
 abbrev pub byVerdict : Verdict → List ℕ → List ℕ
 byVerdict done card = card
-byVerdict (refused n) card = refusal n
+byVerdict (refused r) card = refusal (numberIn r)
 
 unfoldable pub judgedText : List ℕ → List ℕ → List ℕ
 judgedText s row = byVerdict (checkOf s row) (cardOf s row)

@@ -29,7 +29,7 @@ hasLine (R.float32 n) = true
 hasLine (R.float64 n) = true
 hasLine (R.bytes o n) = true
 hasLine (R.container o n k) = false
-hasLine (R.refused n) = false
+hasLine (R.refused r) = false
 
 -- how many places are right below
 unfoldable pub below : Answer → ℕ
@@ -40,7 +40,7 @@ below (R.float32 n) = 0
 below (R.float64 n) = 0
 below (R.bytes o n) = 0
 below (R.container o n k) = k
-below (R.refused n) = 0
+below (R.refused r) = 0
 
 -- the mark of the type that the schema shows at a path
 unfoldable pub markIn : Option Ty → List ℕ

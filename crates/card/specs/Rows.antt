@@ -1,6 +1,7 @@
 -- What the card tool writes for a batch. Assumes nothing: these are definitions.
 use mathlib.Core.List.{List, [], _∷_, _++_}
 use Prim.Native.Nat.{ℕ, suc}
+use Rattle.layout.specs.Refusals.{numberIn}
 use Rattle.batch.specs.Entries.{Checking, done, refused, refusedRow, rowsOf, checkOf}
 use Rattle.card.specs.Input.{splitOf}
 use Rattle.card.specs.Lines.{numbered, refusal}
@@ -19,8 +20,8 @@ rowsText s k (row ∷ rows) = heading k ++ (cardOf s row ++ rowsText s (suc k) r
 -- the text of an accepted batch, or only the refusal, with the number that check gives
 abbrev pub byChecking : Checking → List ℕ → List ℕ
 byChecking done text = text
-byChecking (refused n) text = refusal n
-byChecking (refusedRow k n) text = refusal n
+byChecking (refused r) text = refusal (numberIn r)
+byChecking (refusedRow k r) text = refusal (numberIn r)
 
 unfoldable pub batchText : List ℕ → List ℕ → List ℕ
 batchText s b = byChecking (checkOf s b) (rowsText s 0 (rowsOf b))

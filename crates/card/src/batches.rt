@@ -9,6 +9,7 @@ ghost use Rattle.card.specs.Whole.{Walked};
 use crate::input;
 use crate::lines;
 use crate::walk;
+use answers::Refusal;
 use batch::Checked;
 use libc::STDERR_FILENO;
 
@@ -39,10 +40,16 @@ fn rows_text(s: &[u8], b: &[u8], out: &mut [u8]) -> usize
     used
 }
 
-// Says which row it is that is refused.
-fn say_row(k: usize) {
+// Says which row it is that is refused, and of a 7 where it is broken.
+fn say_row(k: usize, r: Refusal) {
     io::write_all(STDERR_FILENO, b"row ");
     io::print_decimal(STDERR_FILENO, k as u64);
+    if answers::refusals::number(r) == 7 {
+        io::write_all(STDERR_FILENO, b" of the batch is broken at byte ");
+        io::print_decimal(STDERR_FILENO, answers::refusals::place(r) as u64);
+        io::write_all(STDERR_FILENO, b"\n");
+        return;
+    }
     io::write_all(STDERR_FILENO, b" of the batch is refused\n");
 }
 
@@ -55,7 +62,7 @@ fn batch_text(s: &[u8], b: &[u8], out: &mut [u8]) -> usize
         Checked::Done => rows_text(s, b, out),
         Checked::Refused(r) => crate::refused(out, answers::refusals::number(r)),
         Checked::RefusedRow { row, refusal } => {
-            say_row(row);
+            say_row(row, refusal);
             crate::refused(out, answers::refusals::number(refusal))
         }
     }

@@ -5,6 +5,7 @@ ghost use Rattle.card.specs.Lines.{refusal, Puts};
 ghost use Rattle.card.specs.Output.{judgedText, outputOf};
 ghost use Rattle.card.specs.Whole.{Walked};
 use answers::Outcome;
+use answers::Refusal;
 use libc::STDERR_FILENO;
 use libc::STDIN_FILENO;
 use libc::STDOUT_FILENO;
@@ -23,6 +24,15 @@ fn refused(out: &mut [u8], n: u8) -> usize
     lines::numbered(out, 0, b"refused ", n as u64)
 }
 
+// Says where a row is broken that is refused with 7: standard output has the document's one line, and no place.
+fn say_place(r: Refusal) {
+    if answers::refusals::number(r) == 7 {
+        io::write_all(STDERR_FILENO, b"the row is broken at byte ");
+        io::print_decimal(STDERR_FILENO, answers::refusals::place(r) as u64);
+        io::write_all(STDERR_FILENO, b"\n");
+    }
+}
+
 // The whole row is checked before its first line is made.
 fn row_text(schema: &[u8], row: &[u8], out: &mut [u8]) -> usize
     requires { ⌜ length (now out) ≡ 262144 ⌝ }
@@ -30,7 +40,10 @@ fn row_text(schema: &[u8], row: &[u8], out: &mut [u8]) -> usize
 {
     match row::check(schema, row) {
         Outcome::Done => walk::whole(schema, row, out, 0),
-        Outcome::Refused(r) => refused(out, answers::refusals::number(r)),
+        Outcome::Refused(r) => {
+            say_place(r);
+            refused(out, answers::refusals::number(r))
+        }
     }
 }
 

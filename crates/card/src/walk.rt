@@ -79,7 +79,7 @@ fn show(s: &[u8], row: &[u8], path: Path, out: &mut [u8], at: usize) -> Shown
     match reading::find(s, row, path) {
         Found::NoPlace => Shown { next: at, count: 0 },
         Found::NullBefore => Shown { next: at, count: 0 },
-        Found::Broken => Shown { next: at, count: 0 },
+        Found::Broken(_) => Shown { next: at, count: 0 },
         Found::Null(x, _, _) => {
             let next = lines::line(out, at, path, table_place(x), row, Answer::Null);
             Shown { next, count: 0 }

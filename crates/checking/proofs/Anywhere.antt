@@ -1,30 +1,32 @@
 -- A loop over children whose values stand in any order: its invariant, and one law for each way through its body. Assumes nothing.
 use mathlib.Core.Path.{_≡_, refl, sym, ap, _∙_, subst}
-use mathlib.Core.Bool.{Bool, true, false, not}
+use mathlib.Core.Bool.{Bool, true, false, not, cond}
 use mathlib.Core.Option.{none}
 use mathlib.Core.List.{List, [], _∷_}
-use Prim.Native.Nat.{ℕ, _+_, _*_, _-_, _/_, _%_, _^_, _≤_, _<_}
+use Prim.Native.Nat.{ℕ, suc, _+_, _*_, _-_, _/_, _%_, _^_, _≤_, _<_}
 use native.Mathlib.Omega.{arith}
 use mir.Val.{Fits}
 use mir.Syntax.{w64}
 use lib.Dec.{eqb}
 use lib.ListN.{length, length-take, length-drop}
-use borrow.Author.Tests.{not-true, not-false}
-use Rattle.words.specs.Bytes.{num, zeros, pad, bitmap, part}
+use borrow.Author.Tests.{eq-eqb, ne-eqb, eqb-true, not-false}
+use Rattle.words.specs.Bytes.{num, zeros, pad, bitmap, part, zerosAhead}
 use Rattle.words.specs.Bits.{bit}
 use Rattle.words.specs.Reads.{Reads}
+use Rattle.words.proofs.Parts.{length-part}
 use Rattle.schema.specs.Types.{Ty}
 use Rattle.layout.specs.Tiles.{Range, range, total, Stands}
 use Rattle.layout.specs.Layout.{Kid, outside, front, codec}
 use Rattle.layout.proofs.Steps.{kidAt}
 use Rattle.layout.proofs.Units.{AllEven}
-use Rattle.checking.specs.Sound.{sound, goodFrom, both}
+use Rattle.checking.specs.Sound.{faultOf, inChild, faultFrom}
 use Rattle.checking.specs.Maps.{admitted, places, placed}
 use Rattle.checking.specs.Room.{Known}
 use Rattle.checking.proofs.Marks.{Beside, Refused, below, odd, beyond, meets, places-yes, places-no}
-use Rattle.checking.proofs.Tests.{both-false}
-use Rattle.checking.proofs.Children.{good-end, good-null, good-off, good-outside}
-use Rattle.checking.proofs.Loops.{Slots}
+use Rattle.checking.proofs.Tests.{passed, failed, found-fits, no-bytes, ChildIs, child-bad, child-unpadded, child-next}
+use Rattle.checking.proofs.Containers.{Eights, child-asks}
+use Rattle.checking.proofs.Children.{good-null, good-off, good-outside}
+use Rattle.checking.proofs.Loops.{Slots, slots-fit, front-is, slot-at, ends-at}
 use Rattle.checking.proofs.Shows.{Shows, shows-start, admit-apart, admit-meets, shows-more}
 use Rattle.checking.proofs.Knowing.{known-at, known-padded}
 
@@ -40,7 +42,7 @@ pub record AnyAt (h : ℕ) (F : ℕ → Ty) (ks : List Kid) (b : List ℕ) (n kn
   pub even : AllEven ranges
   pub adds : start + total ranges ≡ sum
   pub few : sum ≤ start + 16384 * i
-  pub same : goodFrom h 8 ks b i ranges ≡ goodFrom h 8 ks b 0 []
+  pub same : faultFrom h 8 ks b i ranges ≡ faultFrom h 8 ks b 0 []
 
 -- child i is there and varies, and its slot says z bytes at o, which end, padded, before next
 pub record Told {h : ℕ} {F : ℕ → Ty} {ks : List Kid} {b : List ℕ} {n known slots start i slot sum : ℕ} {m : List ℕ}
@@ -60,14 +62,6 @@ pub record Stood {h : ℕ} {F : ℕ → Ty} {ks : List Kid} {b : List ℕ} {n kn
     {a : AnyAt h F ks b n known slots start i slot sum m} {o z next : ℕ} (t : Told a o z next) (m′ : List ℕ) : Type 1 where
   pub beside : Beside m start (length b) o next
   pub maps : m′ ≡ placed m o next true
-
--- ---- what a test that code made says
-
-pub passed : {r t : Bool} → r ≡ t → not r ≡ false → t ≡ true
-passed e q = sym e ∙ not-false _ q
-
-pub failed : {r t : Bool} → r ≡ t → not r ≡ true → t ≡ false
-failed e q = sym e ∙ not-true _ q
 
 -- ---- where a slot says that its value stops
 
@@ -100,14 +94,21 @@ module _ {h : ℕ} {F : ℕ → Ty} {ks : List Kid} {b : List ℕ} {n known slot
   abbrev d : Slots h ks b n slots start
   d = a .fixed
 
-  fits : front h 8 (length ks) ≤ length b
-  fits = rw (d .count) (omega (arith, d .map, d .data₀, d .room))
+  any-fits : front h 8 (length ks) ≤ length b
+  any-fits = slots-fit h ks b n slots start d
 
-  front-is : front h 8 (length ks) ≡ start
-  front-is = rw (d .count) (omega (arith, d .map, d .data₀))
+  any-front : front h 8 (length ks) ≡ start
+  any-front = front-is h ks b n slots start d
 
-  pub any-end : n ≤ i → eqb sum (length b) ≡ goodFrom h 8 ks b 0 []
-  any-end l = sym (good-end h 8 ks b fits (d .bytes) i (a .ranges) sum (omega (arith, d .count, a .most)) (omega (arith, front-is, a .adds))) ∙ a .same
+  any-end : n ≤ i → cond (eqb sum (length b)) 0 1 ≡ faultFrom h 8 ks b 0 []
+  any-end l = sym (ends-at h ks b n slots start d i (a .ranges) sum (omega (arith, a .most)) (a .adds)) ∙ a .same
+
+  -- the end, and another one
+  pub any-done : n ≤ i → sum ≡ length b → 0 ≡ faultFrom h 8 ks b 0 []
+  any-done l e = rw (eq-eqb sum (length b) e) at (any-end l)
+
+  pub any-over : n ≤ i → (sum ≡ length b → ⊥) → 1 ≡ faultFrom h 8 ks b 0 []
+  any-over l e = rw (ne-eqb sum (length b) e) at (any-end l)
 
   -- the map as it is lent
   pub any-map : 792 ≡ length m
@@ -117,8 +118,8 @@ module _ {h : ℕ} {F : ℕ → Ty} {ks : List Kid} {b : List ℕ} {n known slot
     l′ : i < length ks
     l′ = omega (arith, d .count)
 
-    slot-at : h + bitmap (length ks) + i * 8 ≡ slot
-    slot-at = rw (d .count) (omega (arith, d .map, a .slot-is))
+    any-at : h + bitmap (length ks) + i * 8 ≡ slot
+    any-at = slot-at h ks b n slots start d i slot (a .slot-is)
 
     pub any-bit : h + i / 8 < length b
     any-bit = omega (arith, d .map, d .data₀, d .room)
@@ -135,8 +136,9 @@ module _ {h : ℕ} {F : ℕ → Ty} {ks : List Kid} {b : List ℕ} {n known slot
     pub any-less : n - (i + 1) < n - i
     any-less = omega arith
 
-    stays : goodFrom h 8 ks b i (a .ranges) ≡ goodFrom h 8 ks b (i + 1) (a .ranges) → AnyAt h F ks b n known slots start (i + 1) (slot + 8) sum m
-    stays s = record {
+    -- a child that has no range: the loop passes it, or finds it wrong
+    pub any-same : faultFrom h 8 ks b i (a .ranges) ≡ faultFrom h 8 ks b (i + 1) (a .ranges) → AnyAt h F ks b n known slots start (i + 1) (slot + 8) sum m
+    any-same s = record {
       fixed = d;
       judged = a .judged;
       most = omega arith;
@@ -149,16 +151,11 @@ module _ {h : ℕ} {F : ℕ → Ty} {ks : List Kid} {b : List ℕ} {n known slot
       same = sym s ∙ a .same;
     }
 
+    pub any-wrong : {r : ℕ} → faultFrom h 8 ks b i (a .ranges) ≡ r → r ≡ faultFrom h 8 ks b 0 []
+    any-wrong s = sym s ∙ a .same
+
     pub any-null : {r : Bool} → r ≡ bit b h i → r ≡ true → AnyAt h F ks b n known slots start (i + 1) (slot + 8) sum m
-    any-null e q = stays (good-null h 8 ks b fits (d .bytes) i l′ (a .ranges) (sym e ∙ q))
-
-    -- a child that has no range, judged
-    module _ {v : Bool} (s : goodFrom h 8 ks b i (a .ranges) ≡ both v (goodFrom h 8 ks b (i + 1) (a .ranges))) where
-      pub any-same : v ≡ true → AnyAt h F ks b n known slots start (i + 1) (slot + 8) sum m
-      any-same e = stays (s ∙ ap (λ (t : Bool). both t (goodFrom h 8 ks b (i + 1) (a .ranges))) e)
-
-      pub any-wrong : v ≡ false → false ≡ goodFrom h 8 ks b 0 []
-      any-wrong e = sym (s ∙ ap (λ (t : Bool). both t (goodFrom h 8 ks b (i + 1) (a .ranges))) e) ∙ a .same
+    any-null e q = any-same (good-null h 8 ks b any-fits (d .bytes) i l′ (a .ranges) (sym e ∙ q))
 
 -- ---- a child that varies
 
@@ -168,7 +165,7 @@ module _ {h : ℕ} {F : ℕ → Ty} {ks : List Kid} {b : List ℕ} {n known slot
   own = range o (pad z)
 
   ex : t .number ≡ num (part b (h + bitmap (length ks) + i * 8) 8)
-  ex = t .reads .is ∙ ap (λ (p : ℕ). num (part b p 8)) (sym (slot-at a (t .less)))
+  ex = t .reads .is ∙ ap (λ (p : ℕ). num (part b p 8)) (sym (any-at a (t .less)))
 
   padded : o % 8 ≡ 0 → next ≡ o + pad z
   padded ev = omega (arith, t .to)
@@ -185,14 +182,23 @@ module _ {h : ℕ} {F : ℕ → Ty} {ks : List Kid} {b : List ℕ} {n known slot
   stands-at : There (t .number / 2 ^ 32) (t .number % 2 ^ 32) → There o z
   stands-at s = subst (λ (y : ℕ). There y z) (sym (t .from)) (subst (There (t .number / 2 ^ 32)) (sym (t .size)) s)
 
+  -- the slot as the place of a fault
+  pub any-told : Fits w64 (slot + 2)
+  any-told = omega (arith, any-slot a (t .less), a .fixed .small)
+
+  at-slot : slot + 2 ≡ suc (suc (h + bitmap (length ks) + i * 8))
+  at-slot = omega (arith, any-at a (t .less))
+
   module _ {r : Bool} (er : r ≡ places m start (length b) o next) where
     -- it may not stand there
-    pub any-off : not r ≡ true → false ≡ goodFrom h 8 ks b 0 []
+    pub any-off : not r ≡ true → slot + 2 ≡ faultFrom h 8 ks b 0 []
     any-off q =
-        sym (good-off h 8 ks b (fits a) (a .fixed .bytes) i (l′ a (t .less)) (a .ranges) (codec (F i)) (t .kid) refl (t .here) (t .number) ex off) ∙ a .same
+        at-slot
+        ∙ sym (good-off h 8 ks b (any-fits a) (a .fixed .bytes) i (l′ a (t .less)) (a .ranges) (codec (F i)) (t .kid) refl (t .here) (t .number) ex off)
+        ∙ a .same
       where
         go : There o z → Refused m start (length b) o next → ⊥
-        go s (below g) = let y = s .low in omega (arith, front-is a)
+        go s (below g) = let y = s .low in omega (arith, any-front a)
         go s (odd g) = g (s .eight)
         go s (beyond g) = let y = s .high in let ev = s .eight in omega (arith, padded ev)
         go s (meets lo ev hi g) =
@@ -251,7 +257,7 @@ module _ {h : ℕ} {F : ℕ → Ty} {ks : List Kid} {b : List ℕ} {n known slot
 
   stands : There t o z
   stands = record {
-    low = omega (arith, front-is u, side .low);
+    low = omega (arith, any-front u, side .low);
     high = omega (arith, long, side .high);
     eight = side .even;
     clear =
@@ -262,23 +268,18 @@ module _ {h : ℕ} {F : ℕ → Ty} {ks : List Kid} {b : List ℕ} {n known slot
   abbrev contents : List ℕ
   contents = part b o (o + z - o)
 
-  abbrev blank : Bool
-  blank = eqb (num (part b (o + z) (next - (o + z)))) 0
+  abbrev blank : List ℕ
+  blank = part b (o + z) (next - (o + z))
 
-  child : goodFrom h 8 ks b i (u .ranges) ≡ both (sound (F i) contents) (both blank (goodFrom h 8 ks b (i + 1) (own t ∷ u .ranges)))
-  unfolding sound
+  child : ChildIs b slot o (faultOf (F i) contents) (o + z) next (faultFrom h 8 ks b (i + 1) (own t ∷ u .ranges)) (faultFrom h 8 ks b 0 [])
+  unfolding faultOf
   child =
       let g : o + z - o ≡ z = omega arith in
-      rw g (good-outside h 8 ks b (fits u) (u .fixed .bytes) i (l′ u (t .less)) (u .ranges) (codec (F i)) (t .kid) refl (t .here) (t .number)
-      (ex t) o z next (sym (t .from)) (t .size) long stands)
+      let c = good-outside h 8 ks b (any-fits u) (u .fixed .bytes) i (l′ u (t .less)) (u .ranges) (codec (F i)) (t .kid) refl (t .here) (t .number)
+      (ex t) o z next (sym (t .from)) (t .size) long stands in
+      record { is = sym (c ∙ rw (any-at u (t .less), g)) ∙ u .same }
 
-  pub any-bad : {r : Bool} → r ≡ sound (F i) contents → not r ≡ true → false ≡ goodFrom h 8 ks b 0 []
-  any-bad e q = sym (child ∙ rw (failed e q)) ∙ u .same
-
-  pub any-unpadded : {v : Bool} → v ≡ blank → not v ≡ true → false ≡ goodFrom h 8 ks b 0 []
-  any-unpadded e q = sym (child ∙ rw (failed e q) (both-false (sound (F i) contents))) ∙ u .same
-
-  goes : sound (F i) contents ≡ true → blank ≡ true → AnyAt h F ks b n known slots start (i + 1) (slot + 8) (sum + (next - o)) m′
+  goes : faultOf (F i) contents ≡ 0 → num blank ≡ 0 → AnyAt h F ks b n known slots start (i + 1) (slot + 8) (sum + (next - o)) m′
   unfolding total admitted placed
   goes g p = record {
     fixed = u .fixed;
@@ -292,12 +293,36 @@ module _ {h : ℕ} {F : ℕ → Ty} {ks : List Kid} {b : List ℕ} {n known slot
     even = ((side .even, omega arith), u .even);
     adds = omega (arith, u .adds, long);
     few = omega (arith, u .few, u .fixed .small, side .high);
-    same = sym (child ∙ rw (g, p)) ∙ u .same;
+    same = child-next child g p;
   }
 
-  pub any-next : sound (F i) contents ≡ true → {v : Bool} → v ≡ blank → not v ≡ false
-      → AnyAt h F ks b n known slots start (i + 1) (slot + 8) (sum + (next - o)) m′
-  any-next g e q = goes g (passed e q)
+  module _ {r : ℕ} (er : r ≡ faultOf (F i) contents) where
+    pub any-asks : (r ≡ 0 → ⊥) → (1 ≤ r) × (r ≤ 65536) × (slot ≤ 65536) × (o ≤ 65536)
+    any-asks ne =
+        child-asks (F i) contents er ne stood-short (omega (arith, any-slot u (t .less), u .fixed .small)) (omega (arith, stood-end, u .fixed .small))
+
+    pub any-bad : (r ≡ 0 → ⊥) → {y : ℕ} → y ≡ inChild slot o r 0 → y ≡ faultFrom h 8 ks b 0 []
+    any-bad ne ey = child-bad child er ne ey
+
+    -- behind a container there is no padding
+    pub any-whole : Eights (F i) → r ≡ 0 → AnyAt h F ks b n known slots start (i + 1) (slot + 8) (sum + (next - o)) m′
+    any-whole w e =
+        let g : faultOf (F i) contents ≡ 0 = sym er ∙ e in
+        goes g (no-bytes b (o + z) next (omega (arith, w contents g, length-part b o (o + z - o) (omega (arith, stood-end)), side .even, t .to)))
+
+  -- a string, which has no fault itself
+  module _ (g : faultOf (F i) contents ≡ 0) {v : Bool} (e : v ≡ eqb (num blank) 0) where
+    pub any-unpadded : not v ≡ true → {y : ℕ} → y ≡ o + z + zerosAhead blank → y + 2 ≡ faultFrom h 8 ks b 0 []
+    any-unpadded q ey = child-unpadded child g e q ey
+
+    pub any-next : not v ≡ false → AnyAt h F ks b n known slots start (i + 1) (slot + 8) (sum + (next - o)) m′
+    any-next q = goes g (eqb-true _ 0 (passed e q))
+
+  pub stood-search : (o + z ≤ next) × (next ≤ length b)
+  stood-search = (omega (arith, t .to), side .high)
+
+  pub stood-found : {y : ℕ} → y ≡ o + z + zerosAhead blank → Fits w64 (y + 2)
+  stood-found e = found-fits b (o + z) next e (stood-search .0) (side .high) (u .fixed .small)
 
   slot-pos : slot ≡ h + bitmap n + 8 * i
   slot-pos = omega (arith, u .slot-is, u .fixed .map)

@@ -6,15 +6,13 @@ use mathlib.Core.List.{List}
 use Prim.Native.Nat.{ℕ, _+_, _*_, _-_, _/_, _%_, _^_, _<_}
 use native.Mathlib.Decide.{decLt}
 use native.Mathlib.Omega.{arith}
-use lib.Dec.{eqb}
-use borrow.Author.Tests.{eqb-true, eq-eqb}
 use Rattle.words.specs.Bytes.{num, pad, bitmap, part}
 use Rattle.words.specs.Bits.{bit}
 use Rattle.words.specs.Reads.{Reads}
 use Rattle.schema.specs.Types.{Fixed, Ty, fix, width}
 use Rattle.layout.specs.Layout.{codec, number}
-use Rattle.checking.specs.Sound.{sound}
-use Rattle.checking.specs.Room.{pointed, padding, upToEight, fieldGood, Known}
+use Rattle.checking.specs.Sound.{faultOf}
+use Rattle.checking.specs.Room.{pointed, padding, upToEight, fieldThen, fieldGood, Known}
 
 clash : true ≡ false → ⊥
 clash e = let z : _≡_ {A = ℕ} 0 1 = cc in omega arith
@@ -40,7 +38,7 @@ module _ (h : ℕ) (F : ℕ → Ty) (b : List ℕ) (n i : ℕ) where
   slotAt j = h + bitmap n + 8 * j
 
   abbrev Sound : ℕ → Type 0
-  Sound j = bit b h j ≡ false → codec (F j) .wide ≡ none → sound (F j) (pointed b (slotAt j)) ≡ true
+  Sound j = bit b h j ≡ false → codec (F j) .wide ≡ none → faultOf (F j) (pointed b (slotAt j)) ≡ 0
 
   abbrev Padded : ℕ → Type 0
   Padded j = bit b h j ≡ false → codec (F j) .wide ≡ none → num (padding b (slotAt j)) ≡ 0
@@ -75,25 +73,24 @@ module _ (h : ℕ) (F : ℕ → Ty) (b : List ℕ) (n i : ℕ) where
     behind : upToEight b stop ≡ padding b (slotAt i)
     behind = rw (et, eo, ez, y)
 
-    pub known-next : Known h F b n i → codec (F i) .wide ≡ none → sound (F i) (part b o (stop - o)) ≡ true
-        → (next : ℕ) → next ≡ pad stop → (v : Bool) → v ≡ eqb (num (part b stop (next - stop))) 0 → v ≡ true → Known h F b n (i + 1)
-    known-next k w g next en v ev t =
-        let p : num (part b stop (next - stop)) ≡ 0 = eqb-true _ _ (sym ev ∙ t) in
-        more k (λ _ _. subst (λ (u : List ℕ). sound (F i) u ≡ true) is g)
+    pub known-next : Known h F b n i → codec (F i) .wide ≡ none → faultOf (F i) (part b o (stop - o)) ≡ 0
+        → (next : ℕ) → next ≡ pad stop → num (part b stop (next - stop)) ≡ 0 → Known h F b n (i + 1)
+    known-next k w g next en p =
+        more k (λ _ _. subst (λ (u : List ℕ). faultOf (F i) u ≡ 0) is g)
         (λ _ _. ap num (sym behind) ∙ ap (λ (e : ℕ). num (part b stop (e - stop))) (sym en) ∙ p)
         λ _ f e. absurd (Option·none-ne-some (width f) (sym w ∙ wide-fixed (F i) f e))
 
-    pub known-at : (known : ℕ) → Known h F b n known → i < known → bit b h i ≡ false → codec (F i) .wide ≡ none → sound (F i) (part b o (stop - o)) ≡ true
+    pub known-at : (known : ℕ) → Known h F b n known → i < known → bit b h i ≡ false → codec (F i) .wide ≡ none → faultOf (F i) (part b o (stop - o)) ≡ 0
     known-at known k l f w = rw is (k .sound i l f w)
 
     pub known-padded : (known : ℕ) → Known h F b n known → i < known → bit b h i ≡ false → codec (F i) .wide ≡ none → (next : ℕ) → next ≡ pad stop
-        → eqb (num (part b stop (next - stop))) 0 ≡ true
-    known-padded known k l f w next en = eq-eqb _ 0 (ap (λ (e : ℕ). num (part b stop (e - stop))) en ∙ ap num behind ∙ k .padded i l f w)
+        → num (part b stop (next - stop)) ≡ 0
+    known-padded known k l f w next en = ap (λ (e : ℕ). num (part b stop (e - stop))) en ∙ ap num behind ∙ k .padded i l f w
 
 -- a null field is good, and so is one that was judged before
 pub known-good : (F : ℕ → Ty) (b : List ℕ) (n i known : ℕ) → Known 0 F b n known → i < known → (f : Fixed) → F i ≡ fix f
     → (slot : ℕ) → slot ≡ 0 + bitmap n + 8 * i → fieldGood f b i slot ≡ true
-unfolding fieldGood
+unfolding fieldThen
 known-good F b n i known k l f e slot es = ap (λ (p : ℕ). fieldGood f b i p) es ∙ go (bit b 0 i) refl
   where
     go : (v : Bool) → bit b 0 i ≡ v → fieldGood f b i (0 + bitmap n + 8 * i) ≡ true

@@ -1,16 +1,18 @@
 -- Lists of strings, of bools and of numbers. Assumes nothing.
 use mathlib.Core.Path.{_≡_, refl, sym, ap, _∙_}
-use mathlib.Core.Bool.{Bool, true, false}
-use mathlib.Core.Option.{none, some}
+use mathlib.Core.Bool.{Bool, true, false, not, cond}
+use mathlib.Core.Option.{none}
 use mathlib.Core.List.{List, []}
 use Prim.Native.Nat.{ℕ, zero, suc, _+_, _*_, _-_, _/_, _%_, _^_, _≤_, _<_}
 use native.Mathlib.Nat.{zero-div, mul-le-mul-right}
 use native.Mathlib.Decide.{decLt}
 use native.Mathlib.Omega.{arith}
+use mir.Val.{Fits}
+use mir.Syntax.{w64}
 use lib.Dec.{eqb, ltb}
 use lib.ListN.{length, getD, replicate, length-replicate, getD-replicate}
-use borrow.Author.Tests.{eq-eqb, lt-ltb, le-ltb}
-use Rattle.words.specs.Bytes.{Bytes, num, bitmap, part}
+use borrow.Author.Tests.{eq-eqb, ne-eqb, lt-ltb, le-ltb}
+use Rattle.words.specs.Bytes.{Bytes, num, pad, bitmap, part, zerosAhead}
 use Rattle.words.specs.Bits.{bitOf, bit}
 use Rattle.words.specs.Reads.{Reads}
 use Rattle.words.proofs.Parts.{length-part, bytes-part}
@@ -19,13 +21,12 @@ use Rattle.words.proofs.BitLaws.{bit-num}
 use Rattle.schema.specs.Types.{text, st}
 use Rattle.layout.specs.Layout.{Codec, Kid, number, string, inside, outside, front, codec}
 use Rattle.layout.specs.Cells.{leaf}
-use Rattle.layout.specs.Setting.{isSome}
-use Rattle.layout.specs.Reader.{assert, _>>_}
+use Rattle.layout.specs.Faults.{byte, got, assertAt, _>>_}
 use Rattle.layout.proofs.Steps.{nobody, kidAt}
 use Rattle.layout.specs.Tiles.{total}
-use Rattle.checking.specs.Sound.{sound, goodFrom, both}
+use Rattle.checking.specs.Sound.{code, faultOf, inChild, zerosThen, faultFrom}
 use Rattle.checking.specs.Room.{ListRoom, NoNulls, texts, bools}
-use Rattle.checking.proofs.Tests.{less-some, equal-some}
+use Rattle.checking.proofs.Tests.{passed, failed, code-equal, code-less, code-got, child-sound, found-fits}
 use Rattle.checking.proofs.Children.{good-end, good-null, good-inside}
 use Rattle.checking.proofs.Loops.{Slots}
 
@@ -33,14 +34,22 @@ use Rattle.checking.proofs.Loops.{Slots}
 
 pub texts-slots : (b : List ℕ) (n slots start : ℕ) → ListRoom b 8 n slots start → Bytes b → Slots 8 (texts n) b n slots start
 texts-slots b n slots start r hb =
-    record { count = length-replicate n (outside string); head = refl; map = r .map; data₀ = omega (arith, r .elements); room = r .room; small = r .small; bytes = hb }
+    record {
+      count = length-replicate n (outside string);
+      head = refl;
+      map = r .map;
+      data₀ = omega (arith, r .elements);
+      room = r .room;
+      small = r .small;
+      bytes = hb;
+    }
 
 pub text-kid : (n i : ℕ) → i < n → kidAt (texts n) i ≡ outside string
 text-kid n i h = getD-replicate n i (outside string) nobody h
 
-pub text-fine : (u : List ℕ) → isSome (string .get u) ≡ true
+pub text-fine : (u : List ℕ) → 0 ≡ code (string .get u)
 unfolding string
-text-fine u = refl
+text-fine u = sym (code-got (leaf u))
 
 -- the same by the type of a string
 pub text-outside : (n i : ℕ) → i < n → kidAt (texts n) i ≡ outside (codec (text st))
@@ -51,9 +60,9 @@ pub text-varies : codec (text st) .wide ≡ none
 unfolding codec string
 text-varies = refl
 
-pub text-sound : (u : List ℕ) → sound (text st) u ≡ true
-unfolding sound codec
-text-sound u = text-fine u
+pub text-sound : (u : List ℕ) → faultOf (text st) u ≡ 0
+unfolding faultOf codec
+text-sound u = sym (text-fine u)
 
 -- ---- a bitmap word for 64 elements
 
@@ -83,25 +92,49 @@ clear-end b n i h c = record { none = λ j k. c .none j (omega arith) }
 
 -- ---- numbers
 
-pub tail : (t : Bool) → both t true ≡ t
-tail true = refl
-tail false = refl
-
 -- a number of its width is judged by its limit alone
-pub number-judged : (w m : ℕ) (u : List ℕ) → length u ≡ w → isSome (number w m .get u) ≡ ltb (num u) m
+pub number-judged : (w m : ℕ) (u : List ℕ) → length u ≡ w → code (number w m .get u) ≡ cond (ltb (num u) m) 0 2
 unfolding number
 number-judged w m u k =
-    equal-some (length u) w (assert (decLt (num u) m) >> some (leaf u)) ∙ ap (λ (t : Bool). both t (isSome (assert (decLt (num u) m) >> some (leaf u)))) (eq-eqb (length u) w k)
-    ∙ less-some (num u) m (some (leaf u)) ∙ tail (ltb (num u) m)
+    code-equal (byte 0) (length u) w (assertAt (byte 0) (decLt (num u) m) >> got (leaf u)) ∙ rw (eq-eqb (length u) w k)
+    (code-less (byte 0) (num u) m (got (leaf u)) ∙ ap (λ (y : ℕ). cond (ltb (num u) m) y 2) (code-got (leaf u)))
+
+-- no zeros
+pub no-zeros : (b : List ℕ) (p q x : ℕ) → q - p ≡ 0 → zerosThen b p q x ≡ x
+unfolding num
+no-zeros b p q x e = rw e
+
+-- ---- the end of a list: the zeros from stop to start behind its elements, and nothing behind them
+
+module _ (b : List ℕ) (stop start all : ℕ) (is : zerosThen b stop start (cond (eqb start (length b)) 0 1) ≡ all)
+    {v : Bool} (ev : v ≡ eqb (num (part b stop (start - stop))) 0) where
+  pub end-gap : not v ≡ true → {y : ℕ} → y ≡ stop + zerosAhead (part b stop (start - stop)) → y + 2 ≡ all
+  end-gap e {y} ey =
+      let g : y + 2 ≡ suc (suc (stop + zerosAhead (part b stop (start - stop)))) = omega arith in
+      g ∙ rw (failed ev e) at is
+
+  pub end-done : not v ≡ false → start ≡ length b → 0 ≡ all
+  end-done e h = rw (passed ev e, eq-eqb start (length b) h) at is
+
+  pub end-over : not v ≡ false → (start ≡ length b → ⊥) → 1 ≡ all
+  end-over e h = rw (passed ev e, ne-eqb start (length b) h) at is
 
 -- ---- bools
 
 -- before element i: what is left leads to the same end
-pub record BoolsAt (b : List ℕ) (n start i : ℕ) : Type 0 where
+pub record BoolsAt (b : List ℕ) (n slots start i : ℕ) : Type 0 where
+  pub list : ListRoom b 1 n slots start
+  pub bytes : Bytes b
   pub most : i ≤ n
-  pub same : goodFrom 8 1 (bools n) b i [] ≡ goodFrom 8 1 (bools n) b 0 []
+  pub same : faultFrom 8 1 (bools n) b i [] ≡ faultFrom 8 1 (bools n) b 0 []
 
-module _ (b : List ℕ) (n slots start : ℕ) (r : ListRoom b 1 n slots start) (hb : Bytes b) where
+pub bools-start : {b : List ℕ} {n slots start : ℕ} → ListRoom b 1 n slots start → Bytes b → BoolsAt b n slots start 0
+bools-start r hb = record { list = r; bytes = hb; most = omega arith; same = refl }
+
+module _ {b : List ℕ} {n slots start i : ℕ} (a : BoolsAt b n slots start i) where
+  abbrev r : ListRoom b 1 n slots start
+  r = a .list
+
   count : length (bools n) ≡ n
   count = length-replicate n (inside 1 1 (number 1 2))
 
@@ -111,43 +144,76 @@ module _ (b : List ℕ) (n slots start : ℕ) (r : ListRoom b 1 n slots start) (
   front-is : front 8 1 (length (bools n)) ≡ start
   front-is = rw count (omega (arith, r .map, r .elements))
 
-  pub bools-start : BoolsAt b n start 0
-  bools-start = record { most = omega arith; same = refl }
+  -- behind the last
+  pub bools-stop : Fits w64 (slots + n)
+  bools-stop = omega (arith, r .elements, r .room, r .small)
 
-  module _ (i : ℕ) (a : BoolsAt b n start i) where
-    pub bools-end : n ≤ i → eqb start (length b) ≡ goodFrom 8 1 (bools n) b 0 []
-    unfolding total
-    bools-end l = sym (good-end 8 1 (bools n) b fits hb i [] start (omega (arith, count, a .most)) (omega (arith, front-is))) ∙ a .same
+  pub bools-pad : (8 ≤ start) × (start ≤ length b) × (slots + n < 2 ^ 40) × (start ≡ pad (slots + n))
+  bools-pad = (omega (arith, r .map, r .elements), r .room, omega (arith, r .elements, r .room, r .small), omega (arith, r .map, r .elements))
 
-    module _ (l : i < n) where
-      l′ : i < length (bools n)
-      l′ = omega (arith, count)
+  pub bools-search : (slots + n ≤ start) × (start ≤ length b)
+  bools-search = (omega (arith, r .elements), r .room)
 
-      pub bools-null : bit b 8 i ≡ true → BoolsAt b n start (i + 1)
-      bools-null e = record { most = omega arith; same = sym (good-null 8 1 (bools n) b fits hb i l′ [] e) ∙ a .same }
+  pub bools-found : {y : ℕ} → y ≡ slots + n + zerosAhead (part b (slots + n) (start - (slots + n))) → Fits w64 (y + 2)
+  bools-found e = found-fits b (slots + n) start e (bools-search .0) (r .room) (r .small)
 
-      -- the bool's byte, judged
-      one : (x : ℕ) → x ≡ getD b (slots + i) 0 → bit b 8 i ≡ false → goodFrom 8 1 (bools n) b i [] ≡ both (ltb x 2) (goodFrom 8 1 (bools n) b (i + 1) [])
-      unfolding num
-      one x e f =
+  pub bools-end : n ≤ i → zerosThen b (slots + n) start (cond (eqb start (length b)) 0 1) ≡ faultFrom 8 1 (bools n) b 0 []
+  unfolding total
+  bools-end l =
+      let e : 8 + bitmap (length (bools n)) + length (bools n) * 1 ≡ slots + n = rw count (omega (arith, r .map)) in
+      sym (good-end 8 1 (bools n) b fits (a .bytes) i [] start (omega (arith, count, a .most)) (omega (arith, front-is)) ∙ rw (e, front-is)) ∙ a .same
+
+  module _ (l : i < n) where
+    l′ : i < length (bools n)
+    l′ = omega (arith, count)
+
+    pub bools-bit : 8 + i / 8 < length b
+    bools-bit = omega (arith, r .map, r .elements, r .room)
+
+    pub bools-byte : slots + i < length b
+    bools-byte = omega (arith, r .elements, r .room)
+
+    pub bools-at : Fits w64 (slots + i)
+    bools-at = omega (arith, bools-byte, r .small)
+
+    pub bools-told : Fits w64 (slots + i + 2)
+    bools-told = omega (arith, bools-byte, r .small)
+
+    pub bools-on : Fits w64 (i + 1)
+    bools-on = omega (arith, bools-byte, r .small)
+
+    pub bools-null : {v : Bool} → v ≡ bit b 8 i → v ≡ true → BoolsAt b n slots start (i + 1)
+    bools-null e q =
+        record { list = r; bytes = a .bytes; most = omega arith; same = sym (good-null 8 1 (bools n) b fits (a .bytes) i l′ [] (sym e ∙ q)) ∙ a .same }
+
+    -- the bool's byte, judged
+    module _ {v : Bool} (e : v ≡ bit b 8 i) (q : v ≡ false) where
+      abbrev x : ℕ
+      x = getD b (slots + i) 0
+
+      one : faultFrom 8 1 (bools n) b i [] ≡ inChild (slots + i) (slots + i) (cond (ltb x 2) 0 2) (faultFrom 8 1 (bools n) b (i + 1) [])
+      one =
           let p = 8 + bitmap (length (bools n)) + i * 1 in
-          let q : p ≡ slots + i = rw count (omega (arith, r .map)) in
-          let room : slots + i < length b = omega (arith, r .elements, r .room) in
-          let v : num (part b p 1) ≡ x = rw q (num-one b (slots + i) room) ∙ sym e in
-          let k : length (part b p 1) ≡ 1 = length-part b p 1 (omega arith) in
-          good-inside 8 1 (bools n) b fits hb i l′ [] 1 (number 1 2) (getD-replicate n i (inside 1 1 (number 1 2)) nobody l) (omega arith) f
-          ∙ rw (number-judged 1 2 (part b p 1) k, v)
+          let o : p ≡ slots + i = rw count (omega (arith, r .map)) in
+          let y : num (part b p 1) ≡ x = rw o (num-one b (slots + i) bools-byte) in
+          let k : length (part b p 1) ≡ 1 = length-part b p 1 (omega (arith, bools-byte)) in
+          good-inside 8 1 (bools n) b fits (a .bytes) i l′ [] 1 (number 1 2) (getD-replicate n i (inside 1 1 (number 1 2)) nobody l) (omega arith) (sym e ∙ q)
+          ∙ rw (number-judged 1 2 (part b p 1) k, y, no-zeros b (p + 1) (p + 1) (faultFrom 8 1 (bools n) b (i + 1) []) (omega arith), o)
 
-      pub bools-wrong : (x : ℕ) → x ≡ getD b (slots + i) 0 → bit b 8 i ≡ false → 1 < x → false ≡ goodFrom 8 1 (bools n) b 0 []
-      bools-wrong x e f h = sym (one x e f ∙ rw (le-ltb x 2 (omega arith))) ∙ a .same
+      pub bools-wrong : 1 < x → slots + i + 2 ≡ faultFrom 8 1 (bools n) b 0 []
+      unfolding inChild
+      bools-wrong h =
+          let g : slots + i + 2 ≡ suc (suc (slots + i + 0)) = omega arith in
+          g ∙ sym (one ∙ rw (le-ltb x 2 (omega arith))) ∙ a .same
 
-      pub bools-next : (x : ℕ) → x ≡ getD b (slots + i) 0 → bit b 8 i ≡ false → x ≤ 1 → BoolsAt b n start (i + 1)
-      bools-next x e f h = record { most = omega arith; same = sym (one x e f ∙ rw (lt-ltb x 2 (omega arith))) ∙ a .same }
+      pub bools-next : x ≤ 1 → BoolsAt b n slots start (i + 1)
+      unfolding inChild
+      bools-next h = record { list = r; bytes = a .bytes; most = omega arith; same = sym (one ∙ rw (lt-ltb x 2 (omega arith))) ∙ a .same }
 
 -- ---- numbers: nothing to look at
 
 module _ (w n : ℕ) (b : List ℕ) (start : ℕ) (c : Codec) (one : 1 ≤ w) (hb : Bytes b) (st : start ≡ front 8 w n) (room : start ≤ length b)
-    (fine : (u : List ℕ) → Bytes u → length u ≡ w → isSome (c .get u) ≡ true) where
+    (fine : (u : List ℕ) → Bytes u → length u ≡ w → code (c .get u) ≡ 0) where
   abbrev numbers : List Kid
   numbers = replicate n (inside w w c)
 
@@ -157,8 +223,10 @@ module _ (w n : ℕ) (b : List ℕ) (start : ℕ) (c : Codec) (one : 1 ≤ w) (h
   enough : front 8 w (length numbers) ≤ length b
   enough = rw size (omega arith)
 
-  numbers-step : (i : ℕ) → i < n → goodFrom 8 w numbers b (i + 1) [] ≡ eqb start (length b) → goodFrom 8 w numbers b i [] ≡ eqb start (length b)
-  unfolding num
+  abbrev ends : ℕ
+  ends = zerosThen b (8 + bitmap n + n * w) start (cond (eqb start (length b)) 0 1)
+
+  numbers-step : (i : ℕ) → i < n → faultFrom 8 w numbers b (i + 1) [] ≡ ends → faultFrom 8 w numbers b i [] ≡ ends
   numbers-step i h rest = go (bit b 8 i) refl
     where
       l : i < length numbers
@@ -170,16 +238,13 @@ module _ (w n : ℕ) (b : List ℕ) (start : ℕ) (c : Codec) (one : 1 ≤ w) (h
       long : length (part b p w) ≡ w
       long = length-part b p w (omega (arith, enough, mul-le-mul-right {m = suc i} {n = length numbers} w l))
 
-      z : w - w ≡ 0
-      z = omega arith
-
-      go : (v : Bool) → bit b 8 i ≡ v → goodFrom 8 w numbers b i [] ≡ eqb start (length b)
+      go : (v : Bool) → bit b 8 i ≡ v → faultFrom 8 w numbers b i [] ≡ ends
       go true f = good-null 8 w numbers b enough hb i l [] f ∙ rest
       go false f =
           good-inside 8 w numbers b enough hb i l [] w c (getD-replicate n i (inside w w c) nobody h) (omega arith) f
-          ∙ rw (fine (part b p w) (bytes-part p w hb) long, z) rest
+          ∙ child-sound p p _ _ (fine (part b p w) (bytes-part p w hb) long) ∙ no-zeros b (p + w) (p + w) _ (omega arith) ∙ rest
 
-  pub numbers-from : (left i : ℕ) → i + left ≡ n → goodFrom 8 w numbers b i [] ≡ eqb start (length b)
+  pub numbers-from : (left i : ℕ) → i + left ≡ n → faultFrom 8 w numbers b i [] ≡ ends
   unfolding total
-  numbers-from zero i e = good-end 8 w numbers b enough hb i [] start (omega (arith, size)) (rw size (omega arith))
+  numbers-from zero i e = good-end 8 w numbers b enough hb i [] start (omega (arith, size)) (rw size (omega arith)) ∙ rw (size, st)
   numbers-from (suc left) i e = numbers-step i (omega arith) (numbers-from left (i + 1) (omega arith))

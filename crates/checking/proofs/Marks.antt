@@ -9,11 +9,13 @@ use native.Mathlib.Omega.{arith}
 use lib.ListN.{length}
 use Rattle.words.specs.Bits.{bit, putBit}
 use Rattle.words.proofs.BitLaws.{length-put}
-use Rattle.checking.specs.Sound.{both}
-use Rattle.checking.specs.Maps.{clearFrom, marked, admits, taken, admitted, places, placed}
-use Rattle.checking.proofs.Tests.{both-false}
+use Rattle.checking.specs.Maps.{both, clearFrom, marked, admits, taken, admitted, places, placed}
 use borrow.Author.Tests.{eq-eqb, ne-eqb, lt-ltb, le-ltb}
 use lib.Dec.{eqb, ltb}
+
+both-false : (x : Bool) → both x false ≡ false
+both-false true = refl
+both-false false = refl
 
 -- ---- the loops
 

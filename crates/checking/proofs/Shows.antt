@@ -16,8 +16,7 @@ use Rattle.words.specs.Bits.{bit, withBit, putBit}
 use Rattle.words.proofs.BitLaws.{bit-put, bit-put-other, bit-run, length-put}
 use Rattle.layout.specs.Tiles.{Range, Aparts}
 use Rattle.layout.proofs.Units.{Covers, Inner, Empty, NoneOf, Even, AllEven, Free, free-is-apart}
-use Rattle.checking.specs.Sound.{both}
-use Rattle.checking.specs.Maps.{clearFrom, marked, admits, taken}
+use Rattle.checking.specs.Maps.{both, clearFrom, marked, admits, taken}
 use Rattle.checking.proofs.Marks.{length-marked}
 
 clash : true ≡ false → ⊥

@@ -4,7 +4,10 @@ use mathlib.Core.List.{List}
 use Prim.Native.Nat.{ℕ, zero, suc, _-_, _/_, _%_}
 use lib.Dec.{eqb, ltb}
 use Rattle.words.specs.Bits.{bit, putBit}
-use Rattle.checking.specs.Sound.{both}
+
+abbrev pub both : Bool → Bool → Bool
+both true x = x
+both false x = false
 
 -- n bits from a on, of the bitmap at a byte, are 0
 unfoldable pub clearFrom : List ℕ → ℕ → ℕ → ℕ → Bool

@@ -1,6 +1,6 @@
 -- What the functions of `checking` ask of a container's positions, and what they hand on. Assumes nothing: these are definitions.
 use mathlib.Core.Path.{_≡_}
-use mathlib.Core.Bool.{Bool, true, false}
+use mathlib.Core.Bool.{Bool, true, false, cond}
 use mathlib.Core.List.{List}
 use mathlib.Core.Option.{none}
 use Prim.Native.Nat.{ℕ, _+_, _*_, _-_, _/_, _%_, _^_, _≤_, _<_}
@@ -12,8 +12,7 @@ use Rattle.schema.specs.Types.{Fixed, width, Ty, fix, ro, field}
 use Rattle.schema.specs.Kinds.{placeAt}
 use Rattle.schema.specs.Walk.{Typed, TypedAll, typeAt, typesAt}
 use Rattle.layout.specs.Layout.{Kid, outside, inside, string, number, limit, kid, slotOf, codec}
-use Rattle.layout.specs.Setting.{isSome}
-use Rattle.checking.specs.Sound.{both, sound}
+use Rattle.checking.specs.Sound.{code, faultOf, inChild, zerosThen}
 
 -- A list's n elements of w bytes start at slots, behind its bitmap, and its variable data at start; all of it lies in b.
 pub record ListRoom (b : List ℕ) (w n slots start : ℕ) : Type 0 where
@@ -37,13 +36,14 @@ texts n = replicate n (outside string)
 abbrev pub bools : ℕ → List Kid
 bools n = replicate n (inside 1 1 (number 1 2))
 
-abbrev pub either : Bool → Bool → Bool
-either true x = true
-either false x = x
+-- a fixed-width field in its slot: null, or bytes of the type and zeros behind them; and then x
+unfoldable pub fieldThen : Fixed → List ℕ → ℕ → ℕ → ℕ → ℕ
+fieldThen f b i slot x =
+    cond (bit b 0 i) x
+    (inChild slot slot (code (number (width f) (limit f) .get (part b slot (width f)))) (zerosThen b (slot + width f) (slot + 8) x))
 
--- a fixed-width field in its slot: null, or bytes of the type and zeros behind them
-unfoldable pub fieldGood : Fixed → List ℕ → ℕ → ℕ → Bool
-fieldGood f b i slot = either (bit b 0 i) (both (isSome (number (width f) (limit f) .get (part b slot (width f)))) (eqb (num (part b (slot + width f) (8 - width f))) 0))
+abbrev pub fieldGood : Fixed → List ℕ → ℕ → ℕ → Bool
+fieldGood f b i slot = eqb (fieldThen f b i slot 0) 0
 
 -- the field's slot lies in b, and so does its bit; k is the place of a fixed-width type
 pub record FieldRoom (b : List ℕ) (i slot k : ℕ) : Type 0 where
@@ -106,10 +106,10 @@ upToEight b stop = part b stop (pad stop - stop)
 abbrev pub padding : List ℕ → ℕ → List ℕ
 padding b slot = upToEight b (num (part b slot 8) / 2 ^ 32 + num (part b slot 8) % 2 ^ 32)
 
--- The n children of b, behind a header of h bytes, have the types F. Of those before number i that are not null, one that varies is sound
+-- The n children of b, behind a header of h bytes, have the types F. Of those before number i that are not null, one that varies has no fault
 -- where its slot says, with zeros for padding, and one of a fixed width is good in its slot (only a struct has such slots).
 pub record Known (h : ℕ) (F : ℕ → Ty) (b : List ℕ) (n i : ℕ) : Type 0 where
-  pub sound : (j : ℕ) → j < i → bit b h j ≡ false → codec (F j) .wide ≡ none → sound (F j) (pointed b (h + bitmap n + 8 * j)) ≡ true
+  pub sound : (j : ℕ) → j < i → bit b h j ≡ false → codec (F j) .wide ≡ none → faultOf (F j) (pointed b (h + bitmap n + 8 * j)) ≡ 0
   pub padded : (j : ℕ) → j < i → bit b h j ≡ false → codec (F j) .wide ≡ none → num (padding b (h + bitmap n + 8 * j)) ≡ 0
   pub fixed : (j : ℕ) → j < i → bit b h j ≡ false → (f : Fixed) → F j ≡ fix f → fieldGood f b j (h + bitmap n + 8 * j) ≡ true
 

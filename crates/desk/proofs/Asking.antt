@@ -3,7 +3,7 @@ use mathlib.Core.Path.{_≡_, refl, sym, ap, _∙_}
 use mathlib.Core.Bool.{Bool, true, false}
 use mathlib.Core.Option.{Option, none, some}
 use mathlib.Core.List.{List}
-use Prim.Native.Nat.{ℕ, _*_, _^_, _≤_, _<_}
+use Prim.Native.Nat.{ℕ, _≤_, _<_}
 use native.Mathlib.Omega.{arith}
 use native.Mathlib.Decide.{decLe}
 use lib.Dec.{leb}
@@ -14,14 +14,14 @@ use Rattle.words.specs.Signed.{halfOf, toSigned}
 use Rattle.schema.specs.Types.{Ty, ro}
 use Rattle.schema.specs.Reading.{judged}
 use Rattle.schema.specs.Walk.{fieldsOf}
-use Rattle.layout.specs.Cells.{Cell}
-use Rattle.layout.specs.Layout.{decode}
+use Rattle.layout.specs.Refusals.{Refusal, numbered}
+use Rattle.layout.specs.Layout.{faultAt}
 use Rattle.layout.specs.Walk.{rootSeat, walk}
 use Rattle.layout.specs.Reading as R
 use Rattle.layout.specs.Reading.{Answer, placed, readIn}
 use Rattle.layout.specs.Setting as S
-use Rattle.layout.specs.Setting.{Setting, isSome, suits, keeps, unless, _or_, refusalIn, judgeAt, writeAt, Outcome, refuses, outcome, setIn}
-use Rattle.layout.specs.Entries.{verdict, isAccepted, schemaBad, rowLong, layoutBad, checkOf, readAfter, readOf, setAfter, setOf, setVerdict, rowAfter}
+use Rattle.layout.specs.Setting.{Setting, suits, keeps, unless, _or_, refusalIn, judgeAt, writeAt, Outcome, refuses, outcome, setIn}
+use Rattle.layout.specs.Entries.{verdict, broken, isAccepted, schemaBad, rowLong, layoutBad, checkOf, readAfter, readOf, setAfter, setOf, setVerdict, rowAfter}
 use Rattle.answers.specs.declared.Path.{Path}
 use Rattle.answers.specs.declared.Outcome.{Outcome as Done}
 use Rattle.answers.specs.declared.Setting.{Setting as Value}
@@ -30,11 +30,11 @@ use Rattle.answers.specs.Paths.{pathOf}
 use Rattle.answers.proofs.PathLaws.{length-path}
 use Rattle.row.specs.Demand1.{ReadGives}
 use Rattle.row.specs.Demand1 as D
-use Rattle.row.proofs.Among.{not-among}
+use Rattle.row.proofs.Among.{lacks, not-among}
 use Rattle.desk.specs.declared.Asked.{Asked}
 use Rattle.desk.specs.declared.Asked.the-variants.{Nothing, Of}
 use Rattle.desk.specs.Asked.{boolOf, float32Of, askedOf, askedMeans, orEight, unfitOf, setAsked, Leaves}
-use Rattle.desk.specs.Codes.{verdictCode}
+use Rattle.desk.specs.Codes.{refusalCode, verdictCode}
 use Rattle.desk.specs.Steps.{Taken}
 use Rattle.desk.specs.Words.{codeAfter}
 use Rattle.setting.specs.Writes.{SetAs}
@@ -96,49 +96,54 @@ module _ {a : Asked} (kind v : ℕ) (h : (u : List ℕ) → askedMeans a u ≡ a
 
 -- ---- a setting that is none
 
-no-number : (n : ℕ) → none ≡ some n → ⊥
-no-number n e = let z : _≡_ {A = ℕ} 0 1 = cc in omega arith
+no-refusal : (r : Refusal) → none ≡ some r → ⊥
+no-refusal r e = let z : _≡_ {A = ℕ} 0 1 = cc in omega arith
 
--- no refusal of reading has the number 0
-gives-nonzero : (a : Answer) (n : ℕ) → ReadGives a → refusalIn a ≡ some n → n ≡ 0 → ⊥
+-- no refusal of reading has the code 0
+told-nonzero : {ns : List ℕ} (r : Refusal) → lacks 0 ns ≡ true → D.Told ns r → refusalCode r ≡ 0 → ⊥
+told-nonzero r h (D.number {n = n} o _) q = not-among 0 o h (omega arith)
+told-nonzero r h (D.place o) q = omega arith
+
+gives-nonzero : (a : Answer) (r : Refusal) → ReadGives a → refusalIn a ≡ some r → refusalCode r ≡ 0 → ⊥
 unfolding refusalIn
-gives-nonzero a n D.null e q = no-number n e
-gives-nonzero a n D.bool e q = no-number n e
-gives-nonzero a n D.signed e q = no-number n e
-gives-nonzero a n D.float32 e q = no-number n e
-gives-nonzero a n D.float64 e q = no-number n e
-gives-nonzero a n D.bytes e q = no-number n e
-gives-nonzero a n D.container e q = no-number n e
-gives-nonzero a n (D.refused {n = m} o) e q = let z : m ≡ n = cc in not-among 0 o refl (z ∙ q)
+gives-nonzero a r D.null e q = no-refusal r e
+gives-nonzero a r D.bool e q = no-refusal r e
+gives-nonzero a r D.signed e q = no-refusal r e
+gives-nonzero a r D.float32 e q = no-refusal r e
+gives-nonzero a r D.float64 e q = no-refusal r e
+gives-nonzero a r D.bytes e q = no-refusal r e
+gives-nonzero a r D.container e q = no-refusal r e
+gives-nonzero a r (D.refused {r = m} o) e q = let z : m ≡ r = cc in told-nonzero m refl o (ap (λ (x : Refusal). refusalCode x) z ∙ q)
 
 -- the refusals of the row by their tests, and then d
-first : Bool → Bool → Bool → Option ℕ → Option ℕ
-first a b c d = unless a 1 or unless b 3 or unless c 7 or d
+first : Bool → Bool → Option ℕ → Option Refusal → Option Refusal
+first a b c d = unless a 1 or unless b 3 or broken c or d
 
-row-code : Bool → Bool → Bool → ℕ
-row-code a b c = verdictCode (verdict (unless a 1 or unless b 3 or unless c 7))
+row-code : Bool → Bool → Option ℕ → ℕ
+row-code a b c = verdictCode (verdict (unless a 1 or unless b 3 or broken c))
 
-by-row : (a b c : Bool) (d : Option ℕ) (k : ℕ) → k ≡ row-code a b c → (k ≡ 0 → ⊥) → k ≡ orEight (first a b c d) * 2 ^ 32
+by-row : (a b : Bool) (c : Option ℕ) (d : Option Refusal) (k : ℕ) → k ≡ row-code a b c → (k ≡ 0 → ⊥) → k ≡ refusalCode (orEight (first a b c d))
 unfolding first row-code
-by-row true true true d k e h = absurd (h e)
-by-row true true false d k e h = e
+by-row true true none d k e h = absurd (h e)
+by-row true true (some q) d k e h = e
 by-row true false c d k e h = e
 by-row false b c d k e h = e
 
-by-place : (a b c : Bool) (d : Option ℕ) (j k : ℕ) → j ≡ row-code a b c → j ≡ 0 → k ≡ codeAfter d 4 4 → (k ≡ 0 → ⊥) → k ≡ orEight (first a b c d) * 2 ^ 32
+by-place : (a b : Bool) (c : Option ℕ) (d : Option Refusal) (j k : ℕ) → j ≡ row-code a b c → j ≡ 0 → k ≡ codeAfter d 4 4 → (k ≡ 0 → ⊥)
+    → k ≡ refusalCode (orEight (first a b c d))
 unfolding first row-code
-by-place true true true none j k e z q h = absurd (h q)
-by-place true true true (some n) j k e z q h = q
-by-place true true false d j k e z q h = absurd (omega arith)
+by-place true true none none j k e z q h = absurd (h q)
+by-place true true none (some n) j k e z q h = q
+by-place true true (some p) d j k e z q h = absurd (omega arith)
 by-place true false c d j k e z q h = absurd (omega arith)
 by-place false b c d j k e z q h = absurd (omega arith)
 
-by-value : (a b c : Bool) (d : Option ℕ) (j k : ℕ) → j ≡ row-code a b c → j ≡ 0 → k ≡ codeAfter d 4 4 → k ≡ 0
-    → ((n : ℕ) → d ≡ some n → n ≡ 0 → ⊥) → 34359738368 ≡ orEight (first a b c d) * 2 ^ 32
+by-value : (a b : Bool) (c : Option ℕ) (d : Option Refusal) (j k : ℕ) → j ≡ row-code a b c → j ≡ 0 → k ≡ codeAfter d 4 4 → k ≡ 0
+    → ((r : Refusal) → d ≡ some r → refusalCode r ≡ 0 → ⊥) → 34359738368 ≡ refusalCode (orEight (first a b c d))
 unfolding first row-code
-by-value true true true none j k e z q h g = refl
-by-value true true true (some n) j k e z q h g = absurd (g n refl (omega arith))
-by-value true true false d j k e z q h g = absurd (omega arith)
+by-value true true none none j k e z q h g = refl
+by-value true true none (some r) j k e z q h g = absurd (g r refl (omega arith))
+by-value true true (some p) d j k e z q h g = absurd (omega arith)
 by-value true false c d j k e z q h g = absurd (omega arith)
 by-value false b c d j k e z q h g = absurd (omega arith)
 
@@ -149,34 +154,34 @@ module _ (s row p : List ℕ) where
   abbrev short : Bool
   short = leb (length row) 16384
 
-  abbrev lays : Bool
-  lays = isSome (decode (ro (fieldsOf s)) row)
+  abbrev at : Option ℕ
+  at = faultAt (ro (fieldsOf s)) row
 
-  pub refused-row : (j : ℕ) → j ≡ verdictCode (checkOf s row) → (j ≡ 0 → ⊥) → j ≡ unfitOf s row p * 2 ^ 32
+  pub refused-row : (j : ℕ) → j ≡ verdictCode (checkOf s row) → (j ≡ 0 → ⊥) → j ≡ refusalCode (unfitOf s row p)
   unfolding checkOf unfitOf first row-code
-  refused-row j e h = by-row accepted short lays (refusalIn (readOf s row p)) j e h
+  refused-row j e h = by-row accepted short at (refusalIn (readOf s row p)) j e h
 
   module _ (j k : ℕ) (a : Answer) (e : j ≡ verdictCode (checkOf s row)) (z : j ≡ 0) (m : a ≡ readOf s row p) (q : k ≡ codeAfter (refusalIn a) 4 4) where
     told : k ≡ codeAfter (refusalIn (readOf s row p)) 4 4
     told = rw m at q
 
-    pub refused-place : (k ≡ 0 → ⊥) → k ≡ unfitOf s row p * 2 ^ 32
+    pub refused-place : (k ≡ 0 → ⊥) → k ≡ refusalCode (unfitOf s row p)
     unfolding checkOf unfitOf first row-code
-    refused-place h = by-place accepted short lays (refusalIn (readOf s row p)) j k e z told h
+    refused-place h = by-place accepted short at (refusalIn (readOf s row p)) j k e z told h
 
-    pub refused-value : ReadGives (readOf s row p) → k ≡ 0 → 34359738368 ≡ unfitOf s row p * 2 ^ 32
+    pub refused-value : ReadGives (readOf s row p) → k ≡ 0 → 34359738368 ≡ refusalCode (unfitOf s row p)
     unfolding checkOf unfitOf first row-code
-    refused-value g h = by-value accepted short lays (refusalIn (readOf s row p)) j k e z told h (λ n. gives-nonzero (readOf s row p) n g)
+    refused-value g h = by-value accepted short at (refusalIn (readOf s row p)) j k e z told h (λ r. gives-nonzero (readOf s row p) r g)
 
 -- it is refused as a setting that fits no type of its place is
-as-unfit : (a b : Bool) (d : Option Cell) (y : Answer) (k : Option ℕ) (w : List ℕ)
-    → setAfter (unless a 1 or unless b 3) (outcome d (refusalIn y or some 8 or k) w)
-    ≡ refuses (orEight (unless a 1 or unless b 3 or unless (isSome d) 7 or refusalIn (readAfter (unless a 1 or unless b 3) y)))
+as-unfit : (a b : Bool) (d : Option ℕ) (y : Answer) (k : Option Refusal) (w : List ℕ)
+    → setAfter (unless a 1 or unless b 3) (outcome d (refusalIn y or some (numbered 8) or k) w)
+    ≡ refuses (orEight (unless a 1 or unless b 3 or broken d or refusalIn (readAfter (unless a 1 or unless b 3) y)))
 unfolding outcome
-as-unfit true true none y k w = refl
-as-unfit true true (some c) y k w = go (refusalIn y)
+as-unfit true true (some q) y k w = refl
+as-unfit true true none y k w = go (refusalIn y)
   where
-    go : (r : Option ℕ) → outcome (some c) (r or some 8 or k) w ≡ refuses (orEight r)
+    go : (r : Option Refusal) → outcome none (r or some (numbered 8) or k) w ≡ refuses (orEight r)
     go none = refl
     go (some n) = refl
 as-unfit true false d y k w = refl
@@ -186,7 +191,7 @@ pub unfit-alike : (s row p : List ℕ) (t : Ty) (x : Setting) → placed p (ro (
     → setOf s row p x ≡ refuses (unfitOf s row p)
 unfolding setOf setIn unfitOf readOf judgeAt
 unfit-alike s row p t x e h =
-    rw (e, h) (as-unfit (isAccepted (judged s)) (leb (length row) 16384) (decode (ro (fieldsOf s)) row) (readIn (fieldsOf s) row p)
+    rw (e, h) (as-unfit (isAccepted (judged s)) (leb (length row) 16384) (faultAt (ro (fieldsOf s)) row) (readIn (fieldsOf s) row p)
     (unless (keeps t (readIn (fieldsOf s) row p) x) 9) (writeAt (some t) x (walk p (ro (fieldsOf s)) rootSeat 0 row) row))
 
 -- ---- a path taken from lent steps sets as they do
@@ -207,8 +212,8 @@ module _ (l : List ℕ) (p : Path) (t : Taken l p) (s row : List ℕ) where
   unfolding unfitOf
   taken-unfit = ap (λ (a : Answer). orEight (schemaBad s or rowLong row or layoutBad s row or refusalIn a)) (taken-reads l p t s row)
 
-  pub leaves-none : (o : Option Setting) (r : ℕ) → none ≡ o → r ≡ unfitOf s row (pathOf p) * 2 ^ 32 → Leaves (setAsked s row l o) row r row
-  leaves-none o r e q = rw (← e) (record { answers = q ∙ ap (λ (n : ℕ). n * 2 ^ 32) taken-unfit; after = refl })
+  pub leaves-none : (o : Option Setting) (r : ℕ) → none ≡ o → r ≡ refusalCode (unfitOf s row (pathOf p)) → Leaves (setAsked s row l o) row r row
+  leaves-none o r e q = rw (← e) (record { answers = q ∙ ap (λ (n : Refusal). refusalCode n) taken-unfit; after = refl })
 
   pub leaves-set : (o : Option Setting) (x : Setting) (d : Done) (r : ℕ) (row′ : List ℕ) → some x ≡ o
       → SetAs (setOf s row (pathOf p) x) row row′ d → r ≡ verdictCode (outcomeMeans d) → Leaves (setAsked s row l o) row r row′

@@ -3,22 +3,23 @@ use mathlib.Core.Path.{_≡_, refl, sym, ap, _∙_}
 use mathlib.Core.Bool.{false}
 use mathlib.Core.Option.{Option, none, some}
 use mathlib.Core.List.{List, [], _∷_}
-use Prim.Native.Nat.{ℕ, _+_, _-_, _*_, _^_}
+use Prim.Native.Nat.{ℕ, _+_, _-_}
 use native.Mathlib.Omega.{arith}
 use lib.ListN.{length, set}
-use borrow.Author.Tests.{eq-eqb, ne-eqb}
 use Rattle.words.specs.Bytes.{Bytes, part}
 use Rattle.schema.specs.Types.{Ty, ro}
 use Rattle.schema.specs.Walk.{fieldsOf}
+use Rattle.layout.specs.Refusals as N
 use Rattle.layout.specs.Reading.{placed}
 use Rattle.layout.specs.Setting.{Setting, Outcome, refuses, suits, refusalIn, _or_}
 use Rattle.layout.specs.Entries.{Sized, takes, refusedWith, schemaBad, rowLong, layoutBad, readAfter, setAfter, readOf as rowRead, setVerdict, rowAfter}
 use Rattle.answers.specs.declared.Refusal.{Refusal}
+use Rattle.answers.specs.declared.Refusal.the-variants as F
 use Rattle.answers.specs.declared.Path.{Path}
 use Rattle.answers.specs.declared.Outcome.{Outcome as Done}
 use Rattle.answers.specs.declared.Length.{Length}
 use Rattle.answers.specs.declared.Length.the-variants as L
-use Rattle.answers.specs.Meaning.{numberOf, lengthOf, outcomeMeans}
+use Rattle.answers.specs.Meaning.{numberOf, lengthOf, refusalMeans, outcomeMeans}
 use Rattle.answers.specs.Paths.{pathOf}
 use Rattle.setting.specs.Writes.{SetAs}
 use Rattle.batch.specs.Frames.{framed}
@@ -26,16 +27,45 @@ use Rattle.batch.specs.Entries as B
 use Rattle.batch.specs.Entries.{rowOf, startOf, batchBad, rowMissing, noRow, rowBad, Fetching, Checking, range, fetchOf}
 use Rattle.batch.specs.Entries.{appendOf, appendedOf, readOf, within, setOf}
 use Rattle.batch.specs.Meaning.{Appends}
+use Rattle.row.specs.Outcomes.{Low}
+use Rattle.batch.proofs.Low.{append-low}
 use Rattle.batch.proofs.Taken.{or-none, fetch-of}
 use Rattle.batch.proofs.Settings.{fetches}
 use Rattle.desk.specs.Asked.{unfitOf, Leaves}
 use Rattle.desk.specs.Batch.{countRefusal, countWords, fetchRefusal, fetchWords, checkCode, checkWords, appendCode, appendWords, Beside, AppendsTo}
 use Rattle.desk.specs.Batch.{orElse, unfitIn, setAskedIn}
-use Rattle.desk.specs.Codes.{verdictCode}
+use Rattle.desk.specs.Codes.{refusalCode, verdictCode}
 use Rattle.desk.specs.Steps.{Taken}
 use Rattle.desk.specs.Words.{Told}
 use Rattle.desk.proofs.Steps.{taken-reads}
 use Rattle.desk.proofs.Asking.{unfit-alike, taken-sets, taken-unfit}
+
+-- ---- the words of an append
+
+-- only 4 has a length to tell
+words-none : (r : Refusal) → (numberOf r ≡ 4 → ⊥) → appendWords (refusedWith (refusalMeans r) (lengthOf r)) ≡ []
+words-none F.Schema h = refl
+words-none F.Listing h = refl
+words-none F.TooLong h = refl
+words-none (F.Room n) h = absurd (h refl)
+words-none F.NoPlace h = refl
+words-none F.NullBefore h = refl
+words-none (F.Layout p) h = refl
+words-none F.Unfit h = refl
+words-none F.Resize h = refl
+words-none F.Batch h = refl
+
+words-one : (r : Refusal) → numberOf r ≡ 4 → appendWords (refusedWith (refusalMeans r) (lengthOf r)) ≡ lengthOf r ∷ []
+words-one F.Schema h = absurd (omega arith)
+words-one F.Listing h = absurd (omega arith)
+words-one F.TooLong h = absurd (omega arith)
+words-one (F.Room n) h = refl
+words-one F.NoPlace h = absurd (omega arith)
+words-one F.NullBefore h = absurd (omega arith)
+words-one (F.Layout p) h = absurd (omega arith)
+words-one F.Unfit h = absurd (omega arith)
+words-one F.Resize h = absurd (omega arith)
+words-one F.Batch h = absurd (omega arith)
 
 -- ---- counting, fetching, checking
 
@@ -43,35 +73,37 @@ module _ {out : List ℕ} where
   pub count-told : {n r : ℕ} {out′ : List ℕ} (z : Sized) → takes n ≡ z → Told 1 none (n ∷ []) out r out′ → Told 1 (countRefusal z) (countWords z) out r out′
   count-told z e p = rw (← e) p
 
-  pub count-refused : {m k code : ℕ} (z : Sized) → refusedWith m k ≡ z → code ≡ m * 2 ^ 32 → Told 1 (countRefusal z) (countWords z) out code out
+  pub count-refused : {m : N.Refusal} {k code : ℕ} (z : Sized) → refusedWith m k ≡ z → code ≡ refusalCode m
+      → Told 1 (countRefusal z) (countWords z) out code out
   count-refused z e c = rw (← e) (record { answers = c; leaves = refl })
 
   pub fetch-told : {start len r : ℕ} {out′ : List ℕ} (z : Fetching) → range start len ≡ z → Told 2 none (start ∷ len ∷ []) out r out′
       → Told 2 (fetchRefusal z) (fetchWords z) out r out′
   fetch-told z e p = rw (← e) p
 
-  pub fetch-refused : {m code : ℕ} (z : Fetching) → B.refused m ≡ z → code ≡ m * 2 ^ 32 → Told 2 (fetchRefusal z) (fetchWords z) out code out
+  pub fetch-refused : {m : N.Refusal} {code : ℕ} (z : Fetching) → B.refused m ≡ z → code ≡ refusalCode m → Told 2 (fetchRefusal z) (fetchWords z) out code out
   fetch-refused z e c = rw (← e) (record { answers = c; leaves = refl })
 
   pub check-done : (z : Checking) → B.done ≡ z → Beside (checkCode z) (checkWords z) out 0 out
   check-done z e = rw (← e) (record { answers = refl; leaves = refl })
 
-  pub check-refused : {m code : ℕ} (z : Checking) → B.refused m ≡ z → code ≡ m * 2 ^ 32 → Beside (checkCode z) (checkWords z) out code out
+  pub check-refused : {m : N.Refusal} {code : ℕ} (z : Checking) → B.refused m ≡ z → code ≡ refusalCode m → Beside (checkCode z) (checkWords z) out code out
   check-refused z e c = rw (← e) (record { answers = c; leaves = refl })
 
-  pub check-told : {k m code : ℕ} {out′ : List ℕ} (z : Checking) → B.refusedRow k m ≡ z → code ≡ m * 2 ^ 32 → out′ ≡ set out 0 k
+  pub check-told : {k code : ℕ} {m : N.Refusal} {out′ : List ℕ} (z : Checking) → B.refusedRow k m ≡ z → code ≡ refusalCode m → out′ ≡ set out 0 k
       → Beside (checkCode z) (checkWords z) out code out′
   check-told z e c w = rw (← e) (record { answers = c; leaves = w })
 
   -- ---- appending
 
-  pub refusal-alone : (m k : ℕ) {code : ℕ} → (m ≡ 4 → ⊥) → code ≡ m * 2 ^ 32
-      → Beside (appendCode (refusedWith m k)) (appendWords (refusedWith m k)) out code out
-  refusal-alone m k h c = record { answers = c; leaves = rw (ne-eqb m 4 h) }
+  module _ (r : Refusal) {code : ℕ} (c : code ≡ refusalCode (refusalMeans r)) where
+    pub refusal-alone : (numberOf r ≡ 4 → ⊥)
+        → Beside (appendCode (refusedWith (refusalMeans r) (lengthOf r))) (appendWords (refusedWith (refusalMeans r) (lengthOf r))) out code out
+    refusal-alone h = record { answers = c; leaves = rw (words-none r h) }
 
-  pub refusal-told : (m k : ℕ) {code : ℕ} {out′ : List ℕ} → m ≡ 4 → code ≡ m * 2 ^ 32 → {i : ℕ} → i ≡ k → out′ ≡ set out 0 i
-      → Beside (appendCode (refusedWith m k)) (appendWords (refusedWith m k)) out code out′
-  refusal-told m k h c q w = record { answers = c; leaves = rw (eq-eqb m 4 h, ← q) w }
+    pub refusal-told : {out′ : List ℕ} → numberOf r ≡ 4 → {i : ℕ} → i ≡ lengthOf r → out′ ≡ set out 0 i
+        → Beside (appendCode (refusedWith (refusalMeans r) (lengthOf r))) (appendWords (refusedWith (refusalMeans r) (lengthOf r))) out code out′
+    refusal-told h q w = record { answers = c; leaves = rw (words-one r h, ← q) w }
 
   module _ {s room : List ℕ} {used : ℕ} {row : List ℕ} {l : Length} {room′ : List ℕ} (a : Appends s room used row l room′) where
     pub append-told : {n : ℕ} {out′ : List ℕ} → l ≡ L.Done n → out′ ≡ set out 0 n
@@ -81,11 +113,17 @@ module _ {out : List ℕ} where
         record { tells = rw (← z) (record { answers = refl; leaves = w }); leaves = a .leaves }
 
     pub append-refused : {r : Refusal} {code : ℕ} {out′ : List ℕ} → l ≡ L.Refused r
-        → Beside (appendCode (refusedWith (numberOf r) (lengthOf r))) (appendWords (refusedWith (numberOf r) (lengthOf r))) out code out′
+        → Beside (appendCode (refusedWith (refusalMeans r) (lengthOf r))) (appendWords (refusedWith (refusalMeans r) (lengthOf r))) out code out′
         → AppendsTo (appendOf s room used row) (appendedOf s room used row) out code room′ out′
     append-refused {r} e w =
-        let z : refusedWith (numberOf r) (lengthOf r) ≡ appendOf s room used row = rw e at (a .answers) in
+        let z : refusedWith (refusalMeans r) (lengthOf r) ≡ appendOf s room used row = rw e at (a .answers) in
         record { tells = rw (← z) w; leaves = a .leaves }
+
+pub append-low-refused : {s room : List ℕ} {used : ℕ} {row : List ℕ} {l : Length} {room′ : List ℕ} → Appends s room used row l room′
+    → {r : Refusal} → l ≡ L.Refused r → Low 16384 (refusalMeans r)
+append-low-refused {s} {room} {used} {row} a {r} e =
+    let z : refusedWith (refusalMeans r) (lengthOf r) ≡ appendOf s room used row = rw e at (a .answers) in
+    rw (← z) at (append-low s room used row)
 
 -- ---- reading and setting by lent steps
 
@@ -102,8 +140,8 @@ module _ (l : List ℕ) (p : Path) (t : Taken l p) (s b : List ℕ) (k : ℕ) wh
   unfolding unfitIn
   none-in = ap (orElse (noRow s b k)) (taken-unfit l p t s (rowOf b k))
 
-  pub leaves-none-in : (o : Option Setting) (r : ℕ) → none ≡ o → r ≡ unfitIn s b k (pathOf p) * 2 ^ 32 → Leaves (setAskedIn s b k l o) b r b
-  leaves-none-in o r e q = rw (← e) (record { answers = q ∙ ap (λ (n : ℕ). n * 2 ^ 32) none-in; after = refl })
+  pub leaves-none-in : (o : Option Setting) (r : ℕ) → none ≡ o → r ≡ refusalCode (unfitIn s b k (pathOf p)) → Leaves (setAskedIn s b k l o) b r b
+  leaves-none-in o r e q = rw (← e) (record { answers = q ∙ ap (λ (n : N.Refusal). refusalCode n) none-in; after = refl })
 
   pub leaves-set-in : (o : Option Setting) (x : Setting) (d : Done) (r : ℕ) (b′ : List ℕ) → some x ≡ o → SetAs (setOf s b k (pathOf p) x) b b′ d
       → r ≡ verdictCode (outcomeMeans d) → Leaves (setAskedIn s b k l o) b r b′
@@ -115,7 +153,7 @@ module _ (l : List ℕ) (p : Path) (t : Taken l p) (s b : List ℕ) (k : ℕ) wh
 
 -- ---- a kind or a value that is none: what a fetch of the row shows
 
-or-front : (a b c : Option ℕ) (n : ℕ) → (a or b) ≡ some n → (a or b or c) ≡ some n
+or-front : (a b c : Option N.Refusal) (n : N.Refusal) → (a or b) ≡ some n → (a or b or c) ≡ some n
 or-front (some m) b c n e = e
 or-front none (some m) c n e = e
 or-front none none c n e = let z : _≡_ {A = ℕ} 0 1 = cc in absurd (omega arith)
@@ -130,15 +168,15 @@ module _ (s b : List ℕ) (k : ℕ) (p : List ℕ) where
   unfolding setOf unfitIn
   unfit-alike-in t x e h = rw (unfit-alike s (rowOf b k) p t x e h) (go (noRow s b k))
     where
-      go : (m : Option ℕ) → setAfter m (refuses (unfitOf s (rowOf b k) p)) ≡ refuses (orElse m (unfitOf s (rowOf b k) p))
+      go : (m : Option N.Refusal) → setAfter m (refuses (unfitOf s (rowOf b k) p)) ≡ refuses (orElse m (unfitOf s (rowOf b k) p))
       go none = refl
       go (some n) = refl
 
-  pub unfit-refused : (m : ℕ) → B.refused m ≡ fetchOf s b k → m ≡ unfitIn s b k p
+  pub unfit-refused : (m : N.Refusal) → B.refused m ≡ fetchOf s b k → m ≡ unfitIn s b k p
   unfolding fetchOf unfitIn unfitOf
   unfit-refused m e = go (noRow s b k) refl (rowBad s (rowOf b k)) refl
     where
-      go : (x : Option ℕ) → noRow s b k ≡ x → (y : Option ℕ) → rowBad s (rowOf b k) ≡ y → m ≡ unfitIn s b k p
+      go : (x : Option N.Refusal) → noRow s b k ≡ x → (y : Option N.Refusal) → rowBad s (rowOf b k) ≡ y → m ≡ unfitIn s b k p
       go (some n) q y h = let z : _≡_ {A = Fetching} (B.refused m) (B.refused n) = rw q at e in let i : m ≡ n = cc in rw q i
       go none q (some n) h =
           let z : _≡_ {A = Fetching} (B.refused m) (B.refused n) = rw (q, h) at e in

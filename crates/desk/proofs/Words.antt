@@ -3,8 +3,7 @@ use mathlib.Core.Path.{_≡_, refl, _∙_, subst}
 use mathlib.Core.Bool.{Bool, true, false, cond}
 use mathlib.Core.Option.{none}
 use mathlib.Core.List.{List, [], _∷_}
-use Prim.Native.Nat.{ℕ, _+_, _*_, _%_, _^_, _≤_, _<_}
-use native.Mathlib.Omega.{arith}
+use Prim.Native.Nat.{ℕ, _+_, _*_, _^_, _≤_, _<_}
 use lib.IntN.{ℤ}
 use lib.Ieee.{Float, Format, binary32, binary64, toBits, nanBits}
 use lib.ListN.{length}
@@ -12,15 +11,17 @@ use lib.Seq.{sets}
 use borrow.Author.Tests.{le-leb, lt-leb}
 use Rattle.words.specs.Bits.{digit}
 use Rattle.words.specs.Signed.{halfOf, ofSigned}
+use Rattle.layout.specs.Refusals.{numbered}
 use Rattle.layout.specs.Reading as R
 use Rattle.layout.specs.Reading.{Answer}
 use Rattle.layout.specs.Setting.{refusalIn}
 use Rattle.answers.specs.declared.Refusal.{Refusal}
 use Rattle.answers.specs.declared.Answer.{Answer as Case}
 use Rattle.answers.specs.declared.Answer.the-variants as A
-use Rattle.answers.specs.Meaning.{numberOf, plain, float, meaning, Numbered}
+use Rattle.answers.specs.Meaning.{refusalMeans, plain, float, meaning, Numbered}
+use Rattle.row.specs.Outcomes.{Low, LowIn}
+use Rattle.desk.specs.Codes.{refusalCode}
 use Rattle.desk.specs.Words.{wordsOf, Told, Tells}
-use Rattle.desk.proofs.Codes.{number-small}
 
 -- n words of which fewer are lent, and those of which as many are
 pub put-short : {n : ℕ} {w out : List ℕ} {r : ℕ} → length out < n → r ≡ 4 * 2 ^ 32 + n → Told n none w out r out
@@ -64,8 +65,8 @@ module _ (out out′ : List ℕ) (r : ℕ) where
   tells-float binary64 n p = told (R.float64 n) refl p
 
   -- a case that stands for no float is none of reading's answers
-  only : (f : Format) (n : ℕ) (v : Bool) → Numbered (cond v (float f n) (R.refused 0)) → Told 4 none (kindOf f ∷ n ∷ 0 ∷ 0 ∷ []) out r out′
-      → Tells (cond v (float f n) (R.refused 0)) out r out′
+  only : (f : Format) (n : ℕ) (v : Bool) → Numbered (cond v (float f n) (R.refused (numbered 0))) → Told 4 none (kindOf f ∷ n ∷ 0 ∷ 0 ∷ []) out r out′
+      → Tells (cond v (float f n) (R.refused (numbered 0))) out r out′
   only f n true g p = tells-float f n p
   only f n false g p = absurd (g .known refl)
 
@@ -87,14 +88,17 @@ module _ (out out′ : List ℕ) (r : ℕ) where
   unfolding kindOf
   tells-nan64 x n e g p = rw e (only binary64 n (nanBits binary64 n) (rw e at g) p)
 
-pub tells-refused : (x : Case) (f : Refusal) (n : ℕ) (out : List ℕ) → x ≡ A.Refused f → n ≡ numberOf f
-    → Tells (meaning x) out (n * 4294967296 % 18446744073709551616) out
+pub low-answer : (x : Case) (f : Refusal) → x ≡ A.Refused f → LowIn 16384 (refusalIn (meaning x)) → Low 16384 (refusalMeans f)
 unfolding refusalIn
-tells-refused x f n out e q = rw e (record { answers = omega (arith, number-small f); leaves = refl })
+low-answer x f e h = rw e at h
 
--- an answer of the right meaning has one of its numbers, and tells it
-pub gives-as : (x : Case) (a : Answer) → meaning x ≡ a → Numbered a → Numbered (meaning x)
-gives-as x a e g = rw e g
+pub tells-refused : (x : Case) (f : Refusal) (n : ℕ) (out : List ℕ) → x ≡ A.Refused f → n ≡ refusalCode (refusalMeans f) → Tells (meaning x) out n out
+unfolding refusalIn
+tells-refused x f n out e q = rw e (record { answers = q; leaves = refl })
+
+-- an answer of the right meaning has one of its numbers and a place within the limit, and tells it
+pub gives-as : (x : Case) (a : Answer) → meaning x ≡ a → Numbered a → LowIn 16384 (refusalIn a) → Numbered (meaning x) × LowIn 16384 (refusalIn (meaning x))
+gives-as x a e g l = (rw e g, rw e l)
 
 pub tells-as : (x : Case) (a b : Answer) (out out′ : List ℕ) (r : ℕ) → meaning x ≡ a → a ≡ b → Tells (meaning x) out r out′ → Tells b out r out′
 tells-as x a b out out′ r e q t = subst (λ (z : Answer). Tells z out r out′) (e ∙ q) t

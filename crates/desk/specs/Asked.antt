@@ -6,6 +6,7 @@ use mathlib.Core.List.{List}
 use Prim.Native.Nat.{ℕ, _^_}
 use lib.Dec.{eqb, ltb}
 use Rattle.words.specs.Signed.{halfOf, toSigned}
+use Rattle.layout.specs.Refusals.{Refusal, numbered}
 use Rattle.layout.specs.Setting.{Setting, null, bool, signed, float32, float64, bytes, refusalIn, _or_, Outcome, refuses}
 use Rattle.layout.specs.Entries.{schemaBad, rowLong, layoutBad, readOf, setOf, setVerdict, rowAfter}
 use Rattle.answers.specs.Meaning.{settingOf}
@@ -37,11 +38,11 @@ askedMeans Nothing u = none
 askedMeans (Of x) u = some (settingOf x u)
 
 -- a kind or a value that is none is refused with 8 in its order: after 1, 3, 7, 5 and 6
-abbrev pub orEight : Option ℕ → ℕ
-orEight none = 8
-orEight (some n) = n
+abbrev pub orEight : Option Refusal → Refusal
+orEight none = numbered 8
+orEight (some r) = r
 
-unfoldable pub unfitOf : List ℕ → List ℕ → List ℕ → ℕ
+unfoldable pub unfitOf : List ℕ → List ℕ → List ℕ → Refusal
 unfitOf s row p = orEight (schemaBad s or rowLong row or layoutBad s row or refusalIn (readOf s row p))
 
 abbrev pub setAsked : List ℕ → List ℕ → List ℕ → Option Setting → Outcome

@@ -4,6 +4,7 @@ use mathlib.Core.Path.{_≡_}
 use mathlib.Core.List.{List}
 use Prim.Native.Nat.{ℕ}
 use mathlib.Core.Option.{Option}
+use Rattle.layout.specs.Refusals.{Refusal}
 use Rattle.layout.specs.Setting.{Outcome}
 use Rattle.layout.specs.Entries.{Verdict, Sized}
 use Rattle.row.specs.Unique.{Same}
@@ -18,7 +19,7 @@ pub record Unique : Type 0 where
   -- loaf_write, loaf_list
   pub fills : (z : Sized) (after : List ℕ) (r r′ : ℕ) (b b′ : List ℕ) → Fills z after r b → Fills z after r′ b′ → Same r r′ b b′
   -- loaf_read, loaf_batch_read, loaf_batch_count, loaf_batch_fetch
-  pub told : (n : ℕ) (refusal : Option ℕ) (words out : List ℕ) (r r′ : ℕ) (b b′ : List ℕ) → Told n refusal words out r b → Told n refusal words out r′ b′
+  pub told : (n : ℕ) (refusal : Option Refusal) (words out : List ℕ) (r r′ : ℕ) (b b′ : List ℕ) → Told n refusal words out r b → Told n refusal words out r′ b′
       → Same r r′ b b′
   -- loaf_set, loaf_batch_set
   pub leaves : (o : Outcome) (row : List ℕ) (r r′ : ℕ) (b b′ : List ℕ) → Leaves o row r b → Leaves o row r′ b′ → Same r r′ b b′

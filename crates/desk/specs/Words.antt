@@ -11,7 +11,9 @@ use Rattle.words.specs.Bits.{digit}
 use Rattle.words.specs.Signed.{halfOf, ofSigned}
 use Rattle.layout.specs.Reading as R
 use Rattle.layout.specs.Reading.{Answer}
+use Rattle.layout.specs.Refusals.{Refusal}
 use Rattle.layout.specs.Setting.{refusalIn}
+use Rattle.desk.specs.Codes.{refusalCode}
 
 -- the kind; then the bool, the number's 64 bits or the float's bits; or start, length, and a container's count; unused words are 0
 abbrev pub wordsOf : Answer → List ℕ
@@ -22,7 +24,7 @@ wordsOf (R.float32 n) = 3 ∷ n ∷ 0 ∷ 0 ∷ []
 wordsOf (R.float64 n) = 4 ∷ n ∷ 0 ∷ 0 ∷ []
 wordsOf (R.bytes o n) = 5 ∷ o ∷ n ∷ 0 ∷ []
 wordsOf (R.container o n k) = 6 ∷ o ∷ n ∷ k ∷ []
-wordsOf (R.refused n) = []
+wordsOf (R.refused r) = []
 
 -- fewer than n words are refused last, with 4 and the length n
 abbrev pub roomCode : ℕ → ℕ → ℕ
@@ -31,16 +33,16 @@ roomCode n room = cond (leb n room) 0 (4 * 2 ^ 32 + n)
 abbrev pub put : ℕ → List ℕ → List ℕ → List ℕ
 put n words out = cond (leb n (length out)) (sets out 0 words) out
 
-abbrev pub codeAfter : Option ℕ → ℕ → ℕ → ℕ
+abbrev pub codeAfter : Option Refusal → ℕ → ℕ → ℕ
 codeAfter none n room = roomCode n room
-codeAfter (some m) n room = m * 2 ^ 32
+codeAfter (some r) n room = refusalCode r
 
-abbrev pub leftAfter : Option ℕ → ℕ → List ℕ → List ℕ → List ℕ
+abbrev pub leftAfter : Option Refusal → ℕ → List ℕ → List ℕ → List ℕ
 leftAfter none n words out = put n words out
-leftAfter (some m) n words out = out
+leftAfter (some r) n words out = out
 
 -- an answer that is refused, or told in n words, with the words out lent: its code r, and the words after
-pub record Told (n : ℕ) (refusal : Option ℕ) (words out : List ℕ) (r : ℕ) (out′ : List ℕ) : Type 0 where
+pub record Told (n : ℕ) (refusal : Option Refusal) (words out : List ℕ) (r : ℕ) (out′ : List ℕ) : Type 0 where
   pub answers : r ≡ codeAfter refusal n (length out)
   pub leaves : out′ ≡ leftAfter refusal n words out
 

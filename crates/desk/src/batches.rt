@@ -1,17 +1,19 @@
 // The entries of `batch` under C names. A count, a place and a length may be over 32 bits, so they stand in words lent beside the code.
 ghost use mathlib.Core.Path.{_≡_};
-ghost use Prim.Native.Nat.{_*_, _^_};
 ghost use lib.ListN.{set};
 ghost use Rattle.layout.specs.Entries.{refusedWith};
-ghost use Rattle.answers.specs.Meaning.{numberOf, lengthOf};
+ghost use Rattle.answers.specs.Meaning.{refusalMeans, lengthOf};
 ghost use Rattle.answers.specs.Paths.{pathOf};
+ghost use Rattle.row.specs.Outcomes.{Low};
 ghost use Rattle.batch.specs.Entries.{countOf, fetchOf, checkOf, appendOf, appendedOf, readOf};
 ghost use Rattle.desk.specs.Asked.{askedOf, Leaves};
 ghost use Rattle.desk.specs.Batch.{countRefusal, countWords, fetchRefusal, fetchWords};
 ghost use Rattle.desk.specs.Batch.{checkCode, checkWords, appendCode, appendWords, Beside, AppendsTo, unfitIn, setAskedIn};
+ghost use Rattle.desk.specs.Codes.{refusalCode};
 ghost use Rattle.desk.specs.Words.{Told, Tells};
 use crate::Asked;
 use crate::kinds;
+use crate::refusal_code;
 use crate::told;
 use answers::Length;
 use answers::Path;
@@ -27,12 +29,6 @@ fn put_word(answer: &mut [u64], i: usize, x: u64)
     if i < answer.len() {
         answer[i] = x;
     }
-}
-
-fn refusal_code(r: Refusal) -> u64
-    ensures { λ c. ⌜ c ≡ numberOf r * 2 ^ 32 ⌝ }
-{
-    (answers::refusals::number(r) as u64) << 32
 }
 
 #[no_mangle]
@@ -77,8 +73,9 @@ pub extern "C" fn loaf_batch_check(schema: &[u8], batch: &[u8], answer: &mut [u6
 
 // A refusal's code; with 4 the length needed beside it.
 fn tell_refusal(answer: &mut [u64], r: Refusal) -> u64
+    requires { ⌜ Low 16384 (refusalMeans r) ⌝ }
     ensures { λ c. ⌜ Beside
-        (appendCode (refusedWith (numberOf r) (lengthOf r))) (appendWords (refusedWith (numberOf r) (lengthOf r)))
+        (appendCode (refusedWith (refusalMeans r) (lengthOf r))) (appendWords (refusedWith (refusalMeans r) (lengthOf r)))
         (now (answer .entry)) c (now (answer .exit)) ⌝ }
 {
     if answers::refusals::number(r) != 4 {
@@ -127,7 +124,7 @@ pub extern "C" fn loaf_batch_read(
 
 // A setting that is none is refused with 8, after the refusals of the batch, of the row and of the place.
 fn refuse_in(schema: &[u8], batch: &[u8], k: usize, path: Path) -> u64
-    ensures { λ r. ⌜ r ≡ unfitIn (now (schema .entry)) (now (batch .entry)) k (pathOf path) * 2 ^ 32 ⌝ }
+    ensures { λ r. ⌜ r ≡ refusalCode (unfitIn (now (schema .entry)) (now (batch .entry)) k (pathOf path)) ⌝ }
 {
     match batch::fetch(schema, batch, k) {
         Fetched::Row { start, len } => {

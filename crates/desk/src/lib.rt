@@ -1,17 +1,19 @@
-// The entries under C names. Each answers the refusal's number times 2^32, plus the length; 0 in the upper half is done.
+// The entries under C names. Each answers the refusal's number times 2^32, plus the length, or of a 7 the place; 0 in the upper half is
+// done.
 ghost use mathlib.Core.Path.{_≡_};
 ghost use Rattle.layout.specs.Entries.{judgeOf, checkOf, writeOf, writtenOf, listOf, listedOf, readOf};
-ghost use Rattle.answers.specs.Meaning.{outcomeMeans, lengthMeans};
+ghost use Rattle.answers.specs.Meaning.{refusalMeans, outcomeMeans, lengthMeans};
 ghost use Rattle.answers.specs.Paths.{pathOf};
 ghost use Rattle.desk.specs.Asked.{askedOf, unfitOf, setAsked, Leaves};
-ghost use Rattle.desk.specs.Codes.{verdictCode, sizedCode, Halved, Fills};
+ghost use Rattle.desk.specs.Codes.{refusalCode, verdictCode, sizedCode, Halved, Fills};
+ghost use Rattle.row.specs.Outcomes.{Low, LowVerdict};
 ghost use Rattle.desk.specs.Steps.{Taken};
 ghost use Rattle.desk.specs.Words.{Tells};
-ghost use Prim.Native.Nat.{_*_, _^_};
 ghost use lib.ListN.{length};
 use answers::Length;
 use answers::Outcome;
 use answers::Path;
+use answers::Refusal;
 use answers::Setting;
 
 pub mod batches;
@@ -24,13 +26,23 @@ pub enum Asked {
     Of(Setting),
 }
 
+// A refusal's code: its number in the upper half, the place of a 7 in the lower.
+fn refusal_code(r: Refusal) -> u64
+    requires { ⌜ Low 16384 (refusalMeans r) ⌝ }
+    ensures { λ n. ⌜ n ≡ refusalCode (refusalMeans r) ⌝ }
+{
+    let place = answers::refusals::place(r) as u64;
+    ((answers::refusals::number(r) as u64) << 32) + place
+}
+
 // An outcome's code.
 fn outcome_code(o: Outcome) -> u64
+    requires { ⌜ LowVerdict 16384 (outcomeMeans o) ⌝ }
     ensures { λ r. ⌜ r ≡ verdictCode (outcomeMeans o) ⌝ }
 {
     match o {
         Outcome::Done => 0,
-        Outcome::Refused(r) => (answers::refusals::number(r) as u64) << 32,
+        Outcome::Refused(r) => refusal_code(r),
     }
 }
 
@@ -43,7 +55,7 @@ fn length_code(l: Length) -> u64
         Length::Done(n) => n as u64,
         Length::Refused(r) => {
             let needed = answers::refusals::length(r) as u64;
-            ((answers::refusals::number(r) as u64) << 32) + needed
+            refusal_code(r) + needed
         }
     }
 }
@@ -111,7 +123,7 @@ pub extern "C" fn loaf_read(schema: &[u8], row: &[u8], path: &[u32], answer: &mu
 
 // A setting that is none is refused with 8, after the refusals of the row and of the place.
 fn refuse(schema: &[u8], row: &[u8], path: Path) -> u64
-    ensures { λ r. ⌜ r ≡ unfitOf (now (schema .entry)) (now (row .entry)) (pathOf path) * 2 ^ 32 ⌝ }
+    ensures { λ r. ⌜ r ≡ refusalCode (unfitOf (now (schema .entry)) (now (row .entry)) (pathOf path)) ⌝ }
 {
     let judged = outcome_code(row::check(schema, row));
     if judged != 0 {

@@ -1,11 +1,13 @@
 // An answer in words, where they fit: a number, two, or an answer of reading in four.
 ghost use mathlib.Core.List.{[], _∷_};
 ghost use mathlib.Core.Option.{none};
+ghost use Rattle.layout.specs.Setting.{refusalIn};
 ghost use Rattle.answers.specs.Meaning.{meaning, Numbered};
+ghost use Rattle.row.specs.Outcomes.{LowIn};
 ghost use Rattle.desk.specs.Words.{Told, Tells};
+use crate::refusal_code;
 use answers::Answer;
 use answers::floats;
-use answers::refusals;
 
 pub fn put_one(answer: &mut [u64], a: u64) -> u64
     ensures { λ r. ⌜ Told 1 none (a ∷ []) (now (answer .entry)) r (now (answer .exit)) ⌝ }
@@ -42,7 +44,7 @@ fn put(answer: &mut [u64], kind: u64, a: u64, b: u64, c: u64) -> u64
 }
 
 pub fn put_answer(answer: &mut [u64], x: Answer) -> u64
-    requires { ⌜ Numbered (meaning x) ⌝ }
+    requires { ⌜ Numbered (meaning x) × LowIn 16384 (refusalIn (meaning x)) ⌝ }
     ensures { λ r. ⌜ Tells (meaning x) (now (answer .entry)) r (now (answer .exit)) ⌝ }
 {
     match x {
@@ -57,6 +59,6 @@ pub fn put_answer(answer: &mut [u64], x: Answer) -> u64
         Answer::Container { start, len, count } => {
             put(answer, 6, start as u64, len as u64, count as u64)
         }
-        Answer::Refused(r) => (refusals::number(r) as u64) << 32,
+        Answer::Refused(r) => refusal_code(r),
     }
 }

@@ -9,15 +9,16 @@ use batch::Checked;
 use batch::Counted;
 use batch::Fetched;
 
-// A refusal's number and its length.
+// A refusal's number, and its length or its place: none has both.
 fn tell_refusal(line: &mut [u8], r: Refusal) -> usize {
-    tell_refused(line, refusals::number(r) as u64, refusals::length(r) as u64)
+    let low = refusals::length(r) as u64 | refusals::place(r) as u64;
+    tell_refused(line, refusals::number(r) as u64, low)
 }
 
-fn tell_refused(line: &mut [u8], number: u64, length: u64) -> usize {
+fn tell_refused(line: &mut [u8], number: u64, low: u64) -> usize {
     let end = lines::put_text(line, 0, b"refused");
     let end = lines::put_number(line, end, number);
-    lines::put_number(line, end, length)
+    lines::put_number(line, end, low)
 }
 
 // A code whose upper half is a refusal's number, 0 for done.

@@ -14,7 +14,8 @@ use Rattle.words.proofs.Runs.{bytes-sets}
 use Rattle.words.proofs.BitLaws.{bytes-put}
 use Rattle.schema.specs.Types.{Fixed, Ty, fix, text, li, ma, ro, Tys}
 use Rattle.layout.specs.Cells.{Cell, bytes}
-use Rattle.layout.specs.Layout.{Lays}
+use Rattle.layout.specs.Layout.{codec, Lays, faultAt}
+use Rattle.layout.specs.Refusals.{Refusal}
 use Rattle.layout.specs.Walk.{Seat, Seen, bad, nullAt, seen, rootSeat, walk}
 use Rattle.layout.specs.Places.{starts}
 use Rattle.layout.specs.Reading.{Answer, typeAt, placed, answerOf, found, readIn}
@@ -25,6 +26,7 @@ use Rattle.layout.proofs.Containers.{decode-lays, lays-decode}
 use Rattle.layout.proofs.Cells.{leaf-bytes}
 use Rattle.layout.proofs.Seen.{Like}
 use Rattle.layout.proofs.Updated.{in-fits}
+use Rattle.layout.proofs.Faults.{no-fault}
 use Rattle.layout.proofs.Stepped.{Leafy}
 use Rattle.layout.proofs.Walked.{walk-finds}
 use Rattle.layout.proofs.Tree.{update}
@@ -33,15 +35,15 @@ use Rattle.layout.proofs.Judged.{fine-leaf, Granted, granted-by, slotAt
 
 -- ---- outcomes
 
-pub outcome-done : (c : Cell) (r : Option ℕ) (row row′ : List ℕ) → outcome (some c) r row ≡ becomes row′ → (r ≡ none) × (row ≡ row′)
+pub outcome-done : (r : Option Refusal) (row row′ : List ℕ) → outcome none r row ≡ becomes row′ → (r ≡ none) × (row ≡ row′)
 unfolding outcome
-outcome-done c none row row′ e = (refl, cc)
-outcome-done c (some n) row row′ e = let z : _≡_ {A = ℕ} 0 1 = cc in absurd (omega arith)
+outcome-done none row row′ e = (refl, cc)
+outcome-done (some n) row row′ e = let z : _≡_ {A = ℕ} 0 1 = cc in absurd (omega arith)
 
-pub outcome-refused : (c : Cell) (r : Option ℕ) (row : List ℕ) (n : ℕ) → outcome (some c) r row ≡ refuses n → r ≡ some n
+pub outcome-refused : (r : Option Refusal) (row : List ℕ) (n : Refusal) → outcome none r row ≡ refuses n → r ≡ some n
 unfolding outcome
-outcome-refused c none row n e = let z : _≡_ {A = ℕ} 0 1 = cc in absurd (omega arith)
-outcome-refused c (some m) row n e = cc
+outcome-refused none row n e = let z : _≡_ {A = ℕ} 0 1 = cc in absurd (omega arith)
+outcome-refused (some m) row n e = cc
 
 -- ---- what an accepted judgement says
 
@@ -53,7 +55,8 @@ pub record Judged (t : Ty) (a : Answer) (x : Setting) : Type 0 where
 some-none : {A : Type 0} {a : A} → some a ≡ none → ⊥
 some-none e = Option·none-ne-some _ (sym e)
 
-judged-by : (t : Ty) (a : Answer) (x : Setting) (r : Option ℕ) (s k : Bool) → refusalIn a ≡ r → suits t x ≡ s → keeps t a x ≡ k → r or unless s 8 or unless k 9 ≡ none → Judged t a x
+judged-by : (t : Ty) (a : Answer) (x : Setting) (r : Option Refusal) (s k : Bool) → refusalIn a ≡ r → suits t x ≡ s → keeps t a x ≡ k
+    → r or unless s 8 or unless k 9 ≡ none → Judged t a x
 judged-by t a x none true true h g f e = record { present = h; suits = g; keeps = f }
 judged-by t a x none true false h g f e = absurd (some-none e)
 judged-by t a x none false k h g f e = absurd (some-none e)
@@ -143,6 +146,10 @@ module _ (ts : Tys) (row : List ℕ) (a : Accepted ts row) where
   pub row-lays : Lays (ro ts) (a .tree) row
   row-lays = lays-decode (ro ts) row (a .tree) (a .bytes) (a .reads)
 
+  -- it has no fault
+  pub row-sound : faultAt (ro ts) row ≡ none
+  row-sound = no-fault (codec (ro ts) .get row) (a .reads)
+
   pub row-short : length row < 2 ^ 32
   row-short = omega (arith, a .size)
 
@@ -156,15 +163,15 @@ module _ (ts : Tys) (row : List ℕ) (a : Accepted ts row) where
   read-at p T e = rw e
 
   -- refused as judged
-  pub turned-down : (p : List ℕ) (x : Setting) (n : ℕ) → judgeAt (placed p (ro ts)) (readIn ts row p) x ≡ some n → setIn ts row p x ≡ refuses n
+  pub turned-down : (p : List ℕ) (x : Setting) (n : Refusal) → judgeAt (placed p (ro ts)) (readIn ts row p) x ≡ some n → setIn ts row p x ≡ refuses n
   unfolding setIn outcome
-  turned-down p x n j = rw (a .reads, j)
+  turned-down p x n j = rw (row-sound, j)
 
   -- done, with the row of the tree with that leaf set
   pub allowed : (p : List ℕ) (x : Setting) (T : Ty) → placed p (ro ts) ≡ some T → judgeAt (some T) (answerOf T (walk p (ro ts) rootSeat 0 row)) x ≡ none
       → setIn ts row p x ≡ becomes (write T x (walk p (ro ts) rootSeat 0 row) row)
   unfolding setIn outcome writeAt
-  allowed p x T e j = rw (a .reads, read-at p T e, e, j)
+  allowed p x T e j = rw (row-sound, read-at p T e, e, j)
 
   pub written : (p : List ℕ) (x : Setting) (T : Ty) → Proper x → placed p (ro ts) ≡ some T → Judged T (answerOf T (walk p (ro ts) rootSeat 0 row)) x
       → Made ts p x T (a .tree) row (write T x (walk p (ro ts) rootSeat 0 row) row)
@@ -176,7 +183,7 @@ module _ (ts : Tys) (row : List ℕ) (a : Accepted ts row) where
   pub done : (p : List ℕ) (x : Setting) (row′ : List ℕ) → Proper x → setIn ts row p x ≡ becomes row′ → Done ts p x (a .tree) row row′
   unfolding setIn readIn
   done p x row′ b e =
-      let o = outcome-done (a .tree) _ _ row′ (rw (a .reads) at e) in
+      let o = outcome-done _ _ row′ (rw row-sound at e) in
       let f = found-by (placed p (ro ts)) (walk p (ro ts) rootSeat 0 row) x (o .0) in
       let s : write (f .type) x (walk p (ro ts) rootSeat 0 row) row ≡ row′ = written-by (placed p (ro ts)) (f .type) x (walk p (ro ts) rootSeat 0 row) row (f .place) ∙ o .1 in
       record {

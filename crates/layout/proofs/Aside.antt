@@ -12,6 +12,7 @@ use Rattle.words.specs.Bytes.{num, bitmap, part}
 use Rattle.schema.specs.Types.{Ty}
 use Rattle.layout.specs.Layout.{front, codec}
 use Rattle.layout.specs.Walk.{Seat, Step, mustStep, byFlag, bySlot, seatOf, child, stepIn}
+use Rattle.layout.specs.Refusals.{Refusal, numbered}
 
 -- a slot of w bytes holds what is o wide
 abbrev pub Holds : ℕ → Option ℕ → Type 0
@@ -22,7 +23,7 @@ Holds w (some v) = v ≤ w
 abbrev pub Aside : Ty → ℕ → List ℕ → List ℕ → Type 0
 Aside T i b b′ = (j : ℕ) → j ≢ i → (z : Seat) (o : ℕ) → stepIn T j z o b′ ≡ stepIn T j z o b
 
-must-same : {P : Type 0} (d : Dec P) (n : ℕ) (r r′ : Step) → (P → r ≡ r′) → mustStep d n r ≡ mustStep d n r′
+must-same : {P : Type 0} (d : Dec P) (n : Refusal) (r r′ : Step) → (P → r ≡ r′) → mustStep d n r ≡ mustStep d n r′
 unfolding mustStep
 must-same (yes p) n r r′ e = e p
 must-same (no q) n r r′ e = refl
@@ -59,7 +60,7 @@ module _ (h w n : ℕ) (t : Ty) (j : ℕ) (b b′ : List ℕ) where
   pub child-same : (o : ℕ) → Holds w (codec t .wide) → (j < n → Agree) → child h w n t j o b′ ≡ child h w n t j o b
   unfolding child
   child-same o hw a =
-      must-same (decLt j n) 5 _ _ λ k.
+      must-same (decLt j n) (numbered 5) _ _ λ k.
       let e = a k in
       ap (λ (f : ℕ). byFlag f (seatOf h w n j o) (bySlot (codec t .wide) t (seatOf h w n j o) (front h w n) o p b′)) (e .bit)
       ∙ flag-same _ (seatOf h w n j o) _ _ (λ z. slot-same e (seatOf h w n j o) (front h w n) o hw z (codec t .wide) refl)

@@ -1,19 +1,23 @@
 -- The definitions of the layout at the cases of document 01, and at more, computed: one statement. Assumes nothing.
 use mathlib.Core.Path.{_≡_, refl}
+use mathlib.Core.Bool.{true}
 use mathlib.Core.Option.{none, some}
 use mathlib.Core.List.{List, [], _∷_, _++_}
-use Prim.Native.Nat.{ℕ, _+_}
+use Prim.Native.Nat.{ℕ, _+_, _*_, _^_}
 use native.Mathlib.Decide.{decLe, decLt, ℕ-discrete}
 use lib.IntN.{pos, negsuc}
 use lib.ListN.{length, replicate, set, take}
-use Rattle.words.specs.Bytes.{le, num, fill, zeros, part}
+use Rattle.words.specs.Bytes.{le, num, fill, zeros, part, zerosAhead, highBits, pastByte}
 use Rattle.schema.specs.Marks.{types, markAt}
 use Rattle.schema.specs.Types.{bo, i1, i4, i8, f8, st, fix, text, li, ma, ro, Tys, end, _then_, count, field, fixedPlace, textPlace, place, width, mark}
 use Rattle.layout.specs.Reader.{assert, cut}
+use Rattle.layout.specs.Faults.{assertAt, cutAt, seenFrom, within, yielded, inRow, faultIn}
 use Rattle.layout.specs.Tiles.{total, both?, either?, change?, aparts?, stands?}
 use Rattle.layout.specs.Cells.{Cell, null, leaf, node, fromCells, toCells, onNull, bytes, parts, clean}
-use Rattle.layout.specs.Layout.{number, string, inside, outside, kidOf, slotOf, kidGet, flags, slots, tails, reads, front, bodyPut, bodyGet, struct, array, pair, limit, codec, content, decode}
+use Rattle.layout.specs.Layout.{number, string, inside, outside, kidOf, slotOf, kidGet, flags, slots, tails, reads, front, bodyPut, bodyGet, struct}
+use Rattle.layout.specs.Layout.{array, pair, limit, codec, content, decode, faultAt}
 use Rattle.layout.specs.Listing.{numberScript, textScript, marked, nullOr, item, runPut, runGet, structScript, listScript, mapScript, script, listing, parse}
+use Rattle.layout.specs.Refusals.{numbered, brokenAt}
 use Rattle.layout.specs.Walk.{must, mustStep, own, bySlot, byFlag, child, stepIn, goOn, walk}
 use Rattle.layout.specs.Reading as R
 use Rattle.layout.specs.Reading.{typeAt, placed, valueOf, answerOf, found, readIn}
@@ -22,7 +26,8 @@ use Rattle.layout.specs.Setting.{boolBytes, signedBytes, float32Bytes, f
 
 -- to unfold this is to unfold the definitions
 computes : Unit {0}
-unfolding le num fill types markAt fixedPlace textPlace place width mark count field assert cut total both? either? change? aparts? stands? fromCells toCells onNull bytes parts clean
+unfolding le num fill types markAt fixedPlace textPlace place width mark count field assert cut assertAt cutAt seenFrom within yielded inRow faultIn
+    zerosAhead highBits pastByte total both? either? change? aparts? stands? fromCells toCells onNull bytes parts clean
     number string inside outside kidOf slotOf kidGet flags slots tails reads bodyPut bodyGet struct array pair limit codec
     numberScript textScript marked nullOr item runPut runGet structScript listScript mapScript script listing parse
     must mustStep own bySlot byFlag child stepIn goOn walk typeAt placed valueOf answerOf found readIn
@@ -45,6 +50,9 @@ maps = ma (fix i8) (fix i8) then end
 
 abbrev inner : Tys
 inner = ro (fix i8 then fix f8 then end) then end
+
+abbrev strokes : Tys
+strokes = ro (fix bo then end) then ro (fix bo then end) then end
 
 abbrev texts : Tys
 texts = text st then text st then end
@@ -93,12 +101,23 @@ C = zeros 8 ++ (3 ∷ 0 ∷ 0 ∷ 0 ∷ 0x10 ∷ 0 ∷ 0 ∷ 0 ∷ []) ++ (0x53 
 abbrev D : List ℕ
 D = zeros 8 ++ (0 ∷ 0 ∷ 0 ∷ 0 ∷ 0x10 ∷ 0 ∷ 0 ∷ 0 ∷ [])
 
+abbrev E : List ℕ
+E = content (ro lists) ten
+
 abbrev F : List ℕ
 F = content (ro maps) three
 
 -- "STK" and "PWR"
 abbrev both : List ℕ
 both = zeros 8 ++ (3 ∷ 0 ∷ 0 ∷ 0 ∷ 24 ∷ 0 ∷ 0 ∷ 0 ∷ []) ++ (3 ∷ 0 ∷ 0 ∷ 0 ∷ 32 ∷ 0 ∷ 0 ∷ 0 ∷ []) ++ (STK ++ zeros 5) ++ (PWR ++ zeros 5)
+
+-- two slots at one struct of a bool
+abbrev stroke : ℕ → List ℕ
+stroke v = zeros 8 ++ le 8 (24 * 2 ^ 32 + 16) ++ le 8 (24 * 2 ^ 32 + 16) ++ zeros 8 ++ (v ∷ zeros 7)
+
+-- a nested struct whose size is no multiple of 8, with padding that is not zero
+abbrev odd : List ℕ
+odd = zeros 8 ++ le 8 (16 * 2 ^ 32 + 25) ++ zeros 31 ++ (1 ∷ [])
 
 -- a row of two strings, with their slots and variable data
 abbrev row : ℕ → ℕ → ℕ → ℕ → List ℕ → List ℕ
@@ -125,23 +144,27 @@ pub record Cases : Type 0 where
   d : (content (ro one) (node (leaf [] ∷ [])) ≡ D) × (decode (ro one) D ≡ some (node (leaf [] ∷ []))) × (readIn one D (0 ∷ []) ≡ R.bytes 16 0)
   e : (length (content (ro lists) ten) ≡ 48) × (slot0 (content (ro lists) ten) ≡ 32 ∷ 0 ∷ 0 ∷ 0 ∷ 16 ∷ 0 ∷ 0 ∷ 0 ∷ []) × (decode (ro lists) (content (ro lists) ten) ≡ some ten)
   e-reads : (readIn lists (content (ro lists) ten) (0 ∷ []) ≡ R.container 16 32 10) × (readIn lists (content (ro lists) ten) (0 ∷ 9 ∷ []) ≡ R.signed (pos 7))
-      × (readIn lists (content (ro lists) ten) (0 ∷ 10 ∷ []) ≡ R.refused 5)
+      × (readIn lists (content (ro lists) ten) (0 ∷ 10 ∷ []) ≡ R.refused (numbered 5))
   f : (length F ≡ 104) × (slot0 F ≡ 88 ∷ 0 ∷ 0 ∷ 0 ∷ 16 ∷ 0 ∷ 0 ∷ 0 ∷ []) × (part F 16 8 ≡ 40 ∷ zeros 7) × (decode (ro maps) F ≡ some three)
   f-reads : (readIn maps F (0 ∷ []) ≡ R.container 16 88 2) × (readIn maps F (0 ∷ 0 ∷ []) ≡ R.container 24 40 3) × (readIn maps F (0 ∷ 1 ∷ []) ≡ R.container 64 40 3)
-      × (readIn maps F (0 ∷ 1 ∷ 2 ∷ []) ≡ R.signed (pos 9)) × (readIn maps F (0 ∷ 1 ∷ 1 ∷ []) ≡ R.null) × (readIn maps F (0 ∷ 1 ∷ 3 ∷ []) ≡ R.refused 5)
+      × (readIn maps F (0 ∷ 1 ∷ 2 ∷ []) ≡ R.signed (pos 9)) × (readIn maps F (0 ∷ 1 ∷ 1 ∷ []) ≡ R.null)
+      × (readIn maps F (0 ∷ 1 ∷ 3 ∷ []) ≡ R.refused (numbered 5))
   g : length (content (ro inner) (node (node (nine ∷ nine ∷ []) ∷ []))) ≡ 40
-  h : (content (ro texts) (node (leaf STK ∷ leaf PWR ∷ [])) ≡ both) × (decode (ro texts) (set both 20 24) ≡ none)
-  i : (decode (ro one) (set C 8 8) ≡ some (node (leaf (STK ++ zeros 5) ∷ []))) × (decode (ro one) (set C 8 9) ≡ none)
-  j : readIn one J (0 ∷ []) ≡ R.refused 7
+  h : (content (ro texts) (node (leaf STK ∷ leaf PWR ∷ [])) ≡ both) × (faultAt (ro texts) (set both 20 24) ≡ some 16)
+  i : (decode (ro one) (set C 8 8) ≡ some (node (leaf (STK ++ zeros 5) ∷ []))) × (faultAt (ro one) (set C 8 9) ≡ some 8)
+  j : readIn one J (0 ∷ []) ≡ R.refused (brokenAt 8)
   k : (front 0 8 64 ≡ 520) × (front 0 8 65 ≡ 536)
   l : setIn two A (0 ∷ []) S.null ≡ becomes ((1 ∷ zeros 15) ++ (1 ∷ zeros 7))
-  m : (setIn one C (0 ∷ []) (S.bytes TPH) ≡ becomes (take 16 C ++ (TPH ++ zeros 5))) × (setIn one C (0 ∷ []) (S.bytes (take 2 TPH)) ≡ refuses 9) × (setIn one C (0 ∷ []) S.null ≡ refuses 9)
+  m : (setIn one C (0 ∷ []) (S.bytes TPH) ≡ becomes (take 16 C ++ (TPH ++ zeros 5))) × (setIn one C (0 ∷ []) (S.bytes (take 2 TPH)) ≡ refuses (numbered 9))
+      × (setIn one C (0 ∷ []) S.null ≡ refuses (numbered 9))
   n : (length (content (ro lists) (node (node [] ∷ []))) ≡ 24) × (decode (ro lists) (content (ro lists) (node (node [] ∷ []))) ≡ some (node (node [] ∷ [])))
-  n-reads : (readIn lists (content (ro lists) (node (node [] ∷ []))) (0 ∷ []) ≡ R.container 16 8 0) × (readIn lists (content (ro lists) (node (node [] ∷ []))) (0 ∷ 0 ∷ []) ≡ R.refused 5)
+  n-reads : (readIn lists (content (ro lists) (node (node [] ∷ []))) (0 ∷ []) ≡ R.container 16 8 0)
+      × (readIn lists (content (ro lists) (node (node [] ∷ []))) (0 ∷ 0 ∷ []) ≡ R.refused (numbered 5))
   -- a bool is 0 or 1
-  bool : (decode (ro (fix bo then end)) (zeros 8 ++ (2 ∷ zeros 7)) ≡ none) × (readIn (fix bo then end) (zeros 8 ++ (2 ∷ zeros 7)) (0 ∷ []) ≡ R.refused 7)
+  bool : (faultAt (ro (fix bo then end)) (zeros 8 ++ (2 ∷ zeros 7)) ≡ some 8)
+      × (readIn (fix bo then end) (zeros 8 ++ (2 ∷ zeros 7)) (0 ∷ []) ≡ R.refused (brokenAt 8))
   -- bits past n are zero
-  past : decode (ro two) (set A 0 4) ≡ none
+  past : faultAt (ro two) (set A 0 4) ≡ some 0
   -- values in another order than their fields': accepted, read and set where they stand
   turns : (decode (ro texts) turned ≡ some (node (leaf STK ∷ leaf PWR ∷ []))) × (readIn texts turned (0 ∷ []) ≡ R.bytes 32 3)
       × (setIn texts turned (0 ∷ []) (S.bytes TPH) ≡ becomes (row 32 3 24 3 ((PWR ++ zeros 5) ++ (TPH ++ zeros 5))))
@@ -151,13 +174,33 @@ pub record Cases : Type 0 where
   empties : (decode (ro texts) (row 24 0 24 3 (STK ++ zeros 5)) ≡ some (node (leaf [] ∷ leaf STK ∷ []))) × (decode (ro texts) (row 32 0 24 3 (STK ++ zeros 5)) ≡ some (node (leaf [] ∷ leaf STK ∷ [])))
       × (decode (ro texts) (row 32 0 24 16 (zeros 16)) ≡ none) × (decode (ro texts) (row 24 16 32 0 (zeros 16)) ≡ none) × (decode (ro texts) (row 40 0 24 3 (STK ++ zeros 5)) ≡ none)
   -- 5 by the schema alone comes before 7, and a path of 17 steps is 5
-  order : (readIn two [] (2 ∷ []) ≡ R.refused 5) × (readIn two [] (0 ∷ []) ≡ R.refused 7) × (readIn two [] (replicate 17 0) ≡ R.refused 5) × (readIn one C (0 ∷ 0 ∷ []) ≡ R.refused 5)
+  order : (readIn two [] (2 ∷ []) ≡ R.refused (numbered 5)) × (readIn two [] (0 ∷ []) ≡ R.refused (brokenAt 0))
+      × (readIn two [] (replicate 17 0) ≡ R.refused (numbered 5)) × (readIn one C (0 ∷ 0 ∷ []) ≡ R.refused (numbered 5))
   -- a null before the path's end is 6
-  under : readIn inner (set (content (ro inner) (node (null (zeros 8) ∷ []))) 8 1) (0 ∷ 1 ∷ []) ≡ R.refused 6
+  under : readIn inner (set (content (ro inner) (node (null (zeros 8) ∷ []))) 8 1) (0 ∷ 1 ∷ []) ≡ R.refused (numbered 6)
   -- set: 7 before 5; 5 before 8; 8 before 9, also at a null string; a container is 8; what fits another type is 8
-  judged : (setIn one J (1 ∷ []) S.null ≡ refuses 7) × (setIn one C (1 ∷ []) S.null ≡ refuses 5) × (setIn one C (0 ∷ []) (S.signed (pos 1)) ≡ refuses 8)
-      × (setIn one C [] S.null ≡ refuses 8) × (setIn two A (0 ∷ []) (S.float32 0) ≡ refuses 8) × (setIn two B (1 ∷ []) (S.signed (pos 1)) ≡ becomes A)
-      × (setIn two A (0 ∷ []) (S.signed (negsuc 1)) ≡ becomes A) × (setIn one (1 ∷ zeros 15) (0 ∷ []) (S.signed (pos 1)) ≡ refuses 8) × (setIn one (1 ∷ zeros 15) (0 ∷ []) (S.bytes []) ≡ refuses 9)
+  judged : (setIn one J (1 ∷ []) S.null ≡ refuses (brokenAt 8)) × (setIn one C (1 ∷ []) S.null ≡ refuses (numbered 5))
+      × (setIn one C (0 ∷ []) (S.signed (pos 1)) ≡ refuses (numbered 8))
+      × (setIn one C [] S.null ≡ refuses (numbered 8)) × (setIn two A (0 ∷ []) (S.float32 0) ≡ refuses (numbered 8))
+      × (setIn two B (1 ∷ []) (S.signed (pos 1)) ≡ becomes A)
+      × (setIn two A (0 ∷ []) (S.signed (negsuc 1)) ≡ becomes A) × (setIn one (1 ∷ zeros 15) (0 ∷ []) (S.signed (pos 1)) ≡ refuses (numbered 8))
+      × (setIn one (1 ∷ zeros 15) (0 ∷ []) (S.bytes []) ≡ refuses (numbered 9))
+  -- where it is broken: a size that is no multiple of 8, or too small, or too large; a bit past n; the rest of a slot; padding
+  places : (faultAt (ro two) (A ++ (0 ∷ [])) ≡ some 0) × (faultAt (ro two) (take 16 A) ≡ some 0) × (faultAt (ro one) (C ++ zeros 8) ≡ some 0)
+      × (faultAt (ro two) (set A 5 1) ≡ some 5) × (faultAt (ro two) (set A 13 1) ≡ some 13) × (faultAt (ro one) (set C 21 1) ≡ some 21)
+  -- in a list: its size, its count, the zeros behind its elements
+  places-list : (faultAt (ro lists) (set E 8 31) ≡ some 8) × (faultAt (ro lists) (set E 8 0) ≡ some 8) × (faultAt (ro lists) (set E 16 200) ≡ some 16)
+      × (faultAt (ro lists) (set E 43 1) ≡ some 43) × (faultAt (ro lists) (set (E ++ zeros 8) 8 40) ≡ some 8)
+  -- in a map: K no multiple of 8, past the size, too small for the keys' header; the keys' count; unequal counts, before the values' bitmap
+  places-map : (faultAt (ro maps) (set F 16 41) ≡ some 16) × (faultAt (ro maps) (set F 16 88) ≡ some 16) × (faultAt (ro maps) (set F 16 0) ≡ some 24)
+      × (faultAt (ro maps) (set F 24 200) ≡ some 24) × (faultAt (ro maps) (set (set F 64 2) 72 128) ≡ some 64) × (faultAt (ro maps) (set F 73 128) ≡ some 73)
+  -- all of a child comes before the next one's slot, and a child's contents before its padding
+  places-order : (faultAt (ro strokes) (stroke 2) ≡ some 32) × (faultAt (ro strokes) (stroke 1) ≡ some 16) × (faultAt (ro inner) odd ≡ some 8)
+  -- a read gives the first fault on its path, and no other
+  places-read : (readIn maps (set F 16 41) (0 ∷ []) ≡ R.refused (brokenAt 16)) × (readIn maps (set F 16 0) (0 ∷ 0 ∷ []) ≡ R.refused (brokenAt 24))
+      × (readIn maps (set F 64 200) (0 ∷ 1 ∷ []) ≡ R.refused (brokenAt 64)) × (readIn maps (set F 64 200) (0 ∷ 0 ∷ []) ≡ R.container 24 40 3)
+      × (readIn maps (set F 8 0) (0 ∷ []) ≡ R.refused (brokenAt 8)) × (readIn strokes (stroke 1) (1 ∷ 0 ∷ []) ≡ R.bool true)
+      × (readIn strokes (stroke 2) (1 ∷ 0 ∷ []) ≡ R.refused (brokenAt 32)) × (readIn inner odd (0 ∷ []) ≡ R.container 16 25 2)
   lists-a : parse (ro two) (listing (ro two) ofA) ≡ some ofA
   lists-b : (listing (ro two) ofB ≡ 0x72 ∷ 0x6f ∷ 0x69 ∷ 0x34 ∷ 0xfe ∷ 0xff ∷ 0xff ∷ 0xff ∷ 0x6e ∷ 0x75 ∷ []) × (parse (ro two) (listing (ro two) ofB) ≡ some ofB)
   lists-c : (listing (ro one) (node (leaf STK ∷ [])) ≡ 0x72 ∷ 0x6f ∷ 0x73 ∷ 0x74 ∷ 3 ∷ 0 ∷ 0 ∷ 0 ∷ STK) × (parse (ro one) (listing (ro one) (node (leaf STK ∷ []))) ≡ some (node (leaf STK ∷ [])))
@@ -197,6 +240,11 @@ cases = record {
   order = (refl, refl, refl, refl);
   under = refl;
   judged = (refl, refl, refl, refl, refl, refl, refl, refl, refl);
+  places = (refl, refl, refl, refl, refl, refl);
+  places-list = (refl, refl, refl, refl, refl);
+  places-map = (refl, refl, refl, refl, refl, refl);
+  places-order = (refl, refl, refl);
+  places-read = (refl, refl, refl, refl, refl, refl, refl, refl);
   lists-a = refl;
   lists-b = (refl, refl);
   lists-c = (refl, refl);

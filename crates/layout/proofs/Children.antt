@@ -1,6 +1,5 @@
 -- The laws of the children of a container, proved once for struct and list, whatever the children are. Assumes nothing.
-use mathlib.Core.Path.{_≡_, refl, sym, ap, _∙_}
-use mathlib.Core.Option.{Option, none, some}
+use mathlib.Core.Path.{_≡_, refl, ap, _∙_}
 use mathlib.Core.List.{List, [], _∷_, _++_, append-assoc, append-nil, map}
 use Prim.Native.Nat.{ℕ, zero, suc, _+_, _*_, _-_, _/_, _%_, _^_, _≤_, _<_}
 use native.Mathlib.Omega.{arith}
@@ -9,13 +8,14 @@ use lib.Pow.{pow-mono, pow-add}
 use lib.ListN.{length, length-append, length-replicate}
 use Rattle.words.specs.Bytes.{Bytes, empty, bitmap}
 use Rattle.words.proofs.Numbers.{bytes-append, bytes-zeros}
-use Rattle.layout.specs.Reader.{cut}
+use Rattle.layout.specs.Faults.{byte, got, cutAt}
 use Rattle.layout.specs.Tiles.{Range, total}
 use Rattle.layout.specs.Cells.{Cell, null, leaf, nodes, onNull, flag, clean}
-use Rattle.layout.specs.Layout.{Kid, NullFits, NullLays, kidFits, kidSlot, kidTail, kidLays, kidGet, AllFit, flags, slots, tails, First, AllLay, reads}
+use Rattle.layout.specs.Layout.{Kid, kidFits, kidSlot, kidTail, kidLays, kidGet, AllFit, flags, slots, tails, AllLay, reads}
 use Rattle.layout.proofs.Cells.{present, flag-bit}
-use Rattle.layout.proofs.Reader.{When, yields, when-bind, when-map, cut-back, cut-forth, length-zero}
+use Rattle.layout.proofs.Reader.{length-zero}
 use Rattle.layout.proofs.Tiles.{Packed}
+use Rattle.layout.proofs.Faults.{When, yields, when-bind, when-map, when-any, cut-back, cut-forth}
 use Rattle.layout.proofs.Kids.{LawfulKid, Cleaned, Kept, Adds, same, Next, Takes}
 
 -- ---- a child that may be null
@@ -83,20 +83,20 @@ module _ (w : ℕ) (k : Kid) (l : LawfulKid w k) where
   kid-keep at d e rs (leaf u) s rs′ n g y = l .keep at d e rs (leaf u) s rs′ n g y
   kid-keep at d e rs (nodes u) s rs′ n g y = l .keep at d e rs (nodes u) s rs′ n g y
 
-  kid-back : (at : ℕ) (d : List ℕ) (rs : List Range) (c : Cell) (s : List ℕ) (rs′ : List Range) → kidLays w k at d rs c s rs′ → at + length d < 2 ^ 32
-      → kidGet k (flag c) at d rs s ≡ some (c, rs′)
+  kid-back : (j at : ℕ) (d : List ℕ) (rs : List Range) (c : Cell) (s : List ℕ) (rs′ : List Range) → kidLays w k at d rs c s rs′ → at + length d < 2 ^ 32
+      → kidGet k (flag c) j at d rs s ≡ got (c, rs′)
   unfolding onNull kidGet
-  kid-back at d rs (null u) s rs′ y b = rw (y .is, y .same)
-  kid-back at d rs (leaf u) s rs′ y b = l .back at d rs (leaf u) s rs′ y b
-  kid-back at d rs (nodes u) s rs′ y b = l .back at d rs (nodes u) s rs′ y b
+  kid-back j at d rs (null u) s rs′ y b = rw (y .is, y .same)
+  kid-back j at d rs (leaf u) s rs′ y b = l .back j at d rs (leaf u) s rs′ y b
+  kid-back j at d rs (nodes u) s rs′ y b = l .back j at d rs (nodes u) s rs′ y b
 
-  kid-forth : (m at : ℕ) (d : List ℕ) (rs : List Range) (s : List ℕ) → m < 2 → length s ≡ w → Bytes s → Bytes d
-      → When (λ p. (flag (p .0) ≡ m) × kidLays w k at d rs (p .0) s (p .1)) (kidGet k m at d rs s)
+  kid-forth : (m j at : ℕ) (d : List ℕ) (rs : List Range) (s : List ℕ) → m < 2 → length s ≡ w → Bytes s → Bytes d
+      → When (λ p. (flag (p .0) ≡ m) × kidLays w k at d rs (p .0) s (p .1)) (kidGet k m j at d rs s)
   unfolding kidGet onNull
-  kid-forth zero at d rs s h n hs hd = when-map (l .forth at d rs s n hs hd) λ (c, rs′) y.
+  kid-forth zero j at d rs s h n hs hd = when-map (l .forth j at d rs s n hs hd) λ (c, rs′) y.
       let e = l .here c (l .fits at d rs c s rs′ y) in
       (e, rw (present _ _ c e) y)
-  kid-forth (suc m) at d rs s h n hs hd = yields {a = (null s, rs)} (omega arith, record { fits = record { wide = n; proper = hs }; is = refl; same = refl })
+  kid-forth (suc m) j at d rs s h n hs hd = yields {a = (null s, rs)} (omega arith, record { fits = record { wide = n; proper = hs }; is = refl; same = refl })
 
 -- ---- children in order
 
@@ -131,32 +131,42 @@ module _ (w at : ℕ) (d : List ℕ) where
         adds = rw length-append (omega (arith, a .adds, b .adds));
       }
 
-  pub reads-back : (ks : List Kid) (cs : List Cell) (s : List ℕ) (rs rs′ : List Range) → AllLawful w ks → AllLay w at d ks cs s rs rs′ → at + length d < 2 ^ 32
-      → reads w at d ks (flags cs) s rs ≡ some (cs, rs′)
+  pub reads-back : (ks : List Kid) (j : ℕ) (cs : List Cell) (s : List ℕ) (rs rs′ : List Range) → AllLawful w ks → AllLay w at d ks cs s rs rs′
+      → at + length d < 2 ^ 32
+      → reads w at d ks j (flags cs) s rs ≡ got (cs, rs′)
   unfolding AllLay flags reads
-  reads-back [] [] s rs rs′ l y b = rw (y .1)
-  reads-back (k ∷ ks) (c ∷ cs) s rs rs′ l y b =
+  reads-back [] j [] s rs rs′ l y b = rw (y .1)
+  reads-back (k ∷ ks) j (c ∷ cs) s rs rs′ l y b =
       let low : (flag c + 2 * flags cs) % 2 ≡ flag c = omega (arith, flag-bit c) in
       let high : (flag c + 2 * flags cs) / 2 ≡ flags cs = omega (arith, flag-bit c) in
       rw (
         ← (y .whole),
-        cut-back w (y .slot) (y .left) (kid-size w k (l .0) at d rs c (y .slot) (y .ranges) (y .one) .slot),
+        cut-back (byte j) w (y .slot) (y .left) (kid-size w k (l .0) at d rs c (y .slot) (y .ranges) (y .one) .slot),
         low,
         high,
-        kid-back w k (l .0) at d rs c (y .slot) (y .ranges) (y .one) b,
-        reads-back ks cs (y .left) (y .ranges) rs′ (l .1) (y .others) b,
+        kid-back w k (l .0) j at d rs c (y .slot) (y .ranges) (y .one) b,
+        reads-back ks (j + w) cs (y .left) (y .ranges) rs′ (l .1) (y .others) b,
       )
 
-  pub reads-forth : (ks : List Kid) (m : ℕ) (s : List ℕ) (rs : List Range) → AllLawful w ks → m < 2 ^ length ks → length s ≡ length ks * w → Bytes s → Bytes d
-      → When (λ p. (flags (p .0) ≡ m) × AllLay w at d ks (p .0) s rs (p .1)) (reads w at d ks m s rs)
+  pub reads-forth : (ks : List Kid) (j m : ℕ) (s : List ℕ) (rs : List Range) → AllLawful w ks → m < 2 ^ length ks → length s ≡ length ks * w → Bytes s → Bytes d
+      → When (λ p. (flags (p .0) ≡ m) × AllLay w at d ks (p .0) s rs (p .1)) (reads w at d ks j m s rs)
   unfolding AllLay flags reads
-  reads-forth [] m s rs l f n hs hd = yields {a = ([], rs)} (omega arith, (length-zero s (omega arith), refl))
-  reads-forth (k ∷ ks) m s rs l f n hs hd =
+  reads-forth [] j m s rs l f n hs hd = yields {a = ([], rs)} (omega arith, (length-zero s (omega arith), refl))
+  reads-forth (k ∷ ks) j m s rs l f n hs hd =
       let f′ : m / 2 < 2 ^ length ks = omega (arith, rw (pow-succ' 2 (length ks)) at f) in
-      when-bind (cut-forth w hs) λ (s₀, left) p.
-      when-bind (kid-forth w k (l .0) (m % 2) at d rs s₀ (omega arith) (p .size) (p .front) hd) λ (c, ranges) q.
-      when-bind (reads-forth ks (m / 2) left ranges (l .1) f′ (omega (arith, p .size, length-append s₀ left, ap length (p .whole))) (p .rest) hd) λ (cs, rs′) r.
+      when-bind (cut-forth (byte j) w hs) λ (s₀, left) p.
+      when-bind (kid-forth w k (l .0) (m % 2) j at d rs s₀ (omega arith) (p .size) (p .front) hd) λ (c, ranges) q.
+      when-bind (reads-forth ks (j + w) (m / 2) left ranges (l .1) f′ (omega (arith, p .size, length-append s₀ left, ap length (p .whole))) (p .rest) hd)
+      λ (cs, rs′) r.
       yields {a = (c ∷ cs, rs′)} (omega (arith, q .0, r .0), record { slot = s₀; left = left; ranges = ranges; whole = p .whole; one = q .1; others = r .1 })
+
+-- as many are read as there are to read
+pub reads-count : (w at : ℕ) (d : List ℕ) (ks : List Kid) (j m : ℕ) (s : List ℕ) (rs : List Range)
+    → When (λ p. length (p .0) ≡ length ks) (reads w at d ks j m s rs)
+unfolding reads
+reads-count w at d [] j m s rs = yields {a = ([], rs)} refl
+reads-count w at d (k ∷ ks) j m s rs = when-any (cutAt (byte j) w s) λ (s₀, left). when-any (kidGet k (m % 2) j at d rs s₀) λ (c, ranges).
+    when-bind (reads-count w at d ks (j + w) (m / 2) left ranges) λ (cs, rs′) e. yields {a = (c ∷ cs, rs′)} (ap suc e)
 
 -- written in order, they stand, and take all the data
 pub record Laid (w at : ℕ) (d : List ℕ) (ks : List Kid) (cs : List Cell) (s : List ℕ) (rs : List Range) : Type 0 where

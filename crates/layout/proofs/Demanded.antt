@@ -9,16 +9,18 @@ use native.Mathlib.Decide.{ℕ-discrete}
 use lib.ListN.{length}
 use Rattle.schema.specs.Types.{Ty, ro, Tys}
 use Rattle.layout.specs.Cells.{Cell}
+use Rattle.layout.specs.Refusals.{Refusal}
 use Rattle.layout.specs.Walk.{Seen, rootSeat, walk}
 use Rattle.layout.specs.Places.{startOf, starts}
 use Rattle.layout.specs.Reading.{Answer, typeAt, placed, answerOf, found, readIn, held, Alike}
 use Rattle.layout.specs.Setting as S
 use Rattle.layout.specs.Setting.{Setting, suits, keeps, judgeAt, write, becomes, outcome, setIn}
-use Rattle.layout.specs.Demand.{told, Proper, Accepted, numberIn, Meet, Demand3}
+use Rattle.layout.specs.Demand.{told, Proper, Accepted, refusalOf, Meet, Demand3}
 use Rattle.layout.proofs.Tree.{look, update, Valid, Parted, look-update, update-last}
 use Rattle.layout.proofs.Landed.{placed-type, two-leaves}
 use Rattle.layout.proofs.Judged.{fine-leaf, slotAt, cellOf, valid-update}
-use Rattle.layout.proofs.After.{Judged, judged, judged-fine, after, Made, Done, row-lays, row-lands, read-at, turned-down, allowed, written, done, accepted-as}
+use Rattle.layout.proofs.After.{Judged, judged, judged-fine, after, Made, Done, row-lays, row-lands, read-at, turned-down, allowed, written, done}
+use Rattle.layout.proofs.After.{accepted-as, row-sound}
 use Rattle.layout.proofs.Told.{told-set, told-same}
 use Rattle.layout.proofs.Twice.{update-look, update-comm, same-bytes, judge-again}
 use Rattle.layout.proofs.Seen.{Like, held-shown}
@@ -30,10 +32,10 @@ nowhere-alike : (ts : Tys) (row row′ q : List ℕ) → placed q (ro ts) ≡ no
 unfolding readIn found held
 nowhere-alike ts row row′ q e = record { same = rw e; bytes = rw e }
 
-outcome-number : (c c′ : Cell) (r : Option ℕ) (row row′ : List ℕ) → numberIn (outcome (some c) r row) ≡ numberIn (outcome (some c′) r row′)
-unfolding outcome numberIn
-outcome-number c c′ none row row′ = refl
-outcome-number c c′ (some n) row row′ = refl
+outcome-refusal : (r : Option Refusal) (row row′ : List ℕ) → refusalOf (outcome none r row) ≡ refusalOf (outcome none r row′)
+unfolding outcome refusalOf
+outcome-refusal none row row′ = refl
+outcome-refusal (some n) row row′ = refl
 
 path? : (p q : List ℕ) → Dec (p ≡ q)
 path? [] [] = yes refl
@@ -88,7 +90,8 @@ module _ (ts : Tys) (row : List ℕ) (a : Accepted ts row) where
     again y =
         judge-again row row′ (d .type) p (a .tree) c′ (seenAt p) (walk p (ro ts) rootSeat 0 row′) x y _ (d .made .granted .valid) valid′ (d .made .granted .fine) look′ (row-lands ts row a p (d .type) (d .place)) (row-lands ts row′ still p (d .type) (d .place))
 
-    last-by : (y : Setting) → Proper y → (r : Option ℕ) → judgeAt (some (d .type)) (answerOf (d .type) (seenAt p)) y ≡ r → setIn ts row′ p y ≡ setIn ts row p y
+    last-by : (y : Setting) → Proper y → (r : Option Refusal) → judgeAt (some (d .type)) (answerOf (d .type) (seenAt p)) y ≡ r
+        → setIn ts row′ p y ≡ setIn ts row p y
     last-by y by none j =
         let T = d .type in
         let q = d .place in
@@ -130,9 +133,9 @@ module _ (ts : Tys) (row : List ℕ) (a : Accepted ts row) where
     others : (q : List ℕ) → p ≢ q → Alike ts row′ row q
     others q n = others-by q n (placed q (ro ts)) refl
 
-    unmoved : (q : List ℕ) (y : Setting) → p ≢ q → numberIn (setIn ts row′ q y) ≡ numberIn (setIn ts row q y)
+    unmoved : (q : List ℕ) (y : Setting) → p ≢ q → refusalOf (setIn ts row′ q y) ≡ refusalOf (setIn ts row q y)
     unfolding setIn
-    unmoved q y n = rw (a .reads, still .reads, others q n .same) (outcome-number c′ (a .tree) (judgeAt (placed q (ro ts)) (readIn ts row q) y) _ _)
+    unmoved q y n = rw (row-sound ts row a, row-sound ts row′ still, others q n .same) (outcome-refusal (judgeAt (placed q (ro ts)) (readIn ts row q) y) _ _)
 
     -- the other setting, made after this one
     then-other : (q : List ℕ) (y : Setting) (row₂ : List ℕ) → Proper y → p ≢ q → (f : Done ts q y (a .tree) row row₂)

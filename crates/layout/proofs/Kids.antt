@@ -3,20 +3,20 @@
 use mathlib.Core.Path.{_≡_, refl, sym, ap, _∙_}
 use mathlib.Core.Option.{Option, none, some}
 use mathlib.Core.List.{List, [], _∷_, _++_, append-assoc}
-use Prim.Native.Nat.{ℕ, zero, suc, _+_, _*_, _-_, _/_, _%_, _^_, _≤_, _<_}
+use Prim.Native.Nat.{ℕ, _+_, _*_, _-_, _/_, _%_, _^_, _≤_, _<_}
 use native.Mathlib.Omega.{arith}
 use native.Mathlib.Decide.{decLt, ℕ-discrete}
 use lib.ListN.{length, drop, length-append, length-replicate}
 use lib.Seq.{drop-at}
-use Rattle.words.specs.Bytes.{Bytes, empty, le, num, zeros, fill, pad, padded}
+use Rattle.words.specs.Bytes.{Bytes, empty, le, num, zeros, fill, pad, padded, zerosAhead}
 use Rattle.words.proofs.Numbers.{bytes-le, bytes-fill, bytes-drop, length-le, num-le, le-num, num-zeros, length-fill, length-padded, fill-is}
-use Rattle.layout.specs.Reader.{assert, cut}
+use Rattle.layout.specs.Faults.{slot, byte, got, within}
 use Rattle.layout.specs.Tiles.{Range, range, total, Stands, stands?}
-use Rattle.layout.specs.Cells.{Cell, null, leaf, nodes, flag, bytes, clean}
-use Rattle.layout.specs.Layout.{Codec, Kid, Exactly, NumberFits, StringFits, number, string, Inside, inside, Placed, outside, kidOf, slotOf}
+use Rattle.layout.specs.Cells.{Cell, leaf, flag, bytes, clean}
+use Rattle.layout.specs.Layout.{Codec, Kid, NumberFits, StringFits, number, string, inside, outside, kidOf, slotOf}
 use Rattle.layout.proofs.Cells.{leaf-here, leaf-bytes, clean-leaf}
-use Rattle.layout.proofs.Reader.{When, yields, when-bind, when-then, when-assert, assert-yes, Cut, cut-back, cut-forth}
-use Rattle.layout.proofs.Tiles.{Packed, stands-next, stands-within}
+use Rattle.layout.proofs.Tiles.{Packed, stands-next}
+use Rattle.layout.proofs.Faults.{When, yields, when-bind, when-then, when-within, within-got, when-assert, assert-yes, cut-back, cut-forth}
 
 -- ---- the laws of a codec
 
@@ -42,7 +42,7 @@ pub record Lawful (c : Codec) : Type 0 where
   pub fits : (x : Cell) (b : List ℕ) → c .Lays x b → c .Fits x
   pub size : (x : Cell) (b : List ℕ) → c .Lays x b → length b ≡ length (c .put x)
   pub laid : (x : Cell) → c .Fits x → c .Lays x (c .put x)
-  pub back : (x : Cell) (b : List ℕ) → c .Lays x b → length b < 2 ^ 32 → c .get b ≡ some x
+  pub back : (x : Cell) (b : List ℕ) → c .Lays x b → length b < 2 ^ 32 → c .get b ≡ got x
   pub forth : (b : List ℕ) → Bytes b → When (λ x. c .Lays x b) (c .get b)
 
 -- ---- the laws of a child
@@ -82,9 +82,10 @@ pub record LawfulKid (w : ℕ) (k : Kid) : Type 0 where
   pub adds : (at : ℕ) (d : List ℕ) (rs : List Range) (x : Cell) (s : List ℕ) (rs′ : List Range) → k .Lays at d rs x s rs′ → Adds at (at + length d) rs rs′
   pub keep : (at : ℕ) (d e : List ℕ) (rs : List Range) (x : Cell) (s : List ℕ) (rs′ : List Range) → length e ≡ length d → ((q : Range) → q ∷ rs ≡ rs′ → Kept at d e q)
       → k .Lays at d rs x s rs′ → k .Lays at e rs x s rs′
-  pub back : (at : ℕ) (d : List ℕ) (rs : List Range) (x : Cell) (s : List ℕ) (rs′ : List Range) → k .Lays at d rs x s rs′ → at + length d < 2 ^ 32
-      → k .get at d rs s ≡ some (x, rs′)
-  pub forth : (at : ℕ) (d : List ℕ) (rs : List Range) (s : List ℕ) → length s ≡ w → Bytes s → Bytes d → When (λ p. k .Lays at d rs (p .0) s (p .1)) (k .get at d rs s)
+  pub back : (j at : ℕ) (d : List ℕ) (rs : List Range) (x : Cell) (s : List ℕ) (rs′ : List Range) → k .Lays at d rs x s rs′ → at + length d < 2 ^ 32
+      → k .get j at d rs s ≡ got (x, rs′)
+  pub forth : (j at : ℕ) (d : List ℕ) (rs : List Range) (s : List ℕ) → length s ≡ w → Bytes s → Bytes d
+      → When (λ p. k .Lays at d rs (p .0) s (p .1)) (k .get j at d rs s)
 
 -- ---- leaves
 
@@ -105,8 +106,9 @@ number-lawful w m h = record {
   laid = λ x f. record { fits = f; is = refl };
   back = λ x b l _.
       let f = l .fits in
-      rw (← (l .is), assert-yes (ℕ-discrete (length (bytes x)) w) (f .wide), assert-yes (decLt (num (bytes x)) m) (f .below)) (ap some (sym (f .plain)));
-  forth = λ b hb. when-then (when-assert (ℕ-discrete (length b) w)) λ _ e. when-then (when-assert (decLt (num b) m)) λ _ l.
+      rw (← (l .is), assert-yes (byte 0) (ℕ-discrete (length (bytes x)) w) (f .wide), assert-yes (byte 0) (decLt (num (bytes x)) m) (f .below))
+      (ap got (sym (f .plain)));
+  forth = λ b hb. when-then (when-assert (byte 0) (ℕ-discrete (length b) w)) λ _ e. when-then (when-assert (byte 0) (decLt (num b) m)) λ _ l.
       yields {a = leaf b} (record { fits = record { plain = rw leaf-bytes; wide = rw leaf-bytes e; proper = rw leaf-bytes hb; below = rw leaf-bytes l }; is = leaf-bytes b });
 }
 
@@ -120,7 +122,7 @@ string-lawful = record {
   fits = λ x b l. l .fits;
   size = λ x b l. rw (l .is);
   laid = λ x f. record { fits = f; is = refl };
-  back = λ x b l _. rw (← (l .is)) (ap some (sym (l .fits .plain)));
+  back = λ x b l _. rw (← (l .is)) (ap got (sym (l .fits .plain)));
   forth = λ b hb. yields {a = leaf b} (record { fits = record { plain = rw leaf-bytes; proper = rw leaf-bytes hb }; is = leaf-bytes b });
 }
 
@@ -142,14 +144,22 @@ inside-lawful w v c l h e = record {
   laid = λ at d t rs x f p n o. record { ranges = rs; lays = record { own = c .put x; lays = l .laid x f; slot = refl; same = refl }; packed = p; takes = omega arith };
   adds = λ at d rs x s rs′ y. rw (← (y .same)) same;
   keep = λ at d e rs x s rs′ n g y. y;
-  back = λ at d rs x s rs′ y b.
+  back = λ j at d rs x s rs′ y b.
       let u = y .own in
       let n : length u ≡ v = l .size x u (y .lays) ∙ e .size x (l .fits x u (y .lays)) in
       let z = zeros (w - length u) in
-      rw (← (y .slot), cut-back v u z n, l .back x u (y .lays) (omega (arith, e .small)), assert-yes (ℕ-discrete (num z) 0) (num-zeros (w - length u)), y .same);
-  forth = λ at d rs s n hs hd. when-bind (cut-forth v hs) λ (u, z) q.
-      when-bind (l .forth u (q .front)) λ x r.
-      when-then (when-assert (ℕ-discrete (num z) 0)) λ _ o.
+      rw (
+        ← (y .slot),
+        cut-back (byte j) v u z n,
+        l .back x u (y .lays) (omega (arith, e .small)),
+        within-got j j x,
+        assert-yes (byte (j + v + zerosAhead z))
+            (ℕ-discrete (num z) 0) (num-zeros (w - length u)),
+        y .same,
+      );
+  forth = λ j at d rs s n hs hd. when-bind (cut-forth (byte j) v hs) λ (u, z) q.
+      when-bind (when-within j j (l .forth u (q .front))) λ x r.
+      when-then (when-assert (byte (j + v + zerosAhead z)) (ℕ-discrete (num z) 0)) λ _ o.
       let t : length u + length z ≡ w = omega (arith, length-append u z, ap length (q .whole)) in
       yields {a = (x, rs)} (record { own = u; lays = r; slot = fill-is u z w o t ∙ q .whole; same = refl });
 }
@@ -192,7 +202,7 @@ outside-lawful c l = record {
   keep = λ at d e rs x s rs′ n g y.
       let t = g (range (y .place) (pad (length (y .own)))) (y .more) (padded (y .own)) (y .behind) (length-padded (y .own)) (y .there) in
       record { place = y .place; own = y .own; behind = t .0; lays = y .lays; slot = y .slot; stands = rw n (y .stands); there = t .1; more = y .more };
-  back = λ at d rs x s rs′ y b.
+  back = λ j at d rs x s rs′ y b.
       let u = y .own in
       let n = length u in
       let o = y .place in
@@ -205,23 +215,24 @@ outside-lawful c l = record {
         e,
         p,
         z,
-        assert-yes (stands? at (at + length d) rs (range o (pad n))) (y .stands),
+        assert-yes (byte j) (stands? at (at + length d) rs (range o (pad n))) (y .stands),
         ← (y .there),
         append-assoc,
-        cut-back n u (v ++ y .behind) refl,
+        cut-back (byte j) n u (v ++ y .behind) refl,
         l .back x u (y .lays) (omega arith),
-        cut-back (pad n - n) v (y .behind) (length-replicate (pad n - n) 0),
-        assert-yes (ℕ-discrete (num v) 0) (num-zeros (pad n - n)),
+        within-got j o x,
+        cut-back (byte j) (pad n - n) v (y .behind) (length-replicate (pad n - n) 0),
+        assert-yes (byte (o + n + zerosAhead v)) (ℕ-discrete (num v) 0) (num-zeros (pad n - n)),
         y .more,
       );
-  forth = λ at d rs s n hs hd.
+  forth = λ j at d rs s n hs hd.
       let o = num s / 2 ^ 32 in
       let m = num s % 2 ^ 32 in
-      when-then (when-assert (stands? at (at + length d) rs (range o (pad m)))) λ _ g.
-      when-bind (cut-forth m (bytes-drop (o - at) hd)) λ (u, r) q.
-      when-bind (l .forth u (q .front)) λ x t.
-      when-bind (cut-forth (pad m - m) (q .rest)) λ (v, r′) c.
-      when-then (when-assert (ℕ-discrete (num v) 0)) λ _ i.
+      when-then (when-assert (byte j) (stands? at (at + length d) rs (range o (pad m)))) λ _ g.
+      when-bind (cut-forth (byte j) m (bytes-drop (o - at) hd)) λ (u, r) q.
+      when-bind (when-within j o (l .forth u (q .front))) λ x t.
+      when-bind (cut-forth (byte j) (pad m - m) (q .rest)) λ (v, r′) c.
+      when-then (when-assert (byte (o + m + zerosAhead v)) (ℕ-discrete (num v) 0)) λ _ i.
       let e : o * 2 ^ 32 + length u ≡ num s = omega (arith, q .size) in
       let y : le 8 (num s) ≡ s = rw n at (le-num hs) in
       let k : length u + length v ≡ pad (length u) = omega (arith, q .size, c .size) in

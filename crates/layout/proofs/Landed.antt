@@ -15,6 +15,7 @@ use Rattle.layout.specs.Reading.{typeAt, placed}
 use Rattle.layout.proofs.Stepped as Stepped
 use Rattle.layout.proofs.Stepped.{Leafy, Comes}
 use Rattle.layout.proofs.Walked as Walked
+use Rattle.layout.specs.Refusals.{Refusal, numbered}
 use Rattle.layout.specs.Walk.{Seat, Seen, bad, nullAt, seen, rootSeat, Step, childTy}
 use Rattle.layout.proofs.Walked.{comes, Sits, Finds}
 use Rattle.layout.proofs.Tree.{look, Valid, Parted}
@@ -105,7 +106,7 @@ below t c i b y lim k f = below-by t c i b _ k f (comes t c i rootSeat 0 b y lim
 
 -- nowhere, since the tree has no such place; at a null; or at bytes of the row that stand for what the tree holds there
 pub data Landing (row : List ℕ) (T : Ty) (p : List ℕ) (c : Cell) : Seen → Type 0 where
-  off : {n : ℕ} → (n ≡ 5) ⊎ (n ≡ 6) → ¬ Valid p c → Landing row T p c (bad n)
+  off : {n : Refusal} → (n ≡ numbered 5) ⊎ (n ≡ numbered 6) → ¬ Valid p c → Landing row T p c (bad n)
   atNull : {s : Seat} → Valid p c → flag (look p c) ≡ 1 → Landing row T p c (nullAt s)
   atSeen : {s : Seat} {o : ℕ} {u : List ℕ} → Valid p c → Lays T (look p c) u → Sits row o u → Landing row T p c (seen s o u)
 

@@ -1,5 +1,6 @@
 pub mod Cells
 pub mod Reader
+pub mod Faults
 pub mod Tiles
 pub mod Orders
 pub mod Values
@@ -7,6 +8,7 @@ pub mod Units
 pub mod Kids
 pub mod Children
 pub mod Containers
+pub mod Near
 pub mod Items
 pub mod Listed
 pub mod Rows

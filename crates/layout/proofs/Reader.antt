@@ -1,8 +1,8 @@
 -- What a reading yields, when it yields; and that a cut reads back what stands there, and yields only that. Assumes nothing.
-use mathlib.Core.Path.{_≡_, refl, sym, ap, _∙_, subst}
+use mathlib.Core.Path.{_≡_, refl, subst}
 use mathlib.Core.Option.{Option, none, some, Option·none-ne-some, Option·some-injective}
 use mathlib.Core.List.{List, [], _∷_, _++_}
-use Prim.Native.Nat.{ℕ, _≤_}
+use Prim.Native.Nat.{ℕ, _≤_, _<_}
 use native.Mathlib.Omega.{arith}
 use native.Mathlib.Decide.{decLe}
 use lib.ListN.{length, take, drop, length-append, length-take, take-append-drop}
@@ -44,7 +44,20 @@ unfolding assert
 assert-yes (yes p) h = refl
 assert-yes (no n) h = absurd (n h)
 
+assert-no : {P A : Type 0} (d : Dec P) (m : Option A) → (P → ⊥) → (assert d >> m) ≡ none
+unfolding assert
+assert-no (yes p) m h = absurd (h p)
+assert-no (no n) m h = refl
+
 -- ---- cut
+
+pub cut-some : (n : ℕ) (b : List ℕ) → n ≤ length b → cut n b ≡ some (take n b, drop n b)
+unfolding cut
+cut-some n b h = rw (assert-yes (decLe n (length b)) h)
+
+pub cut-none : (n : ℕ) (b : List ℕ) → length b < n → cut n b ≡ none
+unfolding cut
+cut-none n b h = assert-no (decLe n (length b)) (some (take n b, drop n b)) (λ k. omega arith)
 
 pub cut-back : (n : ℕ) (u r : List ℕ) → length u ≡ n → cut n (u ++ r) ≡ some (u, r)
 unfolding cut

@@ -86,7 +86,8 @@ fixed-starts f (seen s o u) = value-start f u
 -- nor has a null
 pub null-starts : (T t : Ty) (c : Cell) (i : ℕ) (s : Seat) (o : ℕ) (b : List ℕ) → Lays t c b → length b < 2 ^ 32 → i < length (parts c) → flag (partOf i c) ≡ 1 → starts T (walk (i ∷ []) t s o b) ≡ 0
 unfolding walk goOn answerOf startOf
-null-starts T t c i s o b y lim k f = rw (own-holds t c b (goOn [] (λ t s o b. walk [] t s o b) (stepIn t i s o b)) y lim) (go (stepIn t i s o b) (comes t c i s o b y lim))
+null-starts T t c i s o b y lim k f =
+    rw (own-holds t c s o b (goOn [] (λ t s o b. walk [] t s o b) (stepIn t i s o b)) y lim) (go (stepIn t i s o b) (comes t c i s o b y lim))
   where
     go : (r : Step) → Comes t (childTy t i) c i o b r → starts T (goOn [] (λ t s o b. walk [] t s o b) r) ≡ 0
     go r (Stepped.past h) = absurd (omega arith)
@@ -141,22 +142,23 @@ module _ (t : Ty) (c c′ : Cell) (b b′ : List ℕ) (d : Instead t c c′ b b�
       go (ma a v) y y′ = record { answers = rw (d .size); shows = refl }
       go (ro ts) y y′ = record { answers = rw (d .size); shows = refl }
 
-  pub own-was : (r : Seen) → own t b r ≡ r
-  own-was r = own-holds t c b r (d .was) (d .small)
+  pub own-was : (s : Seat) (o : ℕ) (r : Seen) → own t s o b r ≡ r
+  own-was s o r = own-holds t c s o b r (d .was) (d .small)
 
-  pub own-is : (r : Seen) → own t b′ r ≡ r
-  own-is r = own-holds t c′ b′ r (d .is) small′
+  pub own-is : (s : Seat) (o : ℕ) (r : Seen) → own t s o b′ r ≡ r
+  own-is s o r = own-holds t c′ s o b′ r (d .is) small′
 
   -- a path that begins with another child, or ends here, or goes on with child i
   pub others-by : (i : ℕ) (p q : List ℕ) (U : Ty) (s : Seat) (o : ℕ) → i < length (parts c) → Aside t i b b′ → typeAt q t ≡ some U → (i ∷ p) ≢ q
       → ((q : List ℕ) → typeAt q (childTy t i) ≡ some U → p ≢ q → Like U (walk (i ∷ q) t s o b′) (walk (i ∷ q) t s o b)) → Like U (walk q t s o b′) (walk q t s o b)
   unfolding walk
-  others-by i p [] U s o k a e n f = rw (own-was (seen s o b), own-is (seen s o b′)) (subst (λ (A : Ty). Like A (seen s o b′) (seen s o b)) (type-end t U e) (whole-like i s o k))
+  others-by i p [] U s o k a e n f =
+      rw (own-was s o (seen s o b), own-is s o (seen s o b′)) (subst (λ (A : Ty). Like A (seen s o b′) (seen s o b)) (type-end t U e) (whole-like i s o k))
   others-by i p (j ∷ q) U s o k a e n f = go (ℕ-discrete j i)
     where
       go : Dec (j ≡ i) → Like U (walk (j ∷ q) t s o b′) (walk (j ∷ q) t s o b)
       go (yes z) = subst (λ (j : ℕ). Like U (walk (j ∷ q) t s o b′) (walk (j ∷ q) t s o b)) (sym z) (f q (subst (λ (j : ℕ). typeAt q (childTy t j) ≡ some U) z (type-child j q t U e)) (λ m. n (rw (z, m))))
-      go (no z) = like-refl (own-is _ ∙ ap (goOn q (λ t s o b. walk q t s o b)) (a j z s o) ∙ sym (own-was _))
+      go (no z) = like-refl (own-is s o _ ∙ ap (goOn q (λ t s o b. walk q t s o b)) (a j z s o) ∙ sym (own-was s o _))
 
   -- nothing stands past a leaf
   pub past-end : (i : ℕ) (U : Ty) (s : Seat) (o : ℕ) → Leafy (childTy t i) → (q : List ℕ) → typeAt q (childTy t i) ≡ some U → [] ≢ q → Like U (walk (i ∷ q) t s o b′) (walk (i ∷ q) t s o b)
@@ -167,5 +169,8 @@ module _ (t : Ty) (c c′ : Cell) (b b′ : List ℕ) (d : Instead t c c′ b b�
   pub walk-on : (i j : ℕ) (u v : List ℕ) (s : Seat) (o : ℕ) (q : List ℕ) (m : Into t (childTy t i) i j o s b u b′ v)
       → (walk (i ∷ q) t s o b ≡ walk q (childTy t i) (m .seat) (o + j) u) × (walk (i ∷ q) t s o b′ ≡ walk q (childTy t i) (m .seat) (o + j) v)
   unfolding walk
-  walk-on i j u v s o q m =
-      (own-was _ ∙ ap (goOn q (λ t s o b. walk q t s o b)) (m .was) ∙ into-on q (childTy t i) (m .seat) (o + j) u, own-is _ ∙ ap (goOn q (λ t s o b. walk q t s o b)) (m .is) ∙ into-on q (childTy t i) (m .seat) (o + j) v)
+  walk-on i j u v s o q m = (
+    own-was s o _ ∙ ap (goOn q (λ t s o b. walk q t s o b)) (m .was) ∙ into-on q (childTy t i) (m .seat) (o + j) u,
+    own-is s o _
+        ∙ ap (goOn q (λ t s o b. walk q t s o b)) (m .is) ∙ into-on q (childTy t i) (m .seat) (o + j) v,
+  )

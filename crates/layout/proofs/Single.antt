@@ -17,7 +17,7 @@ use Rattle.layout.specs.Cells.{Cell, null, leaf, nodes, onNull, flag, pa
 use Rattle.layout.specs.Layout.{Kid, inside, Placed, kidOf, kid, slotOf, kidLays, front, BodyLays, number, string, array, pair, struct, codec, kids, Lays}
 use Rattle.layout.specs.Places.{starts}
 use Rattle.layout.specs.Reading.{typeAt}
-use Rattle.layout.specs.Walk.{Seat, seatOf, child, stepIn, goOn, walk, seen, into}
+use Rattle.layout.specs.Walk.{Seat, seatOf, child, stepIn, goOn, walk, seen, into, seatAt}
 use Rattle.layout.proofs.Reader.{assert-yes}
 use Rattle.layout.proofs.Cells.{flag-bit}
 use Rattle.layout.proofs.Tiles.{Among, first, later}
@@ -88,7 +88,7 @@ module _ (F : ℕ → Ty) (c : Cell) (hs r b : List ℕ) (h w : ℕ) (ks : List 
   walk-child : (q : List ℕ) (s : Seat) (o : ℕ) → walk (j ∷ q) T s o b ≡ walk q (F j) (seatOf h w (length ks) j o) (o + held .place) (held .own)
   unfolding walk
   walk-child q s o =
-      own-holds T c b _ whole lim
+      own-holds T c s o b _ whole lim
       ∙ ap (goOn q (λ t s o b. walk q t s o b)) (ap (stepIn T j s o) (sym e) ∙ steps r j s o ∙ ap (child h w (length ks) (F j) j o) e
       ∙ there-of F c hs r b h w ks e eh l hF y lim kF j kj zj nj b (held .own) refl refl refl (own-of F c hs r b h w ks e eh l hF y lim kF j kj zj nj) o)
       ∙ into-on q (F j) (seatOf h w (length ks) j o) (o + held .place) (held .own)
@@ -96,7 +96,9 @@ module _ (F : ℕ → Ty) (c : Cell) (hs r b : List ℕ) (h w : ℕ) (ks : List 
   start-child : (s : Seat) (o : ℕ) → length (held .own) < 2 ^ 32 → starts (F j) (walk (j ∷ []) T s o b) ≡ o + held .place
   unfolding walk
   start-child s o lim =
-      ap (starts (F j)) (walk-child [] s o ∙ own-holds (F j) (partOf j c) (held .own) (seen (seatOf h w (length ks) j o) (o + held .place) (held .own)) (held .lays) lim)
+      ap (starts (F j)) (walk-child [] s o
+      ∙ own-holds (F j) (partOf j c) (seatOf h w (length ks) j o) (o + held .place) (held .own)
+      (seen (seatOf h w (length ks) j o) (o + held .place) (held .own)) (held .lays) lim)
       ∙ seen-starts (F j) (seatOf h w (length ks) j o) (o + held .place) (held .own) nj
 
 -- ---- two bodies of the same contents
@@ -188,17 +190,19 @@ list-single t one c b b′ s o y y′ lim st =
     (λ r′ j z o. rw (head-8 m r′ small, length-replicate)) (λ j q U h e. e) (y .rest) b (y .whole) (y .body) lim y (y′ .rest) b′ (y′ .whole) (y′ .body) lim′ y′ s o st (λ j h. one) in
     sym (y .whole) ∙ ap (λ (u : List ℕ). le 8 m ++ u) g ∙ y′ .whole
 
-keys-walk : (k v : Ty) (c : Cell) (b p r : List ℕ) (s : Seat) (o : ℕ) (q : List ℕ) → Lays (ma k v) c b → length b < 2 ^ 32 → le 8 (length p) ++ (p ++ r) ≡ b → walk (0 ∷ q) (ma k v) s o b ≡ walk q (li k) s (o + 8) p
+keys-walk : (k v : Ty) (c : Cell) (b p r : List ℕ) (s : Seat) (o : ℕ) (q : List ℕ) → Lays (ma k v) c b → length b < 2 ^ 32 → le 8 (length p) ++ (p ++ r) ≡ b
+    → walk (0 ∷ q) (ma k v) s o b ≡ walk q (li k) (seatAt (o + 8)) (o + 8) p
 unfolding walk stepIn
 keys-walk k v c b p r s o q y lim e =
     let m = map-says c b p r e lim in
-    own-holds (ma k v) c b _ y lim ∙ rw (m .k, m .keys) (into-on q (li k) s (o + 8) p)
+    own-holds (ma k v) c s o b _ y lim ∙ rw (m .k, m .keys) (into-on q (li k) (seatAt (o + 8)) (o + 8) p)
 
-values-walk : (k v : Ty) (c : Cell) (b p r : List ℕ) (s : Seat) (o : ℕ) (q : List ℕ) → Lays (ma k v) c b → length b < 2 ^ 32 → le 8 (length p) ++ (p ++ r) ≡ b → walk (1 ∷ q) (ma k v) s o b ≡ walk q (li v) s (o + (8 + length p)) r
+values-walk : (k v : Ty) (c : Cell) (b p r : List ℕ) (s : Seat) (o : ℕ) (q : List ℕ) → Lays (ma k v) c b → length b < 2 ^ 32
+    → le 8 (length p) ++ (p ++ r) ≡ b → walk (1 ∷ q) (ma k v) s o b ≡ walk q (li v) (seatAt (o + (8 + length p))) (o + (8 + length p)) r
 unfolding walk stepIn
 values-walk k v c b p r s o q y lim e =
     let m = map-says c b p r e lim in
-    own-holds (ma k v) c b _ y lim ∙ rw (m .k, m .values) (into-on q (li v) s (o + (8 + length p)) r)
+    own-holds (ma k v) c s o b _ y lim ∙ rw (m .k, m .values) (into-on q (li v) (seatAt (o + (8 + length p))) (o + (8 + length p)) r)
 
 map-single : (k v : Ty) → Single (li k) → Single (li v) → Single (ma k v)
 unfolding codec pair typeAt
@@ -209,12 +213,12 @@ map-single k v one two c b b′ s o y y′ lim st =
     let r′ = y′ .valuesArray in
     let m = map-says c b p r (y .whole) lim in
     let lim′ : length b′ < 2 ^ 32 = omega (arith, lays-size (ma k v) c b y, lays-size (ma k v) c b′ y′) in
-    let f : p ≡ p′ = one (partOf 0 c) p p′ s (o + 8) (y .keys) (y′ .keys) (omega (arith, m .size)) (λ q U e.
+    let f : p ≡ p′ = one (partOf 0 c) p p′ (seatAt (o + 8)) (o + 8) (y .keys) (y′ .keys) (omega (arith, m .size)) (λ q U e.
     sym (ap (starts U) (keys-walk k v c b p r s o q y lim (y .whole))) ∙ st (0 ∷ q) U e ∙ ap (starts U) (keys-walk k v c b′ p′ r′ s o q y′ lim′ (y′ .whole))) in
     let n : length p′ ≡ length p = ap length (sym f) in
-    let g : r ≡ r′ = two (partOf 1 c) r r′ s (o + (8 + length p)) (y .values) (y′ .values) (omega (arith, m .size)) (λ q U e.
+    let g : r ≡ r′ = two (partOf 1 c) r r′ (seatAt (o + (8 + length p))) (o + (8 + length p)) (y .values) (y′ .values) (omega (arith, m .size)) (λ q U e.
     sym (ap (starts U) (values-walk k v c b p r s o q y lim (y .whole))) ∙ st (1 ∷ q) U e
-    ∙ ap (starts U) (values-walk k v c b′ p′ r′ s o q y′ lim′ (y′ .whole) ∙ ap (λ (n : ℕ). walk q (li v) s (o + (8 + n)) r′) n)) in
+    ∙ ap (starts U) (values-walk k v c b′ p′ r′ s o q y′ lim′ (y′ .whole) ∙ ap (λ (n : ℕ). walk q (li v) (seatAt (o + (8 + n))) (o + (8 + n)) r′) n)) in
     sym (y .whole) ∙ rw (f, g) (y′ .whole)
 
 struct-single : (ts : Tys) → ((j : ℕ) → j < count ts → Single (field ts j)) → Single (ro ts)

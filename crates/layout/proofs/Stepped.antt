@@ -19,6 +19,7 @@ use Rattle.schema.specs.Types.{Fixed, width, Ty, fix, text, li, ma, ro, count}
 use Rattle.layout.specs.Tiles.{Range, range, Apart}
 use Rattle.layout.specs.Cells.{Cell, null, leaf, nodes, node, onNull, flag, bytes, parts, part as partOf}
 use Rattle.layout.specs.Layout.{Codec, Kid, NumberFits, number, Inside, inside, Placed, outside, kidOf, kid, kidLays, front, BodyLays, limit, codec, Lays}
+use Rattle.layout.specs.Refusals.{Refusal, numbered, brokenAt}
 use Rattle.layout.specs.Walk.{Seat, Step, stop, toNull, into, mustStep, byFlag, bySlot, seatOf, child, stepIn}
 use Rattle.layout.proofs.Cells.{present, flag-bit}
 use Rattle.layout.proofs.Tiles.{apart-turn, stands-within, stands-apart}
@@ -77,13 +78,13 @@ pub record Held (T t : Ty) (c : Cell) (i : ℕ) (b : List ℕ) (j : ℕ) (u : Li
 
 -- a step to child i, of type t, of contents c of type T
 pub data Comes (T t : Ty) (c : Cell) (i o : ℕ) (b : List ℕ) : Step → Type 0 where
-  past : length (parts c) ≤ i → Comes T t c i o b (stop 5)
+  past : length (parts c) ≤ i → Comes T t c i o b (stop (numbered 5))
   missing : {s : Seat} → i < length (parts c) → flag (partOf i c) ≡ 1 → Seated T t c i o b s → Comes T t c i o b (toNull s)
   on : {s : Seat} {j : ℕ} {u : List ℕ} → i < length (parts c) → flag (partOf i c) ≡ 0 → Held T t c i b j u → (Leafy t → Seated T t c i o b s) → Comes T t c i o b (into t s (o + j) u)
 
 -- ---- a child of a body
 
-must-step : {P : Type 0} (d : Dec P) (n : ℕ) (s : Step) → P → mustStep d n s ≡ s
+must-step : {P : Type 0} (d : Dec P) (n : Refusal) (s : Step) → P → mustStep d n s ≡ s
 unfolding mustStep
 must-step (yes p) n s h = refl
 must-step (no q) n s h = absurd (q h)
@@ -202,11 +203,11 @@ module _ (F : ℕ → Ty) (c : Cell) (hs r b : List ℕ) (h w : ℕ) (ks : List 
     there-of b′ v len bits slot own o =
         let st = stands-within (placed-of .stands) in
         let hi = st .high in
-        must-step (decLt j n) 5 _ (omega (arith, counted))
+        must-step (decLt j n) (numbered 5) _ (omega (arith, counted))
         ∙ rw (bits, flag-of j kj, zj, nj, slot, says-of .offset, says-of .size, own)
-        (must-step (decLe at (placed-of .place)) 7 _ (st .low)
-        ∙ must-step (ℕ-discrete (placed-of .place % 8) 0) 7 _ (placed-of .stands .eight)
-        ∙ must-step (decLe (placed-of .place + length (placed-of .own)) (length b′)) 7 _ (omega (arith, len, size-b, room-b)))
+        (must-step (decLe at (placed-of .place)) _ _ (st .low)
+        ∙ must-step (ℕ-discrete (placed-of .place % 8) 0) _ _ (placed-of .stands .eight)
+        ∙ must-step (decLe (placed-of .place + length (placed-of .own)) (length b′)) _ _ (omega (arith, len, size-b, room-b)))
 
     -- it lies in b, behind the fixed part
     pub low-of : at ≤ placed-of .place
@@ -451,9 +452,10 @@ module _ (F : ℕ → Ty) (c : Cell) (hs r b : List ℕ) (h w : ℕ) (ks : List 
             let pl = placed-of i k z q in
             let u = pl .own in
             let says = says-of i k z q in
-            let a = must-step (decLe at (pl .place)) 7 _ (low-of i k z q)
-            ∙ must-step (ℕ-discrete (pl .place % 8) 0) 7 _ (pl .stands .eight)
-            ∙ must-step (decLe (pl .place + length u) (length b)) 7 (into t (seatOf h w n i o) (o + pl .place) u) (omega (arith, high-of i k z q)) in
+            let broken = brokenAt (seatOf h w n i o .slot) in
+            let a = must-step (decLe at (pl .place)) broken _ (low-of i k z q)
+            ∙ must-step (ℕ-discrete (pl .place % 8) 0) broken _ (pl .stands .eight)
+            ∙ must-step (decLe (pl .place + length u) (length b)) broken (into t (seatOf h w n i o) (o + pl .place) u) (omega (arith, high-of i k z q)) in
             rw (says .offset, says .size, own-of i k z q, a) (on {j = pl .place} {u = u} k z (record {
               lays = pl .lays;
               there = own-of i k z q;
@@ -476,7 +478,9 @@ module _ (F : ℕ → Ty) (c : Cell) (hs r b : List ℕ) (h w : ℕ) (ks : List 
       by-flag zero q = by-slot (sym q) (codec t .wide) refl
       by-flag (suc f) q = missing k (omega (arith, flag-part)) seated
 
-    by-number : (d : Dec (i < n)) → Comes T t c i o b (mustStep d 5 (byFlag (num (part b h (bitmap n)) / 2 ^ i % 2) (seatOf h w n i o) (bySlot (codec t .wide) t (seatOf h w n i o) at o (h + (bitmap n + i * w)) b)))
+    by-number : (d : Dec (i < n)) → Comes T t c i o b
+        (mustStep d (numbered 5) (byFlag (num (part b h (bitmap n)) / 2 ^ i % 2) (seatOf h w n i o)
+        (bySlot (codec t .wide) t (seatOf h w n i o) at o (h + (bitmap n + i * w)) b)))
     unfolding mustStep
     by-number (yes k) = let m : i < length (parts c) = omega (arith, all-length w ks (parts c) (body-fit h w ks l (parts c) r y)) in by-flag m _ (flag-of i m)
     by-number (no k) = past (omega (arith, all-length w ks (parts c) (body-fit h w ks l (parts c) r y)))

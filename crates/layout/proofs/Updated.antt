@@ -229,7 +229,8 @@ fixed-edit x T f row i t c o b r y q h e lim st made (Stepped.past g) = absurd (
 fixed-edit x T f row i t c o b r y q h e lim st made (Stepped.missing {s = s} k g d) = seat-edit x T f row i t c o b s y lim h q e st made d
 fixed-edit x T f row i t c o b r y q h e lim st made (Stepped.on {s = s} {j = j} {u = u} k g d a) =
     let n : length u < 2 ^ 32 = omega (arith, d .room) in
-    rw (own-holds (childTy t i) (partOf i c) u (seen s (o + j) u) (d .lays) n) (seat-edit x T f row i t c o b s y lim h q e st made (a (subst Leafy (sym (e ∙ q)) tt)))
+    rw (own-holds (childTy t i) (partOf i c) s (o + j) u (seen s (o + j) u) (d .lays) n)
+    (seat-edit x T f row i t c o b s y lim h q e st made (a (subst Leafy (sym (e ∙ q)) tt)))
 
 text-wide : (t : Ty) (k : Text) → t ≡ text k → codec t .wide ≡ none
 unfolding codec string
@@ -298,7 +299,7 @@ text-edit x T k row i t c o b r y q h e lim st z f n hb (Stepped.on {s = s} {j =
     let lv = text-lays (childTy t i) k v (e ∙ q) hb in
     let ly : Lays t c′ b′ = d .put no (leaf v) v lv nv (sym (is .none)) in
     let w : Instead t c c′ b b′ = record { was = y; is = ly; small = lim; size = length-sets b j v; count = rw parts-node (length-set (parts c) i (leaf v)) } in
-    rw (own-holds (childTy t i) (partOf i c) u (seen s (o + j) u) (d .lays) m)
+    rw (own-holds (childTy t i) (partOf i c) s (o + j) u (seen s (o + j) u) (d .lays) m)
     (record {
       new = leaf v;
       becomes = subst (λ (t : Ty). Becomes x t (leaf v)) (sym q) (asText z);
@@ -307,8 +308,10 @@ text-edit x T k row i t c o b r y q h e lim st z f n hb (Stepped.on {s = s} {j =
       size = length-sets b j v;
       others = λ p U h′ ne z. others-by t c c′ b b′ w i [] p U z o h (d .put-aside no v nv) h′ ne (past-end t c c′ b b′ w i U z o (leafy-text (childTy t i) T k e q));
       there = λ z. (let a = d .put-there no v nv z o in let wo = walk-on t c c′ b b′ w i j u v z o [] a in
-          rw (← e) (ap (starts (childTy t i)) (wo .1 ∙ own-holds (childTy t i) (leaf v) v (seen (a .seat) (o + j) v) lv (omega arith)) ∙ seen-starts (childTy t i) (a .seat) (o + j) v no
-          ∙ sym (ap (starts (childTy t i)) (wo .0 ∙ own-holds (childTy t i) (partOf i c) u (seen (a .seat) (o + j) u) (d .lays) m) ∙ seen-starts (childTy t i) (a .seat) (o + j) u no)));
+          rw (← e) (ap (starts (childTy t i)) (wo .1 ∙ own-holds (childTy t i) (leaf v) (a .seat) (o + j) v (seen (a .seat) (o + j) v) lv (omega arith))
+          ∙ seen-starts (childTy t i) (a .seat) (o + j) v no
+          ∙ sym (ap (starts (childTy t i)) (wo .0 ∙ own-holds (childTy t i) (partOf i c) (a .seat) (o + j) u (seen (a .seat) (o + j) u) (d .lays) m)
+          ∙ seen-starts (childTy t i) (a .seat) (o + j) u no)));
       is = run-in st j v (omega (arith, d .room));
     })
 
@@ -372,21 +375,21 @@ deep-edit x T row i p t c o b r y h f lim st a w (Stepped.on {s = s} {j = j} {u 
 pub set-lays : (x : Setting) (T : Ty) (row : List ℕ) (p : List ℕ) → Sets x T row p
 unfolding walk
 set-lays x T row (i ∷ []) t c s o b y lim st (fixedNull {f = f} q h e z) =
-    rw (own-holds t c b (goOn [] (λ t s o b. walk [] t s o b) (stepIn t i s o b)) y lim)
+    rw (own-holds t c s o b (goOn [] (λ t s o b. walk [] t s o b) (stepIn t i s o b)) y lim)
     (subst (λ (A : Ty). Edited x T row (i ∷ []) t c o b (write A x (goOn [] (λ t s o b. walk [] t s o b) (stepIn t i s o b)) row)) (sym q)
     (fixed-edit x T f row i t c o b (stepIn t i s o b) y q h e lim st (λ w. made-null x T f w z) (comes t c i s o b y lim)))
 set-lays x T row (i ∷ []) t c s o b y lim st (fixedGiven {f = f} {u = u} q h e z g) =
-    rw (own-holds t c b (goOn [] (λ t s o b. walk [] t s o b) (stepIn t i s o b)) y lim)
+    rw (own-holds t c s o b (goOn [] (λ t s o b. walk [] t s o b) (stepIn t i s o b)) y lim)
     (subst (λ (A : Ty). Edited x T row (i ∷ []) t c o b (write A x (goOn [] (λ t s o b. walk [] t s o b) (stepIn t i s o b)) row)) (sym q)
     (fixed-edit x T f row i t c o b (stepIn t i s o b) y q h e lim st (λ w. made-given x T f w u q z g) (comes t c i s o b y lim)))
 set-lays x T row (i ∷ []) t c s o b y lim st (textNull {k = k} q h e z f) =
-    rw (own-holds t c b (goOn [] (λ t s o b. walk [] t s o b) (stepIn t i s o b)) y lim)
+    rw (own-holds t c s o b (goOn [] (λ t s o b. walk [] t s o b) (stepIn t i s o b)) y lim)
     (subst (λ (A : Ty). Edited x T row (i ∷ []) t c o b (write A x (goOn [] (λ t s o b. walk [] t s o b) (stepIn t i s o b)) row)) (sym q)
     (text-null-edit x T k row i t c o b (stepIn t i s o b) y lim q h e st z f (comes t c i s o b y lim)))
 set-lays x T row (i ∷ []) t c s o b y lim st (textGiven {k = k} q h e z f n hb) =
-    rw (own-holds t c b (goOn [] (λ t s o b. walk [] t s o b) (stepIn t i s o b)) y lim)
+    rw (own-holds t c s o b (goOn [] (λ t s o b. walk [] t s o b) (stepIn t i s o b)) y lim)
     (subst (λ (A : Ty). Edited x T row (i ∷ []) t c o b (write A x (goOn [] (λ t s o b. walk [] t s o b) (stepIn t i s o b)) row)) (sym q)
     (text-edit x T k row i t c o b (stepIn t i s o b) y q h e lim st z f n hb (comes t c i s o b y lim)))
 set-lays x T row (i ∷ p) t c s o b y lim st (deeper h f a) =
-    rw (own-holds t c b (goOn p (λ t s o b. walk p t s o b) (stepIn t i s o b)) y lim)
+    rw (own-holds t c s o b (goOn p (λ t s o b. walk p t s o b) (stepIn t i s o b)) y lim)
     (deep-edit x T row i p t c o b (stepIn t i s o b) y h f lim st a (λ t c s o b y l q a. set-lays x T row p t c s o b y l q a) (comes t c i s o b y lim))

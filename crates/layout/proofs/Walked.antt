@@ -17,7 +17,8 @@ use Rattle.schema.specs.Types.{Ty, fix, text, li, ma, ro, Tys, end, _then_, cou
 use Rattle.layout.specs.Tiles.{total}
 use Rattle.layout.specs.Cells.{Cell, leaf, node, flag, bytes, parts, part as partOf}
 use Rattle.layout.specs.Layout.{Codec, number, string, kid, slotOf, struct, array, pair, list, front, limit, codec, kids, Lays}
-use Rattle.layout.specs.Walk.{childTy, Seat, Seen, bad, nullAt, seen, Step, stop, toNull, into, must, own, child, stepIn, goOn, walk}
+use Rattle.layout.specs.Walk.{childTy, Seat, Seen, bad, nullAt, seen, Step, stop, toNull, into, must, own, child, stepIn, goOn, walk, seatAt}
+use Rattle.layout.specs.Refusals.{Refusal, numbered, brokenAt}
 use Rattle.layout.proofs.Cells.{parts-node}
 use Rattle.layout.proofs.Kids.{Sized}
 use Rattle.layout.proofs.Children.{all-length, tails-eight}
@@ -155,7 +156,8 @@ keys-comes k v c s o b y lim =
             counts = rw parts-node (cnt ∙ y .counts);
           });
       put-aside = λ _ u n. keys-aside k v c b u p q (y .whole) lim n (over u n);
-      put-there = λ _ u n z o. (let m′ = map-says c (sets b 8 u) u q (sym (over u n)) (rw length-sets lim) in record { seat = z; was = rw (m .k, m .keys); is = rw (m′ .k, m′ .keys) });
+      put-there = λ _ u n z o. (let m′ = map-says c (sets b 8 u) u q (sym (over u n)) (rw length-sets lim) in
+          record { seat = seatAt (o + 8); was = rw (m .k, m .keys); is = rw (m′ .k, m′ .keys) });
     }) (λ a. absurd a))
   where
     over : (u : List ℕ) → length u ≡ length (y .keysArray) → sets b 8 u ≡ le 8 (length u) ++ (u ++ y .valuesArray)
@@ -189,7 +191,8 @@ values-comes k v c s o b y lim =
             counts = rw parts-node (y .counts ∙ sym cnt);
           });
       put-aside = λ _ u n. values-aside k v c b (sets b (8 + length p) u) p q u (y .whole) lim (length-sets b (8 + length p) u) (sym (over u n));
-      put-there = λ _ u n z o. (let m′ = map-says c (sets b (8 + length p) u) p u (sym (over u n)) (rw length-sets lim) in record { seat = z; was = rw (m .k, m .values); is = rw (m′ .k, m′ .values) });
+      put-there = λ _ u n z o. (let m′ = map-says c (sets b (8 + length p) u) p u (sym (over u n)) (rw length-sets lim) in
+          record { seat = seatAt (o + (8 + length p)); was = rw (m .k, m .values); is = rw (m′ .k, m′ .values) });
     }) (λ a. absurd a))
   where
     over : (u : List ℕ) → length u ≡ length (y .valuesArray) → sets b (8 + length (y .keysArray)) u ≡ le 8 (length (y .keysArray)) ++ (y .keysArray ++ u)
@@ -199,7 +202,7 @@ values-comes k v c s o b y lim =
         rw (← (y .whole)) (rw length-le at (sets-behind (le 8 (length p)) (p ++ q) (length p) u)
         ∙ ap (λ (z : List ℕ). le 8 (length p) ++ z) (ap (λ (j : ℕ). sets (p ++ q) j u) (sym (add-zero (length p))) ∙ sets-behind p q 0 u ∙ ap (λ (z : List ℕ). p ++ z) (sets-whole q u n)))
 
-third-comes : (k v : Ty) (c : Cell) (i o : ℕ) (b : List ℕ) → Lays (ma k v) c b → Comes (ma k v) (li v) c (suc (suc i)) o b (stop 5)
+third-comes : (k v : Ty) (c : Cell) (i o : ℕ) (b : List ℕ) → Lays (ma k v) c b → Comes (ma k v) (li v) c (suc (suc i)) o b (stop (numbered 5))
 unfolding codec pair
 third-comes k v c i o b y = Stepped.past (rw (pair-parts c (partOf 0 c) (partOf 1 c) (y .plain)) (omega arith))
 
@@ -213,14 +216,14 @@ unfolding childTy stepIn codec number string
 comes (fix f) c i s o b y lim = Stepped.past (omega (arith, leaf-parts c (bytes c) (y .fits .plain)))
 comes (text t) c i s o b y lim = Stepped.past (omega (arith, leaf-parts c (bytes c) (y .fits .plain)))
 comes (li t) c i s o b y lim = list-comes t c i o b y lim
-comes (ma k v) c zero s o b y lim = keys-comes k v c s o b y lim
-comes (ma k v) c (suc zero) s o b y lim = values-comes k v c s o b y lim
+comes (ma k v) c zero s o b y lim = keys-comes k v c (seatAt (o + 8)) o b y lim
+comes (ma k v) c (suc zero) s o b y lim = values-comes k v c (seatAt (o + (8 + num (take 8 b)))) o b y lim
 comes (ma k v) c (suc (suc i)) s o b y lim = third-comes k v c i o b y
 comes (ro ts) c i s o b y lim = struct-comes ts c i o b y lim
 
 -- ---- a type's own rules hold of bytes that stand for contents
 
-pub must-yes : {P : Type 0} (d : Dec P) (n : ℕ) (s : Seen) → P → must d n s ≡ s
+pub must-yes : {P : Type 0} (d : Dec P) (n : Refusal) (s : Seen) → P → must d n s ≡ s
 unfolding must
 must-yes (yes p) n s h = refl
 must-yes (no q) n s h = absurd (q h)
@@ -229,21 +232,22 @@ struct-room : (ts : Tys) (c : Cell) (b : List ℕ) → Lays (ro ts) c b → fron
 unfolding codec struct
 struct-room ts c b y = rw (← (kids-count ts)) (omega (arith, body-total 0 8 (kids ts) (kids-lawful ts) (parts c) b (y .body)))
 
-pub own-holds : (t : Ty) (c : Cell) (b : List ℕ) (s : Seen) → Lays t c b → length b < 2 ^ 32 → own t b s ≡ s
+pub own-holds : (t : Ty) (c : Cell) (a : Seat) (o : ℕ) (b : List ℕ) (s : Seen) → Lays t c b → length b < 2 ^ 32 → own t a o b s ≡ s
 unfolding own codec number pair
-own-holds (fix g) c b s y lim = must-yes (decLt (num b) (limit g)) 7 s (rw (← (y .is)) (y .fits .below))
-own-holds (text t) c b s y lim = refl
-own-holds (li t) c b s y lim =
+own-holds (fix g) c p o b s y lim = must-yes (decLt (num b) (limit g)) (brokenAt o) s (rw (← (y .is)) (y .fits .below))
+own-holds (text t) c p o b s y lim = refl
+own-holds (li t) c p o b s y lim =
     let a = list-says t c b y lim in
-    must-yes (decLe 8 (length b)) 7 _ (omega (arith, a .room)) ∙ must-yes (decLe (front 8 (slotOf (codec t .wide)) (num (take 8 b))) (length b)) 7 s (rw (a .count) (a .room))
-own-holds (ma k v) c b s y lim =
+    must-yes (decLe 8 (length b)) _ _ (omega (arith, a .room))
+    ∙ must-yes (decLe (front 8 (slotOf (codec t .wide)) (num (take 8 b))) (length b)) _ s (rw (a .count) (a .room))
+own-holds (ma k v) c p o b s y lim =
     let m = map-says c b (y .keysArray) (y .valuesArray) (y .whole) lim in
     let a = list-says k (partOf 0 c) (y .keysArray) (y .keys) (omega (arith, m .size)) in
     rw (m .k)
-    (must-yes (decLe 8 (length b)) 7 _ (omega (arith, m .size))
-    ∙ must-yes (ℕ-discrete (length (y .keysArray) % 8) 0) 7 _ (a .eight)
-    ∙ must-yes (decLe (8 + length (y .keysArray)) (length b)) 7 s (omega (arith, m .size)))
-own-holds (ro ts) c b s y lim = must-yes (decLe (front 0 8 (count ts)) (length b)) 7 s (struct-room ts c b y)
+    (must-yes (decLe 8 (length b)) _ _ (omega (arith, m .size))
+    ∙ must-yes (ℕ-discrete (length (y .keysArray) % 8) 0) _ _ (a .eight)
+    ∙ must-yes (decLe (8 + length (y .keysArray)) (length b)) _ s (omega (arith, m .size)))
+own-holds (ro ts) c p o b s y lim = must-yes (decLe (front 0 8 (count ts)) (length b)) _ s (struct-room ts c b y)
 
 -- ---- the walk
 
@@ -261,9 +265,9 @@ sits-in {row} {b} {o} j u s e h = record {
 -- what may be found for a path in contents c of type t, which the row holds
 pub data Finds (row : List ℕ) : List ℕ → Ty → Cell → Seen → Type 0 where
   here : {t : Ty} {c : Cell} {s : Seat} {o : ℕ} {u : List ℕ} → Lays t c u → length u < 2 ^ 32 → Sits row o u → Finds row [] t c (seen s o u)
-  past : {i : ℕ} {p : List ℕ} {t : Ty} {c : Cell} → length (parts c) ≤ i → Finds row (i ∷ p) t c (bad 5)
+  past : {i : ℕ} {p : List ℕ} {t : Ty} {c : Cell} → length (parts c) ≤ i → Finds row (i ∷ p) t c (bad (numbered 5))
   missing : {i : ℕ} {t : Ty} {c : Cell} {s : Seat} → i < length (parts c) → flag (partOf i c) ≡ 1 → Finds row (i ∷ []) t c (nullAt s)
-  under : {i j : ℕ} {p : List ℕ} {t : Ty} {c : Cell} → i < length (parts c) → flag (partOf i c) ≡ 1 → Finds row (i ∷ j ∷ p) t c (bad 6)
+  under : {i j : ℕ} {p : List ℕ} {t : Ty} {c : Cell} → i < length (parts c) → flag (partOf i c) ≡ 1 → Finds row (i ∷ j ∷ p) t c (bad (numbered 6))
   on : {i : ℕ} {p : List ℕ} {t : Ty} {c : Cell} {r : Seen} → i < length (parts c) → flag (partOf i c) ≡ 0 → Finds row p (childTy t i) (partOf i c) r → Finds row (i ∷ p) t c r
 
 -- what a walk does of its path after a step
@@ -286,7 +290,7 @@ step-finds row i p t c o b r lim st w (Stepped.on {s = s} {j = j} {u = u} k f h 
 
 pub walk-finds : (row : List ℕ) (p : List ℕ) → Walks row p
 unfolding walk
-walk-finds row [] t c s o b y lim st = rw (own-holds t c b (seen s o b) y lim) (here y lim st)
+walk-finds row [] t c s o b y lim st = rw (own-holds t c s o b (seen s o b) y lim) (here y lim st)
 walk-finds row (i ∷ p) t c s o b y lim st =
-    rw (own-holds t c b (goOn p (λ t s o b. walk p t s o b) (stepIn t i s o b)) y lim)
+    rw (own-holds t c s o b (goOn p (λ t s o b. walk p t s o b) (stepIn t i s o b)) y lim)
     (step-finds row i p t c o b (stepIn t i s o b) lim st (λ t c s o b y l q. walk-finds row p t c s o b y l q) (comes t c i s o b y lim))

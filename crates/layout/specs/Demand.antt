@@ -9,6 +9,7 @@ use lib.ListN.{length}
 use Rattle.words.specs.Bytes.{Bytes, part}
 use Rattle.schema.specs.Types.{Ty, ro, Tys}
 use Rattle.layout.specs.Cells.{Cell}
+use Rattle.layout.specs.Refusals.{Refusal, numbered}
 use Rattle.layout.specs.Layout.{decode}
 use Rattle.layout.specs.Reading as R
 use Rattle.layout.specs.Reading.{Answer, placed, readIn, Alike}
@@ -24,7 +25,7 @@ told row (R.float32 n) = some (S.float32 n)
 told row (R.float64 n) = some (S.float64 n)
 told row (R.bytes o n) = some (S.bytes (part row o n))
 told row (R.container o n k) = none
-told row (R.refused n) = none
+told row (R.refused r) = none
 
 -- what code can pass: 32 and 64 bits of a float, and bytes
 abbrev pub Proper : Setting → Type 0
@@ -44,16 +45,17 @@ pub record Accepted (ts : Tys) (row : List ℕ) : Type 0 where
 
 -- Where document 01 says that a setting of an accepted row is refused: no such place; a null before the path's end; the setting doesn't
 -- fit the place's type, or the place is a container; the place's byte size, or a varying place's nullness, would change.
-pub data Grounds (ts : Tys) (row p : List ℕ) (x : Setting) : ℕ → Type 0 where
-  nowhere : readIn ts row p ≡ R.refused 5 → Grounds ts row p x 5
-  underNull : readIn ts row p ≡ R.refused 6 → Grounds ts row p x 6
-  unfit : {t : Ty} → placed p (ro ts) ≡ some t → refusalIn (readIn ts row p) ≡ none → suits t x ≡ false → Grounds ts row p x 8
-  moves : {t : Ty} → placed p (ro ts) ≡ some t → refusalIn (readIn ts row p) ≡ none → suits t x ≡ true → keeps t (readIn ts row p) x ≡ false → Grounds ts row p x 9
+pub data Grounds (ts : Tys) (row p : List ℕ) (x : Setting) : Refusal → Type 0 where
+  nowhere : readIn ts row p ≡ R.refused (numbered 5) → Grounds ts row p x (numbered 5)
+  underNull : readIn ts row p ≡ R.refused (numbered 6) → Grounds ts row p x (numbered 6)
+  unfit : {t : Ty} → placed p (ro ts) ≡ some t → refusalIn (readIn ts row p) ≡ none → suits t x ≡ false → Grounds ts row p x (numbered 8)
+  moves : {t : Ty} → placed p (ro ts) ≡ some t → refusalIn (readIn ts row p) ≡ none → suits t x ≡ true → keeps t (readIn ts row p) x ≡ false
+      → Grounds ts row p x (numbered 9)
 
--- the number of a refused setting
-unfoldable pub numberIn : Outcome → Option ℕ
-numberIn (refuses n) = some n
-numberIn (becomes row) = none
+-- a refused setting's refusal
+unfoldable pub refusalOf : Outcome → Option Refusal
+refusalOf (refuses r) = some r
+refusalOf (becomes row) = none
 
 -- Of a row, x set at p made row₁ and y set at q made row₂. Setting each where the other was set first leaves the same bytes.
 pub record Meet (ts : Tys) (row₁ row₂ p q : List ℕ) (x y : Setting) : Type 0 where
@@ -75,8 +77,9 @@ pub record Demand3 (ts : Tys) (row : List ℕ) : Type 0 where
   -- settings of two different leaves leave the same bytes in either order
   pub either-order : (p q : List ℕ) (x y : Setting) (row₁ row₂ : List ℕ) → Proper x → Proper y → p ≢ q → setIn ts row p x ≡ becomes row₁ → setIn ts row q y ≡ becomes row₂ → Meet ts row₁ row₂ p q x y
   -- a setting is refused only where document 01 says so
-  pub refused-only : (p : List ℕ) (x : Setting) (n : ℕ) → setIn ts row p x ≡ refuses n → Grounds ts row p x n
-  -- and there it is refused, with that number
-  pub refused-there : (p : List ℕ) (x : Setting) (n : ℕ) → Grounds ts row p x n → setIn ts row p x ≡ refuses n
+  pub refused-only : (p : List ℕ) (x : Setting) (r : Refusal) → setIn ts row p x ≡ refuses r → Grounds ts row p x r
+  -- and there it is refused, in that way
+  pub refused-there : (p : List ℕ) (x : Setting) (r : Refusal) → Grounds ts row p x r → setIn ts row p x ≡ refuses r
   -- and no accepted setting made before it at another leaf changes that
-  pub unmoved : (p q : List ℕ) (x y : Setting) (row′ : List ℕ) → Proper x → p ≢ q → setIn ts row p x ≡ becomes row′ → numberIn (setIn ts row′ q y) ≡ numberIn (setIn ts row q y)
+  pub unmoved : (p q : List ℕ) (x y : Setting) (row′ : List ℕ) → Proper x → p ≢ q → setIn ts row p x ≡ becomes row′
+      → refusalOf (setIn ts row′ q y) ≡ refusalOf (setIn ts row q y)

@@ -1,24 +1,25 @@
 -- The row layout: for each type, which contents fit it, the bytes written for them, all the bytes that stand for them, and how
--- those bytes are read. Assumes nothing: these are definitions.
+-- those bytes are read and judged. Assumes nothing: these are definitions.
 use mathlib.Core.Path.{_≡_}
 use mathlib.Core.Option.{Option, none, some}
 use mathlib.Core.List.{List, [], _∷_, _++_}
 use Prim.Native.Nat.{ℕ, zero, suc, _+_, _*_, _-_, _/_, _%_, _^_, _≤_, _<_}
 use native.Mathlib.Decide.{decLt, ℕ-discrete}
-use lib.ListN.{length, replicate, drop}
-use Rattle.words.specs.Bytes.{Bytes, le, num, fill, pad, padded, bitmap}
+use lib.ListN.{length, replicate, take, drop}
+use Rattle.words.specs.Bytes.{Bytes, le, num, fill, pad, padded, bitmap, zerosAhead, pastByte}
 use Rattle.schema.specs.Types.{Fixed, bo, i1, i2, i4, i8, f4, f8, width, Text, Ty, fix, text, li, ma, ro, Tys, end, _then_}
-use Rattle.layout.specs.Reader.{_>>=_, _>>_, assert, cut}
+use Rattle.layout.specs.Faults.{Place, slot, byte, Read, got, _>>=_, _>>_, assertAt, cutAt, within, yielded, faultIn}
 use Rattle.layout.specs.Tiles.{Range, range, total, Stands, stands?}
 use Rattle.layout.specs.Cells.{Cell, null, leaf, node, onNull, flag, bytes, parts, part}
 
--- wide: the bytes of a fixed width. Lays c b: b is one of the byte strings that stand for c.
+-- wide: the bytes of a fixed width. Lays c b: b is one of the byte strings that stand for c. get b: what b stands for, or where the
+-- first fault is, in the document's order of judging.
 pub record Codec : Type 1 where
   pub wide : Option ℕ
   pub Fits : Cell → Type 0
   pub put : Cell → List ℕ
   pub Lays : Cell → List ℕ → Type 0
-  pub get : List ℕ → Option Cell
+  pub get : List ℕ → Read Cell
 
 -- ---- leaves
 
@@ -41,9 +42,9 @@ number w m = record {
   put = bytes;
   Lays = Exactly (NumberFits w m) bytes;
   get = λ b. (do
-    assert (ℕ-discrete (length b) w)
-    assert (decLt (num b) m)
-    some (leaf b));
+    assertAt (byte 0) (ℕ-discrete (length b) w)
+    assertAt (byte 0) (decLt (num b) m)
+    got (leaf b));
 }
 
 pub record StringFits (c : Cell) : Type 0 where
@@ -57,18 +58,19 @@ string = record {
   Fits = StringFits;
   put = bytes;
   Lays = Exactly StringFits bytes;
-  get = λ b. some (leaf b);
+  get = λ b. got (leaf b);
 }
 
 -- ---- a child in its container: a slot in the fixed part, and variable data
 
--- at: where the container's variable data d starts in it; rs: the ranges of the earlier children, rs′: with its own.
+-- at: where the container's variable data d starts in it; rs: the ranges of the earlier children, rs′: with its own. A child is read
+-- from its slot s, which is the container's byte j and on.
 pub record Kid : Type 1 where
   pub Fits : Cell → Type 0
   pub slot : ℕ → Cell → List ℕ
   pub tail : Cell → List ℕ
   pub Lays : ℕ → List ℕ → List Range → Cell → List ℕ → List Range → Type 0
-  pub get : ℕ → List ℕ → List Range → List ℕ → Option (Cell × List Range)
+  pub get : ℕ → ℕ → List ℕ → List Range → List ℕ → Read (Cell × List Range)
 
 pub record Inside (Lays : Cell → List ℕ → Type 0) (w : ℕ) (rs : List Range) (x : Cell) (s : List ℕ) (rs′ : List Range) : Type 0 where
   pub own : List ℕ
@@ -83,11 +85,11 @@ inside w v c = record {
   slot = λ at x. fill w (c .put x);
   tail = λ x. [];
   Lays = λ at d. Inside (c .Lays) w;
-  get = λ at d rs s. (do
-    (u, rest) ← cut v s
-    x ← c .get u
-    assert (ℕ-discrete (num rest) 0)
-    some (x, rs));
+  get = λ j at d rs s. (do
+    (u, rest) ← cutAt (byte j) v s
+    x ← within j j (c .get u)
+    assertAt (byte (j + v + zerosAhead rest)) (ℕ-discrete (num rest) 0)
+    got (x, rs));
 }
 
 -- A value's bytes, own, stand padded at its place, the slot says place and size, and the range may stand there.
@@ -108,13 +110,13 @@ outside c = record {
   slot = λ at x. le 8 (at * 2 ^ 32 + length (c .put x));
   tail = λ x. padded (c .put x);
   Lays = Placed (c .Lays);
-  get = λ at d rs s. (do
-    assert (stands? at (at + length d) rs (range (num s / 2 ^ 32) (pad (num s % 2 ^ 32))))
-    (u, r) ← cut (num s % 2 ^ 32) (drop (num s / 2 ^ 32 - at) d)
-    x ← c .get u
-    (z, r′) ← cut (pad (num s % 2 ^ 32) - num s % 2 ^ 32) r
-    assert (ℕ-discrete (num z) 0)
-    some (x, range (num s / 2 ^ 32) (pad (num s % 2 ^ 32)) ∷ rs));
+  get = λ j at d rs s. (do
+    assertAt (byte j) (stands? at (at + length d) rs (range (num s / 2 ^ 32) (pad (num s % 2 ^ 32))))
+    (u, r) ← cutAt (byte j) (num s % 2 ^ 32) (drop (num s / 2 ^ 32 - at) d)
+    x ← within j (num s / 2 ^ 32) (c .get u)
+    (z, r′) ← cutAt (byte j) (pad (num s % 2 ^ 32) - num s % 2 ^ 32) r
+    assertAt (byte (num s / 2 ^ 32 + num s % 2 ^ 32 + zerosAhead z)) (ℕ-discrete (num z) 0)
+    got (x, range (num s / 2 ^ 32) (pad (num s % 2 ^ 32)) ∷ rs));
 }
 
 unfoldable pub kidOf : ℕ → Option ℕ → Codec → Kid
@@ -152,9 +154,9 @@ pub record NullLays (w : ℕ) (rs : List Range) (u s : List ℕ) (rs′ : List R
 abbrev pub kidLays : ℕ → Kid → ℕ → List ℕ → List Range → Cell → List ℕ → List Range → Type 0
 kidLays w k at d rs c s rs′ = onNull (λ u. NullLays w rs u s rs′) (k .Lays at d rs c s rs′) c
 
-unfoldable pub kidGet : Kid → ℕ → ℕ → List ℕ → List Range → List ℕ → Option (Cell × List Range)
-kidGet k zero at d rs s = k .get at d rs s
-kidGet k (suc _) at d rs s = some (null s, rs)
+unfoldable pub kidGet : Kid → ℕ → ℕ → ℕ → List ℕ → List Range → List ℕ → Read (Cell × List Range)
+kidGet k zero j at d rs s = k .get j at d rs s
+kidGet k (suc _) j at d rs s = got (null s, rs)
 
 -- ---- children in order
 
@@ -195,14 +197,14 @@ AllLay w at d [] (c ∷ cs) s rs rs′ = ⊥
 AllLay w at d (k ∷ ks) [] s rs rs′ = ⊥
 AllLay w at d (k ∷ ks) (c ∷ cs) s rs rs′ = First (kidLays w k at d rs c) (λ left ranges. AllLay w at d ks cs left ranges rs′) s
 
--- The children in order, from their flags, their slots of w bytes each, and the data; and the ranges of all.
-unfoldable pub reads : ℕ → ℕ → List ℕ → List Kid → ℕ → List ℕ → List Range → Option (List Cell × List Range)
-reads w at d [] m s rs = some ([], rs)
-reads w at d (k ∷ ks) m s rs = do
-  (s₀, left) ← cut w s
-  (c, ranges) ← kidGet k (m % 2) at d rs s₀
-  (cs, rs′) ← reads w at d ks (m / 2) left ranges
-  some (c ∷ cs, rs′)
+-- The children in order, from their flags, their slots of w bytes each, the container's byte j and on, and the data; and the ranges of all.
+unfoldable pub reads : ℕ → ℕ → List ℕ → List Kid → ℕ → ℕ → List ℕ → List Range → Read (List Cell × List Range)
+reads w at d [] j m s rs = got ([], rs)
+reads w at d (k ∷ ks) j m s rs = do
+  (s₀, left) ← cutAt (byte j) w s
+  (c, ranges) ← kidGet k (m % 2) j at d rs s₀
+  (cs, rs′) ← reads w at d ks (j + w) (m / 2) left ranges
+  got (c ∷ cs, rs′)
 
 -- ---- bitmap, slots up to Pad, data: the body of a struct and of a list, behind a header of h bytes
 
@@ -222,17 +224,18 @@ pub record BodyLays (h w : ℕ) (ks : List Kid) (cs : List Cell) (b : List ℕ) 
   pub children : AllLay w (front h w (length ks)) variable ks cs slots [] ranges
   pub ends : total ranges ≡ length variable
 
--- Size and bitmap first, then the children in order, then the zeros behind the slots, then the end.
-unfoldable pub bodyGet : ℕ → ℕ → List Kid → List ℕ → Option (List Cell)
-bodyGet h w ks b = do
-  (m, r) ← cut (bitmap (length ks)) b
-  (s, r′) ← cut (length ks * w) r
-  (z, d) ← cut (pad (length ks * w) - length ks * w) r′
-  assert (decLt (num m) (2 ^ length ks))
-  (cs, rs) ← reads w (front h w (length ks)) d ks (num m) s []
-  assert (ℕ-discrete (num z) 0)
-  assert (ℕ-discrete (total rs) (length d))
-  some cs
+-- The fixed part, with a fault at short where there is no room for it; then the bitmap, then the children in order, then the zeros
+-- behind the slots, then the end.
+unfoldable pub bodyGet : Place → ℕ → ℕ → List Kid → List ℕ → Read (List Cell)
+bodyGet short h w ks b = do
+  (m, r) ← cutAt short (bitmap (length ks)) b
+  (s, r′) ← cutAt short (length ks * w) r
+  (z, d) ← cutAt short (pad (length ks * w) - length ks * w) r′
+  assertAt (byte (h + pastByte (length ks) m)) (decLt (num m) (2 ^ length ks))
+  (cs, rs) ← reads w (front h w (length ks)) d ks (h + bitmap (length ks)) (num m) s []
+  assertAt (byte (h + bitmap (length ks) + length ks * w + zerosAhead z)) (ℕ-discrete (num z) 0)
+  assertAt slot (ℕ-discrete (total rs) (length d))
+  got cs
 
 -- ---- containers
 
@@ -251,8 +254,9 @@ struct ks = record {
   put = λ c. bodyPut 0 8 ks (parts c);
   Lays = StructLays ks;
   get = λ b. (do
-    cs ← bodyGet 0 8 ks b
-    some (node cs));
+    assertAt slot (ℕ-discrete (length b % 8) 0)
+    cs ← bodyGet slot 0 8 ks b
+    got (node cs));
 }
 
 pub record ListFits (w : ℕ) (k : Kid) (c : Cell) : Type 0 where
@@ -273,9 +277,10 @@ array w k = record {
   put = λ c. le 8 (length (parts c)) ++ bodyPut 8 w (replicate (length (parts c)) k) (parts c);
   Lays = ListLays w k;
   get = λ b. (do
-    (h, r) ← cut 8 b
-    cs ← bodyGet 8 w (replicate (num h) k) r
-    some (node cs));
+    assertAt slot (ℕ-discrete (length b % 8) 0)
+    (h, r) ← cutAt slot 8 b
+    cs ← bodyGet (byte 0) 8 w (replicate (num h) k) r
+    got (node cs));
 }
 
 pub record MapFits (k v : Codec) (c : Cell) : Type 0 where
@@ -301,12 +306,14 @@ pair k v = record {
   put = λ c. le 8 (length (k .put (part 0 c))) ++ (k .put (part 0 c) ++ v .put (part 1 c));
   Lays = MapLays k v;
   get = λ b. (do
-    (h, r) ← cut 8 b
-    (p, q) ← cut (num h) r
-    ks ← k .get p
-    vs ← v .get q
-    assert (ℕ-discrete (length (parts ks)) (length (parts vs)))
-    some (node (ks ∷ vs ∷ [])));
+    assertAt slot (ℕ-discrete (length b % 8) 0)
+    (h, r) ← cutAt slot 8 b
+    assertAt (byte 0) (ℕ-discrete (num h % 8) 0)
+    (p, q) ← cutAt (byte 0) (num h) r
+    ks ← within 8 8 (k .get p)
+    assertAt (byte (8 + num h)) (ℕ-discrete (num (take 8 q)) (length (parts ks)))
+    vs ← within (8 + num h) (8 + num h) (v .get q)
+    got (node (ks ∷ vs ∷ [])));
 }
 
 -- ---- types
@@ -349,4 +356,8 @@ Lays t = codec t .Lays
 
 -- what checking and listing read
 abbrev pub decode : Ty → List ℕ → Option Cell
-decode t = codec t .get
+decode t b = yielded (codec t .get b)
+
+-- the place of the first fault of a row, where it has one
+abbrev pub faultAt : Ty → List ℕ → Option ℕ
+faultAt t row = faultIn (codec t .get row)

@@ -1,6 +1,8 @@
 -- The definitions that a reader must believe, in the order in which they build on each other.
 pub mod Cells
 pub mod Reader
+pub mod Faults
+pub mod Refusals
 pub mod Tiles
 pub mod Layout
 pub mod Orders

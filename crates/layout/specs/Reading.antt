@@ -12,10 +12,11 @@ use Rattle.words.specs.Bytes.{num, part}
 use Rattle.words.specs.Signed.{halfOf, toSigned}
 use Rattle.schema.specs.Types.{Fixed, bo, i1, i2, i4, i8, f4, f8, Ty, fix, text, li, ma, ro, Tys, count, field}
 use Rattle.layout.specs.Reader.{_>>_, assert}
+use Rattle.layout.specs.Refusals.{Refusal, numbered}
 use Rattle.layout.specs.Walk.{Seen, bad, nullAt, seen, rootSeat, walk}
 
 -- Null, a bool, a signed number, a float32 or float64 by its bits, a byte range (start, size), a container's range and count; or a
--- refusal's number. Ranges count from the root row's first byte.
+-- refusal. Ranges count from the root row's first byte.
 pub data Answer : Type 0 where
   null : Answer
   bool : Bool → Answer
@@ -24,7 +25,7 @@ pub data Answer : Type 0 where
   float64 : ℕ → Answer
   bytes : ℕ → ℕ → Answer
   container : ℕ → ℕ → ℕ → Answer
-  refused : ℕ → Answer
+  refused : Refusal → Answer
 
 -- ---- what the schema alone shows
 
@@ -57,7 +58,7 @@ valueOf f8 b = float64 (num b)
 
 -- what the walk found at a place of the type; the count is a struct's fields, a list's elements, 2 for a map
 unfoldable pub answerOf : Ty → Seen → Answer
-answerOf t (bad n) = refused n
+answerOf t (bad r) = refused r
 answerOf t (nullAt s) = null
 answerOf (fix f) (seen s o b) = valueOf f b
 answerOf (text t) (seen s o b) = bytes o (length b)
@@ -66,7 +67,7 @@ answerOf (ma k v) (seen s o b) = container o (length b) 2
 answerOf (ro ts) (seen s o b) = container o (length b) (count ts)
 
 unfoldable pub found : Option Ty → Seen → Answer
-found none s = refused 5
+found none s = refused (numbered 5)
 found (some t) s = answerOf t s
 
 -- 5 for what the schema alone shows; then the walk
@@ -84,7 +85,7 @@ held row (float32 n) = []
 held row (float64 n) = []
 held row (bytes o n) = part row o n
 held row (container o n k) = []
-held row (refused n) = []
+held row (refused r) = []
 
 -- the path reads alike in both rows
 pub record Alike (ts : Tys) (row row′ : List ℕ) (p : List ℕ) : Type 0 where

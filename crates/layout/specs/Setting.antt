@@ -7,12 +7,12 @@ use lib.IntN.{ℤ}
 use lib.Dec.{eqb}
 use lib.ListN.{length}
 use lib.Seq.{sets}
-use Rattle.words.specs.Bytes.{le, part, zeros, fill}
+use Rattle.words.specs.Bytes.{le, zeros, fill}
 use Rattle.words.specs.Bits.{digit, putBit}
 use Rattle.words.specs.Signed.{halfOf, ofSigned, inRange}
 use Rattle.schema.specs.Types.{Fixed, bo, i1, i2, i4, i8, f4, f8, Ty, fix, text, li, ma, ro, Tys}
-use Rattle.layout.specs.Cells.{Cell}
-use Rattle.layout.specs.Layout.{decode}
+use Rattle.layout.specs.Refusals.{Refusal, numbered, brokenAt}
+use Rattle.layout.specs.Layout.{faultAt}
 use Rattle.layout.specs.Walk.{Seat, Seen, bad, nullAt, seen, rootSeat, walk}
 use Rattle.layout.specs.Reading as R
 use Rattle.layout.specs.Reading.{Answer, placed, readIn}
@@ -122,7 +122,7 @@ keepsText (R.float32 n) x = true
 keepsText (R.float64 n) x = true
 keepsText (R.bytes o n) x = keepsSize n x
 keepsText (R.container o n k) x = true
-keepsText (R.refused n) x = true
+keepsText (R.refused r) x = true
 
 unfoldable pub keeps : Ty → Answer → Setting → Bool
 keeps (fix f) a x = true
@@ -133,18 +133,18 @@ keeps (ro ts) a x = true
 
 -- ---- the judgement, in its order
 
-abbrev pub unless : Bool → ℕ → Option ℕ
+abbrev pub unless : Bool → ℕ → Option Refusal
 unless true n = none
-unless false n = some n
+unless false n = some (numbered n)
 
 -- the first refusal of two
 infixr 25 _or_
-abbrev pub _or_ : Option ℕ → Option ℕ → Option ℕ
+abbrev pub _or_ : Option Refusal → Option Refusal → Option Refusal
 _or_ none r = r
 _or_ (some n) r = some n
 
--- the number of an answer that refuses
-unfoldable pub refusalIn : Answer → Option ℕ
+-- the refusal of an answer that refuses
+unfoldable pub refusalIn : Answer → Option Refusal
 refusalIn R.null = none
 refusalIn (R.bool v) = none
 refusalIn (R.signed z) = none
@@ -152,11 +152,11 @@ refusalIn (R.float32 n) = none
 refusalIn (R.float64 n) = none
 refusalIn (R.bytes o n) = none
 refusalIn (R.container o n k) = none
-refusalIn (R.refused n) = some n
+refusalIn (R.refused r) = some r
 
 -- 5 and 6 as reading gives them, then 8, then 9
-unfoldable pub judgeAt : Option Ty → Answer → Setting → Option ℕ
-judgeAt none a x = some 5
+unfoldable pub judgeAt : Option Ty → Answer → Setting → Option Refusal
+judgeAt none a x = some (numbered 5)
 judgeAt (some t) a x = refusalIn a or unless (suits t x) 8 or unless (keeps t a x) 9
 
 -- ---- what is written: only the bit and the leaf's own bytes or slot
@@ -180,7 +180,7 @@ textOf (bytes u) = u
 
 -- a present string or binary takes its bytes; a null one takes null, which zeroes its slot
 unfoldable pub write : Ty → Setting → Seen → List ℕ → List ℕ
-write t x (bad n) row = row
+write t x (bad r) row = row
 write (fix f) x (nullAt s) row = writeFixed f x s row
 write (text t) x (nullAt s) row = sets row (s .slot) (zeros (s .wide))
 write (li t) x (nullAt s) row = row
@@ -193,18 +193,19 @@ write (ma k v) x (seen s o b) row = row
 write (ro ts) x (seen s o b) row = row
 
 pub data Outcome : Type 0 where
-  refuses : ℕ → Outcome
+  refuses : Refusal → Outcome
   becomes : List ℕ → Outcome
 
 unfoldable pub writeAt : Option Ty → Setting → Seen → List ℕ → List ℕ
 writeAt none x s row = row
 writeAt (some t) x s row = write t x s row
 
--- 7 for a row that breaks the layout, then the judgement, then what is written
-unfoldable pub outcome : Option Cell → Option ℕ → List ℕ → Outcome
-outcome none r row = refuses 7
-outcome (some c) (some n) row = refuses n
-outcome (some c) none row = becomes row
+-- 7 for a row that breaks the layout, with the place of the fault; then the judgement, then what is written
+unfoldable pub outcome : Option ℕ → Option Refusal → List ℕ → Outcome
+outcome (some place) r row = refuses (brokenAt place)
+outcome none (some r) row = refuses r
+outcome none none row = becomes row
 
 unfoldable pub setIn : Tys → List ℕ → List ℕ → Setting → Outcome
-setIn ts row p x = outcome (decode (ro ts) row) (judgeAt (placed p (ro ts)) (readIn ts row p) x) (writeAt (placed p (ro ts)) x (walk p (ro ts) rootSeat 0 row) row)
+setIn ts row p x =
+    outcome (faultAt (ro ts) row) (judgeAt (placed p (ro ts)) (readIn ts row p) x) (writeAt (placed p (ro ts)) x (walk p (ro ts) rootSeat 0 row) row)

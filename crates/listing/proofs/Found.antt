@@ -16,6 +16,7 @@ use Rattle.schema.specs.Types.{Ty, mark}
 use Rattle.layout.specs.Cells.{Cell, null, leaf, nodes, onNull, flag, part as partOf}
 use Rattle.layout.specs.Layout.{front, codec, Lays}
 use Rattle.layout.specs.Listing.{nu, script}
+use Rattle.layout.specs.Refusals.{numbered, brokenAt}
 use Rattle.layout.specs.Walk.{Seat, Step, stop, toNull, into, mustStep, bySlot, byFlag, seatOf, child}
 use Rattle.layout.proofs.Cells.{present}
 use Rattle.layout.proofs.Stepped as Stepped
@@ -27,7 +28,8 @@ use Rattle.listing.proofs.Held.{holds-lays, lines-of}
 -- ---- what a step shows of the child it comes to
 
 abbrev tag : Step → ℕ
-tag (stop n) = n
+tag (stop (numbered n)) = n
+tag (stop (brokenAt q)) = 7
 tag (toNull s) = 0
 tag (into t s o u) = 1
 
@@ -47,10 +49,11 @@ record Kept (P : Type 0) (Q : Type 0) : Type 0 where
   comes : Q
 
 module _ (T t : Ty) (c : Cell) (i o : ℕ) (b : List ℕ) where
-  stopped : (r : Step) (n : ℕ) → Comes T t c i o b r → r ≡ stop n → n ≡ 5
-  stopped r n (Stepped.past h) e = sym (ap tag e)
-  stopped r n (Stepped.missing k f q) e = absurd (let z : _≡_ {A = ℕ} 0 1 = cc in omega arith)
-  stopped r n (Stepped.on k f h q) e = absurd (let z : _≡_ {A = ℕ} 0 1 = cc in omega arith)
+  -- a step over bytes that stand for contents is nowhere broken
+  unbroken : (r : Step) (q : ℕ) → Comes T t c i o b r → r ≡ stop (brokenAt q) → ⊥
+  unbroken r q (Stepped.past h) e = omega (arith, ap tag e)
+  unbroken r q (Stepped.missing k f z) e = omega (arith, ap tag e)
+  unbroken r q (Stepped.on k f h z) e = omega (arith, ap tag e)
 
   nulled : (r : Step) (s : Seat) → Comes T t c i o b r → r ≡ toNull s → flag (partOf i c) ≡ 1
   nulled r s (Stepped.past h) e = absurd (let z : _≡_ {A = ℕ} 0 1 = cc in omega arith)
@@ -62,10 +65,10 @@ module _ (T t : Ty) (c : Cell) (i o : ℕ) (b : List ℕ) where
   shown r s p u (Stepped.missing k f q) e = absurd (let z : _≡_ {A = ℕ} 0 1 = cc in omega arith)
   shown r s p u (Stepped.on k f h q) e = record { here = f; lays = subst (λ (v : List ℕ). Lays t (partOf i c) v) (ap own e) (h .lays) }
 
-  kept : (P : Type 0) (d : Dec P) (r : Step) → Comes T t c i o b (mustStep d 7 r) → Kept P (Comes T t c i o b r)
+  kept : (P : Type 0) (d : Dec P) (j : ℕ) (r : Step) → Comes T t c i o b (mustStep d (brokenAt j) r) → Kept P (Comes T t c i o b r)
   unfolding mustStep
-  kept P (yes p) r y = record { holds = p; comes = y }
-  kept P (no q) r y = absurd (let z : 7 ≡ 5 = stopped (stop 7) 7 y refl in omega arith)
+  kept P (yes p) j r y = record { holds = p; comes = y }
+  kept P (no q) j r y = absurd (unbroken (stop (brokenAt j)) j y refl)
 
 -- ---- child i of n, in slots of w bytes behind a header of h
 
@@ -102,7 +105,7 @@ module _ (T t : Ty) (c : Cell) (h w n i : ℕ) (b : List ℕ) (k : i < n) (hb : 
   unfolding child mustStep
   by-bit = go (decLt i n) y
     where
-      go : (d : Dec (i < n)) → Comes T t c i 0 b (mustStep d 5 (byFlag bit₀ seat (bySlot (codec t .wide) t seat (front h w n) 0 slot b)))
+      go : (d : Dec (i < n)) → Comes T t c i 0 b (mustStep d (numbered 5) (byFlag bit₀ seat (bySlot (codec t .wide) t seat (front h w n) 0 slot b)))
           → Comes T t c i 0 b (byFlag bit₀ seat (bySlot (codec t .wide) t seat (front h w n) 0 slot b))
       go (yes p) z = z
       go (no q) z = absurd (q k)
@@ -122,9 +125,9 @@ module _ (T t : Ty) (c : Cell) (h w n i : ℕ) (b : List ℕ) (k : i < n) (hb : 
   by-slot (some v) z = record { within = tt; bytes = bytes-part slot v hb; small = small-part slot v; shown = shown T t c i 0 b _ seat _ (part b slot v) z refl }
   by-slot none z =
       let x = num (part b slot 8) in
-      let z₁ = kept T t c i 0 b _ (decLe (front h w n) (x / 2 ^ 32)) _ z in
-      let z₂ = kept T t c i 0 b _ (ℕ-discrete (x / 2 ^ 32 % 8) 0) _ (z₁ .comes) in
-      let z₃ = kept T t c i 0 b _ (decLe (x / 2 ^ 32 + x % 2 ^ 32) (length b)) _ (z₂ .comes) in
+      let z₁ = kept T t c i 0 b _ (decLe (front h w n) (x / 2 ^ 32)) (seat .slot) _ z in
+      let z₂ = kept T t c i 0 b _ (ℕ-discrete (x / 2 ^ 32 % 8) 0) (seat .slot) _ (z₁ .comes) in
+      let z₃ = kept T t c i 0 b _ (decLe (x / 2 ^ 32 + x % 2 ^ 32) (length b)) (seat .slot) _ (z₂ .comes) in
       record { within = z₃ .holds; bytes = bytes-part (x / 2 ^ 32) (x % 2 ^ 32) hb; small = small-part (x / 2 ^ 32) (x % 2 ^ 32); shown = shown T t c i 0 b _ seat _ (part b (x / 2 ^ 32) (x % 2 ^ 32)) (z₃ .comes) refl }
 
   zero-bit : bit b h i ≡ false → bit₀ ≡ 0

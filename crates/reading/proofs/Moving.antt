@@ -18,11 +18,13 @@ use Rattle.schema.specs.declared.Opened.{Opened}
 use Rattle.schema.specs.declared.Opened.the-variants.{Fixed as OFixed, Text as OText, List as OList, Map as OMap, Struct as OStruct, Nothing as ONothing}
 use Rattle.schema.proofs.Typing.{typed-count}
 use Rattle.layout.specs.Layout.{front, slotOf, codec}
+use Rattle.layout.specs.Refusals.{numbered}
 use Rattle.layout.specs.Walk as W
 use Rattle.layout.specs.Walk.{stop, into, stepIn}
 use Rattle.layout.specs.Reading.{typeAt as typeOn}
 use Rattle.reading.specs.Children.{seatAs, wideOf, childAs, SeatIn, ChildIn, IsChild, Comes}
-use Rattle.reading.specs.Places.{openTy, OpenIs, Fields, OpenSmall, wideX, slotWidth, holdsOf, structHolds, Row, placeTy, bytesOf, Sized, Seated, Rests, Stands, Lots, entering, nextAs, Tells, Moves, Steps, Enters, Into, IntoList, IntoMap, IntoStruct}
+use Rattle.reading.specs.Places.{openTy, OpenIs, Fields, OpenSmall, wideX, slotWidth, holdsOf, brokenX, structHolds, Row, placeTy, bytesOf, Sized}
+use Rattle.reading.specs.Places.{Seated, Rests, Stands, Lots, entering, nextAs, Tells, Moves, Steps, Enters, Into, IntoList, IntoMap, IntoStruct}
 use Rattle.reading.specs.declared.Seat.{Seat}
 use Rattle.reading.specs.declared.Place.{Place}
 use Rattle.reading.specs.declared.Child.{Child}
@@ -32,7 +34,8 @@ use Rattle.reading.specs.declared.Lot.the-variants.{Nowhere as LNowhere,
 use Rattle.reading.specs.declared.Next.{Next}
 use Rattle.reading.specs.declared.Next.the-variants.{Nowhere, Broken, Null, To}
 use Rattle.reading.proofs.Pointing.{wide-8, slot-codec, step-no}
-use Rattle.reading.proofs.Rules.{fixed-some, wide-open, open-small, list-says, map-says, header-is, slot-some, slot-enough, slot-most, slot-zero}
+use Rattle.reading.proofs.Rules.{broken-is, fixed-some, wide-open, open-small, list-says, map-says, header-is, slot-some, slot-enough, slot-most}
+use Rattle.reading.proofs.Rules.{slot-zero}
 use Rattle.reading.proofs.Kin.{assert-some, assert-none}
 
 -- ---- into a place
@@ -42,9 +45,10 @@ module _ (s row : List ℕ) (p : Place) (R : Rests s row p) (t : Bool) (e : t �
   unfolding nextAs entering
   settled g = record { means = rw (sym e ∙ g); lands = record { rests = R; holds = sym e ∙ g }; tells = refl }
 
-  pub unsettled : t ≡ false → Moves s row Broken (into (placeTy s p) (seatAs (p .seat)) (p .start) (bytesOf row p)) (some (placeTy s p))
+  pub unsettled : t ≡ false → (q : ℕ) → q ≡ brokenX (p .opened) (p .seat .slot) (p .start) (p .len)
+      → Moves s row (Broken q) (into (placeTy s p) (seatAs (p .seat)) (p .start) (bytesOf row p)) (some (placeTy s p))
   unfolding nextAs entering
-  unsettled g = record { means = rw (sym e ∙ g); lands = tt; tells = tt }
+  unsettled g q eq = record { means = rw (sym e ∙ g, eq, broken-is s row p R); lands = tt; tells = tt }
 
 -- ---- into a child
 
@@ -66,9 +70,9 @@ seated-at row (OStruct f n) z h = tt
 seated-at row ONothing z h = tt
 
 module _ (s row : List ℕ) (y : Opened) (e : ℕ) (c : Child) (E : Enters s row y e c) where
-  pub enter-broken : c ≡ CBroken → Moves s row Broken (childAs (openTy s e y) row c) (some (openTy s e y))
+  pub enter-broken : (j : ℕ) → c ≡ CBroken j → Moves s row (Broken j) (childAs (openTy s e y) row c) (some (openTy s e y))
   unfolding nextAs entering childAs
-  enter-broken q = rw q (record { means = refl; lands = tt; tells = tt })
+  enter-broken j q = rw q (record { means = refl; lands = tt; tells = tt })
 
   pub enter-null : (z : Seat) → c ≡ CNull z → Moves s row (Null y e z) (childAs (openTy s e y) row c) (some (openTy s e y))
   unfolding nextAs entering childAs
@@ -92,7 +96,7 @@ module _ (s row : List ℕ) (y : Opened) (e : ℕ) (c : Child) (E : Enters s row
 moved : {s row : List ℕ} {r : Next} {z z′ : W.Step} {o o′ : Option Ty} → Moves s row r z o → z ≡ z′ → o ≡ o′ → Moves s row r z′ o′
 moved {s} {row} {r} {z} {z′} {o} {o′} m e f = record { means = m .means ∙ ap entering e; lands = m .lands; tells = subst (Tells s r) f (m .tells) }
 
-stopped : (s row : List ℕ) (z : W.Step) (o : Option Ty) → z ≡ stop 5 → Moves s row Nowhere z o
+stopped : (s row : List ℕ) (z : W.Step) (o : Option Ty) → z ≡ stop (numbered 5) → Moves s row Nowhere z o
 unfolding nextAs entering
 stopped s row z o e = rw e (record { means = refl; lands = tt; tells = tt })
 
@@ -140,7 +144,7 @@ module _ (s row : List ℕ) (p : Place) (i : ℕ) (y : Opened) (e : ℕ) (L : In
 
     pub list-stop : n ≤ i → Steps s row p i Nowhere
     unfolding stepIn W.child
-    list-stop h = stopped s row _ _ (rw (list-ty, counted) (step-no (decLt i n) 5 _ (λ l. omega arith)))
+    list-stop h = stopped s row _ _ (rw (list-ty, counted) (step-no (decLt i n) (numbered 5) _ (λ l. omega arith)))
 
     module _ (h : i < n) (v : ℕ) (u : v ≡ wideX y) (w : ℕ) (g : w ≡ slotWidth v) where
       slot-is : slotOf (codec (typeAt s (L .element) (p .depth)) .wide) ≡ w
@@ -264,19 +268,26 @@ module _ (s row : List ℕ) (p : Place) (i : ℕ) (y : Opened) (e : ℕ) (L : In
     pub keys-room : 8 + z ≤ p .len
     keys-room = rw (keys-size, map-whole) at (map-says _ _ _ map-holds .keys)
 
-    pub array-rests : (o k : ℕ) → o + k ≤ length row → Rests s row (record { opened = y; depth = e; seat = p .seat; start = o; len = k })
+    -- an array has its first byte for a slot
+    abbrev pub arraySeat : ℕ → Seat
+    arraySeat o = record { bits = 0; number = 0; slot = o; wide = 0 }
+
+    pub array-rests : (o k : ℕ) → o + k ≤ length row → Rests s row (record { opened = y; depth = e; seat = arraySeat o; start = o; len = k })
     array-rests o k h = go arrays
       where
-        made : (t : Ty) → openTy s e y ≡ li t → Rests s row (record { opened = y; depth = e; seat = p .seat; start = o; len = k })
+        made : (t : Ty) → openTy s e y ≡ li t → Rests s row (record { opened = y; depth = e; seat = arraySeat o; start = o; len = k })
         made t u =
-            let l = holder s row e y (p .seat) k (L .into .is) (rw u tt) in
+            let l = holder s row e y (arraySeat o) k (L .into .is) (rw u tt) in
             record { is = L .into .is; within = h; short = L .into .stands .rests .short; sized = l .0; seated = l .1 }
 
-        go : ((i ≡ 0) × (openTy s e y ≡ li (typeAt s (L .keys) (p .depth)))) ⊎ ((i ≡ 1) × (openTy s e y ≡ li (typeAt s (L .values) (p .depth)))) → Rests s row (record { opened = y; depth = e; seat = p .seat; start = o; len = k })
+        go : ((i ≡ 0) × (openTy s e y ≡ li (typeAt s (L .keys) (p .depth)))) ⊎ ((i ≡ 1) × (openTy s e y ≡ li (typeAt s (L .values) (p .depth))))
+            → Rests s row (record { opened = y; depth = e; seat = arraySeat o; start = o; len = k })
         go (inl x) = made _ (x .1)
         go (inr x) = made _ (x .1)
 
-    pub keys-step : i ≡ 0 → (r : Next) → Moves s row r (into (openTy s e y) (seatAs (p .seat)) (p .start + 8) (part row (p .start + 8) z)) (some (openTy s e y)) → Steps s row p i r
+    pub keys-step : i ≡ 0 → (r : Next)
+        → Moves s row r (into (openTy s e y) (seatAs (arraySeat (p .start + 8))) (p .start + 8) (part row (p .start + 8) z)) (some (openTy s e y))
+        → Steps s row p i r
     unfolding stepIn
     keys-step j r m = go arrays
       where
@@ -287,7 +298,9 @@ module _ (s row : List ℕ) (p : Place) (i : ℕ) (y : Opened) (e : ℕ) (L : In
     values-bytes : drop (8 + z) (bytesOf row p) ≡ part row (p .start + (8 + z)) (p .len - (8 + z))
     values-bytes = drop-part (bytesOf row p) (8 + z) ∙ rw map-whole (part-part row (p .start) (p .len) (8 + z) (p .len - (8 + z)) (omega (arith, keys-room)))
 
-    pub values-step : (i ≡ 0 → ⊥) → (r : Next) → Moves s row r (into (openTy s e y) (seatAs (p .seat)) (p .start + (8 + z)) (part row (p .start + (8 + z)) (p .len - (8 + z)))) (some (openTy s e y)) → Steps s row p i r
+    pub values-step : (i ≡ 0 → ⊥) → (r : Next)
+        → Moves s row r (into (openTy s e y) (seatAs (arraySeat (p .start + (8 + z)))) (p .start + (8 + z))
+        (part row (p .start + (8 + z)) (p .len - (8 + z)))) (some (openTy s e y)) → Steps s row p i r
     unfolding stepIn
     values-step j r m = go arrays
       where
@@ -309,7 +322,7 @@ pub no-step : (s row : List ℕ) (p : Place) (i : ℕ) (y : Opened) (e : ℕ) �
 no-step s row p i y e I q = rw q at (I .stands .rests .is)
 
 -- where the schema has no such place, the step is refused with 5
-no-kin : (t : Ty) (i : ℕ) (z : W.Seat) (o : ℕ) (b : List ℕ) → none ≡ typeOn (i ∷ []) t → stepIn t i z o b ≡ stop 5
+no-kin : (t : Ty) (i : ℕ) (z : W.Seat) (o : ℕ) (b : List ℕ) → none ≡ typeOn (i ∷ []) t → stepIn t i z o b ≡ stop (numbered 5)
 unfolding typeOn stepIn W.child
 no-kin (fix f) i z o b e = refl
 no-kin (text f) i z o b e = refl
@@ -317,7 +330,7 @@ no-kin (li t) i z o b e = let x : _≡_ {A = ℕ} 0 1 = cc in absurd (omega arit
 no-kin (ma k v) zero z o b e = let x : _≡_ {A = ℕ} 0 1 = cc in absurd (omega arith)
 no-kin (ma k v) (suc zero) z o b e = let x : _≡_ {A = ℕ} 0 1 = cc in absurd (omega arith)
 no-kin (ma k v) (suc (suc i)) z o b e = refl
-no-kin (ro ts) i z o b e = step-no (decLt i (count ts)) 5 _ (assert-none (decLt i (count ts)) _ e)
+no-kin (ro ts) i z o b e = step-no (decLt i (count ts)) (numbered 5) _ (assert-none (decLt i (count ts)) _ e)
 
 pub nowhere-step : (s row : List ℕ) (p : Place) (i : ℕ) (r : Lot) → Lots s r (typeOn (i ∷ []) (placeTy s p)) → r ≡ LNowhere → Steps s row p i Nowhere
 nowhere-step s row p i r l q = stopped s row _ _ (no-kin (placeTy s p) i _ _ _ (rw q at (l .means)))

@@ -20,6 +20,7 @@ use Rattle.schema.specs.declared.Judged.the-variants.{Accepted}
 use Rattle.schema.specs.declared.Opened.{Opened}
 use Rattle.schema.proofs.Judging.{accepted-root}
 use Rattle.layout.specs.Reader.{_>>_, assert}
+use Rattle.layout.specs.Refusals.{Refusal, numbered, brokenAt}
 use Rattle.layout.specs.Walk as W
 use Rattle.layout.specs.Walk.{Seen, bad, seen, stop, toNull, into, own, stepIn, goOn, rootSeat, walk}
 use Rattle.layout.specs.Reading.{typeAt as typeOn, placed}
@@ -29,7 +30,7 @@ use Rattle.answers.specs.declared.Path.{Path}
 use Rattle.answers.specs.Paths.{pathOf}
 use Rattle.answers.proofs.PathLaws.{length-path, path-at}
 use Rattle.reading.specs.Children.{seatAs}
-use Rattle.reading.specs.Places.{openTy, OpenIs, holdsOf, placeTy, bytesOf, Rests, Stands, Lots, NullIn, entering, nextAs, Steps}
+use Rattle.reading.specs.Places.{openTy, OpenIs, holdsOf, brokenIn, brokenX, placeTy, bytesOf, Rests, Stands, Lots, NullIn, entering, nextAs, Steps}
 use Rattle.reading.specs.Finding.{foundAs, nullAs, Asks, From, Goes, Walks, seenIn, Finds}
 use Rattle.reading.specs.declared.Seat.{Seat}
 use Rattle.reading.specs.declared.Place.{Place}
@@ -39,7 +40,7 @@ use Rattle.reading.specs.declared.Next.{Next}
 use Rattle.reading.specs.declared.Next.the-variants.{Nowhere, Broken, Null, To}
 use Rattle.reading.specs.declared.Found.{Found}
 use Rattle.reading.specs.declared.Found.the-variants.{NoPlace, Broken as FBroken, At}
-use Rattle.reading.proofs.Rules.{own-is, open-type, open-is}
+use Rattle.reading.proofs.Rules.{own-is, broken-is, open-type, open-is}
 use Rattle.reading.proofs.Kin.{assert-no}
 use Rattle.reading.proofs.Moving.{holder}
 
@@ -122,20 +123,20 @@ module _ (s : List ℕ) (path : Path) (x : Opened) (d k : ℕ) (O : OnKin s path
 
 -- ---- the walk in the row
 
-own-yes : (t : Ty) (b : List ℕ) (s : Seen) → holdsOf t b ≡ true → own t b s ≡ s
-own-yes t b s e = own-is t b s ∙ rw e
+own-yes : (t : Ty) (z : W.Seat) (o : ℕ) (b : List ℕ) (s : Seen) → holdsOf t b ≡ true → own t z o b s ≡ s
+own-yes t z o b s e = own-is t z o b s ∙ rw e
 
-own-no : (t : Ty) (b : List ℕ) (s : Seen) → holdsOf t b ≡ false → own t b s ≡ bad 7
-own-no t b s e = own-is t b s ∙ rw e
+own-no : (t : Ty) (z : W.Seat) (o : ℕ) (b : List ℕ) (s : Seen) → holdsOf t b ≡ false → own t z o b s ≡ bad (brokenAt (brokenIn t z o b))
+own-no t z o b s e = own-is t z o b s ∙ rw e
 
-pub walk-no : (p : List ℕ) (t : Ty) (z : W.Seat) (o : ℕ) (b : List ℕ) → holdsOf t b ≡ false → walk p t z o b ≡ bad 7
+pub walk-no : (p : List ℕ) (t : Ty) (z : W.Seat) (o : ℕ) (b : List ℕ) → holdsOf t b ≡ false → walk p t z o b ≡ bad (brokenAt (brokenIn t z o b))
 unfolding walk
-walk-no [] t z o b e = own-no t b _ e
-walk-no (i ∷ p) t z o b e = own-no t b _ e
+walk-no [] t z o b e = own-no t z o b _ e
+walk-no (i ∷ p) t z o b e = own-no t z o b _ e
 
 walk-end : (t : Ty) (z : W.Seat) (o : ℕ) (b : List ℕ) → holdsOf t b ≡ true → walk [] t z o b ≡ seen z o b
 unfolding walk
-walk-end t z o b e = own-yes t b _ e
+walk-end t z o b e = own-yes t z o b _ e
 
 abbrev onward : List ℕ → W.Step → Seen
 onward p z = goOn p (λ t s o b. walk p t s o b) z
@@ -146,16 +147,16 @@ enters p (stop n) = refl
 enters p (toNull x) = refl
 enters p (into t x o b) = go p (holdsOf t b) refl
   where
-    go : (p : List ℕ) (h : Bool) → holdsOf t b ≡ h → onward p (into t x o b) ≡ onward p (pick h (into t x o b) (stop 7))
+    go : (p : List ℕ) (h : Bool) → holdsOf t b ≡ h → onward p (into t x o b) ≡ onward p (pick h (into t x o b) (stop (brokenAt (brokenIn t x o b))))
     go p true e = refl
     go [] false e = walk-no [] t x o b e
     go (i ∷ p) false e = walk-no (i ∷ p) t x o b e
 
 walk-on : (i : ℕ) (p : List ℕ) (t : Ty) (z : W.Seat) (o : ℕ) (b : List ℕ) → holdsOf t b ≡ true → walk (i ∷ p) t z o b ≡ onward p (entering (stepIn t i z o b))
 unfolding walk
-walk-on i p t z o b e = own-yes t b _ e ∙ enters p (stepIn t i z o b)
+walk-on i p t z o b e = own-yes t z o b _ e ∙ enters p (stepIn t i z o b)
 
-on-stop : (p : List ℕ) (n : ℕ) → onward p (stop n) ≡ bad n
+on-stop : (p : List ℕ) (n : Refusal) → onward p (stop n) ≡ bad n
 unfolding goOn
 on-stop [] n = refl
 on-stop (i ∷ p) n = refl
@@ -191,11 +192,11 @@ module _ (s row : List ℕ) (path : Path) (from at : Place) (k : ℕ) (O : OnWal
 
     pub walk-nowhere : r ≡ Nowhere → Goes s row from (pathOf path) NoPlace
     unfolding foundAs nextAs
-    walk-nowhere u = record { means = sym (goes ∙ rw u (on-stop _ 5)); tells = tt; lands = tt }
+    walk-nowhere u = record { means = sym (goes ∙ rw u (on-stop _ (numbered 5))); tells = tt; lands = tt }
 
-    pub walk-broken : r ≡ Broken → Goes s row from (pathOf path) FBroken
+    pub walk-broken : (j : ℕ) → r ≡ Broken j → Goes s row from (pathOf path) (FBroken j)
     unfolding foundAs nextAs
-    walk-broken u = record { means = sym (goes ∙ rw u (on-stop _ 7)); tells = tt; lands = tt }
+    walk-broken j u = record { means = sym (goes ∙ rw u (on-stop _ (brokenAt j))); tells = tt; lands = tt }
 
     module _ (x : Opened) (d : ℕ) (z : Seat) (u : r ≡ Null x d z) where
       null-in : NullIn s row x d z
@@ -251,9 +252,11 @@ module _ (s row : List ℕ) (path : Path) (A : Asks s row path) (x : Opened) (e 
     pub root-walks : (f : Found) → Goes s row rootPlace (pathOf path) f → Walks s row (pathOf path) f
     root-walks f w = record { means = rw (ty, part-whole row) at (w .means); tells = rw ty at (w .tells); lands = w .lands }
 
-    pub root-broken : t ≡ false → Walks s row (pathOf path) FBroken
+    pub root-broken : t ≡ false → (q : ℕ) → q ≡ brokenX x 0 0 (length row) → Walks s row (pathOf path) (FBroken q)
     unfolding foundAs
-    root-broken h = record { means = sym (walk-no (pathOf path) (ro (fieldsOf s)) rootSeat 0 row (rw (ty, part-whole row) at (sym g ∙ h))); tells = tt; lands = tt }
+    root-broken h q eq =
+        let e : q ≡ brokenIn (ro (fieldsOf s)) rootSeat 0 row = eq ∙ rw (ty, part-whole row) at (broken-is s row rootPlace root-rests) in
+        record { means = rw e (sym (walk-no (pathOf path) (ro (fieldsOf s)) rootSeat 0 row (rw (ty, part-whole row) at (sym g ∙ h)))); tells = tt; lands = tt }
 
 -- ---- what the schema alone shows, first
 

@@ -19,6 +19,7 @@ use Rattle.schema.specs.Types.{Fixed, bo, i1, i2, i4, i8, f4, f8, Ty, fix, text
 use Rattle.schema.specs.Marks.{types}
 use Rattle.schema.proofs.Table.{width-8}
 use Rattle.layout.specs.Layout.{front, slotOf, number, string, array, pair, struct, codec}
+use Rattle.layout.specs.Refusals.{Refusal, numbered, brokenAt}
 use Rattle.layout.specs.Walk as W
 use Rattle.layout.specs.Walk.{stop, mustStep, bySlot, byFlag, seatOf}
 use Rattle.reading.specs.Children.{wideOf, childAs, SeatIn, ChildIn, SlotOf, Points, IsChild, Comes}
@@ -27,12 +28,12 @@ use Rattle.reading.specs.declared.Seat.{Seat}
 use Rattle.reading.specs.declared.Child.{Child}
 use Rattle.reading.specs.declared.Child.the-variants.{Broken, Null, At}
 
-pub step-yes : {P : Type 0} (q : Dec P) (n : ℕ) (s : W.Step) → P → mustStep q n s ≡ s
+pub step-yes : {P : Type 0} (q : Dec P) (n : Refusal) (s : W.Step) → P → mustStep q n s ≡ s
 unfolding mustStep
 step-yes (yes p) n s h = refl
 step-yes (no x) n s h = absurd (x h)
 
-pub step-no : {P : Type 0} (q : Dec P) (n : ℕ) (s : W.Step) → (P → ⊥) → mustStep q n s ≡ stop n
+pub step-no : {P : Type 0} (q : Dec P) (n : Refusal) (s : W.Step) → (P → ⊥) → mustStep q n s ≡ stop n
 unfolding mustStep
 step-no (yes p) n s h = absurd (h p)
 step-no (no x) n s h = refl
@@ -89,23 +90,29 @@ module _ (row : List ℕ) (base size f : ℕ) (s : Seat) (P : SlotOf row base si
   whole : length (part row base size) ≡ size
   whole = length-part row base size (P .within)
 
-  pub pointed-low : off < f → Points row base size f s Broken
+  pub pointed-low : off < f → Points row base size f s (Broken (s .slot))
   unfolding childAs bySlot
-  pointed-low h = record { means = λ t. rw (slot-number, ← o, ← l) (sym (step-no _ 7 _ (λ q. omega arith))); lands = tt }
+  pointed-low h = record { means = λ t. rw (slot-number, ← o, ← l) (sym (step-no _ (brokenAt (s .slot)) _ (λ q. omega arith))); lands = tt }
 
-  pub pointed-odd : f ≤ off → (off % 8 ≡ 0 → ⊥) → Points row base size f s Broken
+  pub pointed-odd : f ≤ off → (off % 8 ≡ 0 → ⊥) → Points row base size f s (Broken (s .slot))
   unfolding childAs bySlot
-  pointed-odd h k = record { means = λ t. rw (slot-number, ← o, ← l) (sym (step-yes _ 7 _ h ∙ step-no _ 7 _ k)); lands = tt }
+  pointed-odd h k =
+      record { means = λ t. rw (slot-number, ← o, ← l) (sym (step-yes _ (brokenAt (s .slot)) _ h ∙ step-no _ (brokenAt (s .slot)) _ k)); lands = tt }
 
-  pub pointed-long : f ≤ off → off % 8 ≡ 0 → size < off + len → Points row base size f s Broken
+  pub pointed-long : f ≤ off → off % 8 ≡ 0 → size < off + len → Points row base size f s (Broken (s .slot))
   unfolding childAs bySlot
   pointed-long h k m =
-      record { means = λ t. rw (slot-number, ← o, ← l, whole) (sym (step-yes _ 7 _ h ∙ step-yes _ 7 _ k ∙ step-no _ 7 _ (λ q. omega arith))); lands = tt }
+      record {
+        means = λ t. rw (slot-number, ← o, ← l, whole)
+            (sym (step-yes _ (brokenAt (s .slot)) _ h ∙ step-yes _ (brokenAt (s .slot)) _ k ∙ step-no _ (brokenAt (s .slot)) _ (λ q. omega arith)));
+        lands = tt;
+      }
 
   pub pointed-at : f ≤ off → off % 8 ≡ 0 → off + len ≤ size → Points row base size f s (At s (base + off) len)
   unfolding childAs bySlot
   pointed-at h k m = record {
-    means = λ t. rw (slot-number, ← o, ← l, whole, part-part row base size off len m) (sym (step-yes _ 7 _ h ∙ step-yes _ 7 _ k ∙ step-yes _ 7 _ m));
+    means = λ t. rw (slot-number, ← o, ← l, whole, part-part row base size off len m)
+        (sym (step-yes _ (brokenAt (s .slot)) _ h ∙ step-yes _ (brokenAt (s .slot)) _ k ∙ step-yes _ (brokenAt (s .slot)) _ m));
     lands = record { within = omega (arith, P .within); sized = inl refl; seated = P .seated };
   }
 
@@ -156,7 +163,7 @@ module _ (row : List ℕ) (base size h n w v i : ℕ) (s : IsChild row base size
       unfolding childAs W.child byFlag
       null-child g =
           let z : num (part (part row base size) h (bitmap n)) / 2 ^ i % 2 ≡ 1 = eqb-true _ 1 (flag-is b t e ∙ g) in
-          record { means = λ y u. rw (q, z) (sym (step-yes (decLt i n) 5 _ (s .child))); lands = seated }
+          record { means = λ y u. rw (q, z) (sym (step-yes (decLt i n) (numbered 5) _ (s .child))); lands = seated }
 
       module _ (g : t ≡ false) where
         here : num (part (part row base size) h (bitmap n)) / 2 ^ i % 2 ≡ 0
@@ -164,7 +171,7 @@ module _ (row : List ℕ) (base size h n w v i : ℕ) (s : IsChild row base size
 
         child-is : (y : Ty) → bySlot (codec y .wide) y (seatOf h w n i base) (front h w n) base (h + (bitmap n + i * w)) (part row base size) ≡ W.child h w n y i base (part row base size)
         unfolding W.child byFlag
-        child-is y = rw here (sym (step-yes (decLt i n) 5 _ (s .child)))
+        child-is y = rw here (sym (step-yes (decLt i n) (numbered 5) _ (s .child)))
 
         wide-is : (y : Ty) (k : ℕ) → wideOf y ≡ k → codec y .wide ≡ wideOpt k
         wide-is y k u = wide-codec y ∙ ap wideOpt u
@@ -179,7 +186,7 @@ module _ (row : List ℕ) (base size h n w v i : ℕ) (s : IsChild row base size
         }
           where
             lift : (r : Child) → ChildIn row 0 r → ChildIn row v r
-            lift Broken l = tt
+            lift (Broken k) l = tt
             lift (Null x) l = record { flag = l .flag; room = l .room; wide = rw z (l .wide) }
             lift (At x o c) l = record { within = l .within; sized = inl z; seated = record { flag = l .seated .flag; room = l .seated .room; wide = rw z (l .seated .wide) } }
 

@@ -22,43 +22,54 @@ use Rattle.schema.specs.declared.Opened.the-variants.{Fixed as OFixed, Text as 
 use Rattle.schema.proofs.Table.{width-pos}
 use Rattle.schema.proofs.Typing.{opens, typed-count}
 use Rattle.layout.specs.Layout.{slotOf, front, limit, codec}
-use Rattle.layout.specs.Walk.{Seen, bad, must, own}
-use Rattle.reading.specs.Children.{wideOf}
-use Rattle.reading.specs.Places.{openTy, OpenIs, Fields, OpenSmall, wideX, slotWidth, listHolds, mapHolds, structHolds, holdsOf, Row, Leaf, Rests, placeTy, bytesOf}
+use Rattle.layout.specs.Refusals.{Refusal, brokenAt}
+use Rattle.layout.specs.Walk.{Seat, Seen, bad, must, own}
+use Rattle.reading.specs.Children.{seatAs, wideOf}
+use Rattle.reading.specs.Places.{openTy, OpenIs, Fields, OpenSmall, wideX, slotWidth, listHolds, mapHolds, structHolds, holdsOf, brokenIn, bySize}
+use Rattle.reading.specs.Places.{brokenX, Row, Leaf, Rests, placeTy, bytesOf}
 use Rattle.reading.specs.declared.Place.{Place}
 use Rattle.reading.proofs.Pointing.{wide-8, slot-codec}
 
 -- ---- the rules
 
-must-le : (a b : ℕ) (q : Dec (a ≤ b)) (s : Seen) → must q 7 s ≡ pick (leb a b) s (bad 7)
+must-le : (a b : ℕ) (q : Dec (a ≤ b)) (r : Refusal) (s : Seen) → must q r s ≡ pick (leb a b) s (bad r)
 unfolding must
-must-le a b (yes p) s = rw (le-leb a b p)
-must-le a b (no n) s = rw (lt-leb a b (omega arith))
+must-le a b (yes p) r s = rw (le-leb a b p)
+must-le a b (no n) r s = rw (lt-leb a b (omega arith))
 
-must-lt : (a b : ℕ) (q : Dec (a < b)) (s : Seen) → must q 7 s ≡ pick (ltb a b) s (bad 7)
+must-lt : (a b : ℕ) (q : Dec (a < b)) (r : Refusal) (s : Seen) → must q r s ≡ pick (ltb a b) s (bad r)
 unfolding must
-must-lt a b (yes p) s = rw (lt-ltb a b p)
-must-lt a b (no n) s = rw (le-ltb a b (omega arith))
+must-lt a b (yes p) r s = rw (lt-ltb a b p)
+must-lt a b (no n) r s = rw (le-ltb a b (omega arith))
 
-must-eq : (a b : ℕ) (q : Dec (a ≡ b)) (s : Seen) → must q 7 s ≡ pick (eqb a b) s (bad 7)
+must-eq : (a b : ℕ) (q : Dec (a ≡ b)) (r : Refusal) (s : Seen) → must q r s ≡ pick (eqb a b) s (bad r)
 unfolding must
-must-eq a b (yes p) s = rw (eq-eqb a b p)
-must-eq a b (no n) s = rw (ne-eqb a b n)
+must-eq a b (yes p) r s = rw (eq-eqb a b p)
+must-eq a b (no n) r s = rw (ne-eqb a b n)
 
 pick-pick : (t u : Bool) (s z : Seen) → pick t (pick u s z) z ≡ pick (pick t u false) s z
 pick-pick true u s z = refl
 pick-pick false u s z = refl
 
-pub own-is : (t : Ty) (b : List ℕ) (s : Seen) → own t b s ≡ pick (holdsOf t b) s (bad 7)
-unfolding own holdsOf listHolds mapHolds structHolds
-own-is (fix f) b s = must-lt (num b) (limit f) _ s
-own-is (text f) b s = refl
-own-is (li t) b s = ap (must (decLe 8 (length b)) 7) (must-le _ _ _ s) ∙ must-le 8 (length b) _ _ ∙ pick-pick (leb 8 (length b)) _ s (bad 7)
-own-is (ma k v) b s =
-    ap (λ (x : Seen). must (decLe 8 (length b)) 7 (must (ℕ-discrete (num (take 8 b) % 8) 0) 7 x)) (must-le (8 + num (take 8 b)) (length b) _ s)
-    ∙ ap (must (decLe 8 (length b)) 7) (must-eq (num (take 8 b) % 8) 0 _ _ ∙ pick-pick (eqb (num (take 8 b) % 8) 0) _ s (bad 7))
-    ∙ must-le 8 (length b) _ _ ∙ pick-pick (leb 8 (length b)) _ s (bad 7)
-own-is (ro ts) b s = must-le _ _ _ s
+-- the slot where the size is too small, else what the rest says
+pick-two : (t u : Bool) (x : Seen) (o p : ℕ) → pick t (pick u x (bad (brokenAt o))) (bad (brokenAt p)) ≡ pick (pick t u false) x (bad (brokenAt (pick t o p)))
+pick-two true u x o p = refl
+pick-two false u x o p = refl
+
+pub own-is : (t : Ty) (s : Seat) (o : ℕ) (b : List ℕ) (x : Seen) → own t s o b x ≡ pick (holdsOf t b) x (bad (brokenAt (brokenIn t s o b)))
+unfolding own holdsOf brokenIn listHolds mapHolds structHolds
+own-is (fix f) s o b x = must-lt (num b) (limit f) _ (brokenAt o) x
+own-is (text f) s o b x = refl
+own-is (li t) s o b x =
+    ap (must (decLe 8 (length b)) (brokenAt (s .slot))) (must-le _ _ _ (brokenAt o) x) ∙ must-le 8 (length b) _ (brokenAt (s .slot)) _
+    ∙ pick-two (leb 8 (length b)) _ x o (s .slot)
+own-is (ma k v) s o b x =
+    ap (λ (y : Seen). must (decLe 8 (length b)) (brokenAt (s .slot)) (must (ℕ-discrete (num (take 8 b) % 8) 0) (brokenAt o) y))
+    (must-le (8 + num (take 8 b)) (length b) _ (brokenAt o) x)
+    ∙ ap (must (decLe 8 (length b)) (brokenAt (s .slot)))
+    (must-eq (num (take 8 b) % 8) 0 _ (brokenAt o) _ ∙ pick-pick (eqb (num (take 8 b) % 8) 0) _ x (bad (brokenAt o)))
+    ∙ must-le 8 (length b) _ (brokenAt (s .slot)) _ ∙ pick-two (leb 8 (length b)) _ x o (s .slot)
+own-is (ro ts) s o b x = must-le _ _ _ (brokenAt (s .slot)) x
 
 -- what the test says where it holds
 pick-both : (t u : Bool) → pick t u false ≡ true → (t ≡ true) × (u ≡ true)
@@ -280,6 +291,42 @@ module _ (s row : List ℕ) (p : Place) (R : Rests s row p) where
   pub struct-as : (f n : ℕ) → p .opened ≡ OStruct f n → (t : Bool) → t ≡ structHolds n (p .len) → t ≡ holdsOf (placeTy s p) (bytesOf row p)
   unfolding holdsOf
   struct-as f n e t u = rw (e, typed-count s f (p .depth) n (rest-struct f n e .types), length-part row (p .start) (p .len) (R .within)) u
+
+-- where it is broken, as the code says it
+by-size : (size slot header : ℕ) → bySize size slot header ≡ pick (leb 8 size) header slot
+by-size size slot header = go (decLe 8 size)
+  where
+    go : Dec (8 ≤ size) → bySize size slot header ≡ pick (leb 8 size) header slot
+    go (yes h) = rw (le-leb 8 size h, le-ltb size 8 h)
+    go (no h) = rw (lt-leb 8 size (omega arith), lt-ltb size 8 (omega arith))
+
+pub size-few : (size slot header : ℕ) → size < 8 → slot ≡ bySize size slot header
+size-few size slot header h = rw (lt-ltb size 8 h)
+
+pub size-enough : (size slot header : ℕ) → 8 ≤ size → header ≡ bySize size slot header
+size-enough size slot header h = rw (le-ltb size 8 h)
+
+pub broken-list : (x : Opened) (slot start len c : ℕ) → x ≡ OList c → bySize len slot start ≡ brokenX x slot start len
+broken-list x slot start len c e = rw e
+
+pub broken-map : (x : Opened) (slot start len k v : ℕ) → x ≡ OMap k v → bySize len slot start ≡ brokenX x slot start len
+broken-map x slot start len k v e = rw e
+
+pub broken-is : (s row : List ℕ) (p : Place) → Rests s row p
+    → brokenX (p .opened) (p .seat .slot) (p .start) (p .len) ≡ brokenIn (placeTy s p) (seatAs (p .seat)) (p .start) (bytesOf row p)
+unfolding brokenIn
+broken-is s row p R = go (p .opened)
+  where
+    n : length (bytesOf row p) ≡ p .len
+    n = length-part row (p .start) (p .len) (R .within)
+
+    go : (x : Opened) → brokenX x (p .seat .slot) (p .start) (p .len) ≡ brokenIn (openTy s (p .depth) x) (seatAs (p .seat)) (p .start) (bytesOf row p)
+    go (OFixed k) = refl
+    go (OText k) = refl
+    go (OList c) = rw n (by-size (p .len) (p .seat .slot) (p .start))
+    go (OMap k v) = rw n (by-size (p .len) (p .seat .slot) (p .start))
+    go (OStruct f m) = refl
+    go ONothing = refl
 
 pub element-fits : (t : Ty) (w : ℕ) → w ≡ slotWidth (wideOf t) → (0 < w) × (w ≤ 8)
 element-fits t w g = (rw g (slot-some (wideOf t)), rw g (slot-most (wideOf t) (wide-8 t)))

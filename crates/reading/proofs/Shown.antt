@@ -27,6 +27,7 @@ use Rattle.schema.specs.declared.Judged.the-variants.{Accepted, Refused}
 use Rattle.schema.specs.declared.Opened.{Opened}
 use Rattle.schema.specs.declared.Opened.the-variants.{Fixed as OFixed, Text as OText, List as OList, Map as OMap, Struct as OStruct, Nothing as ONothing}
 use Rattle.schema.proofs.Typing.{typed-count}
+use Rattle.layout.specs.Refusals.{Refusal, numbered, brokenAt}
 use Rattle.layout.specs.Walk as W
 use Rattle.layout.specs.Walk.{Seen, bad, nullAt, seen, rootSeat, walk}
 use Rattle.layout.specs.Reading as R
@@ -175,29 +176,29 @@ module _ (s row p : List ℕ) (O : Open s row) (r : Found) (G : Finds s row p r)
   unfolding readOf readIn
   read-is = rw (O .schema, le-leb (length row) 16384 (O .short))
 
-  refuses : (o : Option Ty) (w : Seen) (n : ℕ) → bad n ≡ seenIn o w → found o w ≡ R.refused n
+  refuses : (o : Option Ty) (w : Seen) (n : Refusal) → bad n ≡ seenIn o w → found o w ≡ R.refused n
   unfolding found answerOf
-  refuses none w n e = let z : 5 ≡ n = cc in ap R.refused z
+  refuses none w n e = let z : numbered 5 ≡ n = cc in ap R.refused z
   refuses (some (fix f)) w n e = rw (← e)
   refuses (some (text f)) w n e = rw (← e)
   refuses (some (li t)) w n e = rw (← e)
   refuses (some (ma k v)) w n e = rw (← e)
   refuses (some (ro ts)) w n e = rw (← e)
 
-  refused : (n : ℕ) → foundAs row r ≡ bad n → readOf s row p ≡ R.refused n
+  refused : (n : Refusal) → foundAs row r ≡ bad n → readOf s row p ≡ R.refused n
   refused n e = read-is ∙ refuses (placed p (ro (fieldsOf s))) _ n (sym e ∙ G .means)
 
   pub read-nowhere : r ≡ NoPlace → Reads s row p (A.Refused F.NoPlace)
   unfolding foundAs
-  read-nowhere e = let q : readOf s row p ≡ R.refused 5 = refused 5 (rw e) in record { means = sym q; within = rw q tt }
+  read-nowhere e = let q : readOf s row p ≡ R.refused (numbered 5) = refused (numbered 5) (rw e) in record { means = sym q; within = rw q tt }
 
   pub read-under : r ≡ NullBefore → Reads s row p (A.Refused F.NullBefore)
   unfolding foundAs
-  read-under e = let q : readOf s row p ≡ R.refused 6 = refused 6 (rw e) in record { means = sym q; within = rw q tt }
+  read-under e = let q : readOf s row p ≡ R.refused (numbered 6) = refused (numbered 6) (rw e) in record { means = sym q; within = rw q tt }
 
-  pub read-broken : r ≡ Broken → Reads s row p (A.Refused F.Layout)
+  pub read-broken : (j : ℕ) → r ≡ Broken j → Reads s row p (A.Refused (F.Layout j))
   unfolding foundAs
-  read-broken e = let q : readOf s row p ≡ R.refused 7 = refused 7 (rw e) in record { means = sym q; within = rw q tt }
+  read-broken j e = let q : readOf s row p ≡ R.refused (brokenAt j) = refused (brokenAt j) (rw e) in record { means = sym q; within = rw q tt }
 
   -- at a place of a type
   finds : (t : Ty) → some t ≡ placed p (ro (fieldsOf s)) → readOf s row p ≡ answerOf t (foundAs row r)

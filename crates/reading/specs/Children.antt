@@ -8,6 +8,7 @@ use lib.ListN.{length}
 use Rattle.words.specs.Bytes.{part}
 use Rattle.schema.specs.Types.{Ty, fix, text, li, ma, ro, width}
 use Rattle.layout.specs.Layout.{front}
+use Rattle.layout.specs.Refusals.{brokenAt}
 use Rattle.layout.specs.Walk as W
 use Rattle.layout.specs.Walk.{stop, toNull, into, bySlot}
 use Rattle.reading.specs.declared.Seat.{Seat}
@@ -28,7 +29,7 @@ wideOf (ro ts) = 0
 
 -- what the code found of a child of type t, as a step of the walk
 unfoldable pub childAs : Ty → List ℕ → Child → W.Step
-childAs t row Broken = stop 7
+childAs t row (Broken q) = stop (brokenAt q)
 childAs t row (Null s) = toNull (seatAs s)
 childAs t row (At s o k) = into t (seatAs s) o (part row o k)
 
@@ -45,7 +46,7 @@ pub record Lies (row : List ℕ) (v : ℕ) (s : Seat) (o k : ℕ) : Type 0 where
   pub seated : SeatIn row v s
 
 abbrev pub ChildIn : List ℕ → ℕ → Child → Type 0
-ChildIn row v Broken = Unit {0}
+ChildIn row v (Broken q) = Unit {0}
 ChildIn row v (Null s) = SeatIn row v s
 ChildIn row v (At s o k) = Lies row v s o k
 

@@ -10,6 +10,7 @@ use Rattle.schema.specs.Reading.{judged}
 use Rattle.schema.specs.Walk.{fieldsOf}
 use Rattle.schema.specs.declared.Judged.the-variants.{Accepted}
 use Rattle.schema.specs.declared.Opened.{Opened}
+use Rattle.layout.specs.Refusals.{numbered, brokenAt}
 use Rattle.layout.specs.Walk.{Seen, bad, nullAt, seen, rootSeat, walk}
 use Rattle.layout.specs.Reading.{typeAt as typeOn, placed}
 use Rattle.answers.specs.declared.Path.{Path}
@@ -24,9 +25,9 @@ use Rattle.reading.specs.declared.Found.the-variants.{NoPlace, NullBefor
 
 -- as the walk sees it
 unfoldable pub foundAs : List ℕ → Found → Seen
-foundAs row NoPlace = bad 5
-foundAs row NullBefore = bad 6
-foundAs row Broken = bad 7
+foundAs row NoPlace = bad (numbered 5)
+foundAs row NullBefore = bad (numbered 6)
+foundAs row (Broken q) = bad (brokenAt q)
 foundAs row (Null x d z) = nullAt (seatAs z)
 foundAs row (At p) = seen (seatAs (p .seat)) (p .start) (bytesOf row p)
 
@@ -34,7 +35,7 @@ foundAs row (At p) = seen (seatAs (p .seat)) (p .start) (bytesOf row p)
 abbrev pub FoundTells : List ℕ → Found → Option Ty → Type 0
 FoundTells s NoPlace o = Unit {0}
 FoundTells s NullBefore o = Unit {0}
-FoundTells s Broken o = Unit {0}
+FoundTells s (Broken q) o = Unit {0}
 FoundTells s (Null x d z) o = some (openTy s d x) ≡ o
 FoundTells s (At p) o = some (placeTy s p) ≡ o
 
@@ -42,7 +43,7 @@ FoundTells s (At p) o = some (placeTy s p) ≡ o
 abbrev pub FoundLands : List ℕ → List ℕ → Found → Type 0
 FoundLands s row NoPlace = Unit {0}
 FoundLands s row NullBefore = Unit {0}
-FoundLands s row Broken = Unit {0}
+FoundLands s row (Broken q) = Unit {0}
 FoundLands s row (Null x d z) = NullIn s row x d z
 FoundLands s row (At p) = Stands s row p
 
@@ -87,7 +88,7 @@ pub record Walks (s row p : List ℕ) (r : Found) : Type 0 where
 
 -- 5 for what the schema alone shows; then the walk
 abbrev pub seenIn : Option Ty → Seen → Seen
-seenIn none w = bad 5
+seenIn none w = bad (numbered 5)
 seenIn (some t) w = w
 
 pub record Finds (s row p : List ℕ) (r : Found) : Type 0 where

@@ -14,6 +14,7 @@ use Rattle.schema.specs.Walk.{Typed, TypedAll, typeAt, typesAt}
 use Rattle.schema.specs.declared.Opened.{Opened}
 use Rattle.schema.specs.declared.Opened.the-variants.{Fixed as OFixed, Text as OText, List as OList, Map as OMap, Struct as OStruct, Nothing as ONothing}
 use Rattle.layout.specs.Layout.{slotOf, front, limit, codec}
+use Rattle.layout.specs.Refusals.{numbered, brokenAt}
 use Rattle.layout.specs.Walk as W
 use Rattle.layout.specs.Walk.{stop, toNull, into, stepIn}
 use Rattle.layout.specs.Reading.{typeAt as typeOn}
@@ -94,6 +95,26 @@ holdsOf (li t) b = listHolds (slotOf (codec t .wide)) b
 holdsOf (ma k v) b = mapHolds b
 holdsOf (ro ts) b = structHolds (count ts) (length b)
 
+-- where a type is broken whose own rules do not hold, on the bytes b that start at the row's byte o, in the seat s
+unfoldable pub brokenIn : Ty → W.Seat → ℕ → List ℕ → ℕ
+brokenIn (fix f) s o b = o
+brokenIn (text t) s o b = o
+brokenIn (li t) s o b = pick (leb 8 (length b)) o (s .slot)
+brokenIn (ma k v) s o b = pick (leb 8 (length b)) o (s .slot)
+brokenIn (ro ts) s o b = s .slot
+
+abbrev pub bySize : ℕ → ℕ → ℕ → ℕ
+bySize size slot header = pick (ltb size 8) slot header
+
+-- the same of a type taken apart
+abbrev pub brokenX : Opened → ℕ → ℕ → ℕ → ℕ
+brokenX (OFixed k) slot start len = start
+brokenX (OText k) slot start len = start
+brokenX (OList c) slot start len = bySize len slot start
+brokenX (OMap k v) slot start len = bySize len slot start
+brokenX (OStruct f n) slot start len = slot
+brokenX ONothing slot start len = start
+
 -- what these tests ask of the code's numbers: the bytes lie in the row, and a leaf's are the table's
 pub record Row (row : List ℕ) (base size : ℕ) : Type 0 where
   pub within : base + size ≤ length row
@@ -164,15 +185,15 @@ pub record Lots (s : List ℕ) (r : Lot) (o : Option Ty) : Type 0 where
 
 -- ---- a step in the row
 
--- a step into a place whose own rules don't hold is refused with 7
+-- a step into a place whose own rules don't hold is refused with 7, and where it is broken
 unfoldable pub entering : W.Step → W.Step
-entering (stop n) = stop n
+entering (stop r) = stop r
 entering (toNull s) = toNull s
-entering (into t s o b) = pick (holdsOf t b) (into t s o b) (stop 7)
+entering (into t s o b) = pick (holdsOf t b) (into t s o b) (stop (brokenAt (brokenIn t s o b)))
 
 unfoldable pub nextAs : List ℕ → List ℕ → Next → W.Step
-nextAs s row Nowhere = stop 5
-nextAs s row Broken = stop 7
+nextAs s row Nowhere = stop (numbered 5)
+nextAs s row (Broken q) = stop (brokenAt q)
 nextAs s row (Null x d z) = toNull (seatAs z)
 nextAs s row (To p) = into (placeTy s p) (seatAs (p .seat)) (p .start) (bytesOf row p)
 
@@ -183,14 +204,14 @@ pub record NullIn (s row : List ℕ) (x : Opened) (d : ℕ) (z : Seat) : Type 0 
 
 abbrev pub Lands : List ℕ → List ℕ → Next → Type 0
 Lands s row Nowhere = Unit {0}
-Lands s row Broken = Unit {0}
+Lands s row (Broken q) = Unit {0}
 Lands s row (Null x d z) = NullIn s row x d z
 Lands s row (To p) = Stands s row p
 
 -- the type of the null or of the place is o
 abbrev pub Tells : List ℕ → Next → Option Ty → Type 0
 Tells s Nowhere o = Unit {0}
-Tells s Broken o = Unit {0}
+Tells s (Broken q) o = Unit {0}
 Tells s (Null x d z) o = some (openTy s d x) ≡ o
 Tells s (To p) o = some (placeTy s p) ≡ o
 

@@ -8,6 +8,7 @@ use Rattle.words.specs.Bytes.{num, part}
 use Rattle.schema.specs.Types.{fixedAt}
 use Rattle.schema.specs.declared.Opened.{Opened}
 use Rattle.schema.specs.declared.Opened.the-variants.{Fixed as OFixed, Text as OText, List as OList, Map as OMap, Struct as OStruct, Nothing as ONothing}
+use Rattle.layout.specs.Refusals.{brokenAt}
 use Rattle.layout.specs.Reading as R
 use Rattle.layout.specs.Reading.{valueOf}
 use Rattle.layout.specs.Entries.{readOf}
@@ -36,7 +37,7 @@ shown row (OText k) o n = R.bytes o n
 shown row (OList c) o n = R.container o n (num (part row o 8))
 shown row (OMap k v) o n = R.container o n 2
 shown row (OStruct f m) o n = R.container o n m
-shown row ONothing o n = R.refused 7
+shown row ONothing o n = R.refused (brokenAt 0)
 
 abbrev pub showOf : List ℕ → Place → R.Answer
 showOf row p = shown row (p .opened) (p .start) (p .len)
@@ -50,7 +51,7 @@ InRow row (R.float32 n) = Unit {0}
 InRow row (R.float64 n) = Unit {0}
 InRow row (R.bytes o n) = o + n ≤ length row
 InRow row (R.container o n k) = Unit {0}
-InRow row (R.refused n) = Unit {0}
+InRow row (R.refused r) = Unit {0}
 
 -- the answer, and that its byte range lies in the row
 pub record Reads (s row p : List ℕ) (r : Answer) : Type 0 where
@@ -72,4 +73,4 @@ TextOf (R.float32 n) row other r = r ≡ other
 TextOf (R.float64 n) row other r = r ≡ other
 TextOf (R.bytes o n) row other r = PartOf row r o n
 TextOf (R.container o n k) row other r = r ≡ other
-TextOf (R.refused n) row other r = r ≡ other
+TextOf (R.refused q) row other r = r ≡ other

@@ -35,9 +35,9 @@ pub struct Place {
     pub len: usize,
 }
 
-// Where a child's bytes are: its slot breaks the layout, it is null, or its start and size in the row.
+// Where a child's bytes are: its slot breaks the layout, at a byte of the row; it is null; or its start and size in the row.
 pub enum Child {
-    Broken,
+    Broken(usize),
     Null(Seat),
     At(Seat, usize, usize),
 }
@@ -48,20 +48,21 @@ pub enum Lot {
     Of(Opened, usize),
 }
 
-// What a step comes to: no such place, a place that breaks the layout, a null of a type, or a place whose own rules hold.
+// What a step comes to: no such place, a place that breaks the layout, at a byte of the row, a null of a type, or a place whose own
+// rules hold.
 pub enum Next {
     Nowhere,
-    Broken,
+    Broken(usize),
     Null(Opened, usize, Seat),
     To(Place),
 }
 
-// What a walk comes to: no such place, a null before the path's end, a place that breaks the layout, a null of a type at the path's end,
-// or the place.
+// What a walk comes to: no such place, a null before the path's end, a place that breaks the layout, at a byte of the row, a null of a
+// type at the path's end, or the place.
 pub enum Found {
     NoPlace,
     NullBefore,
-    Broken,
+    Broken(usize),
     Null(Opened, usize, Seat),
     At(Place),
 }
@@ -89,7 +90,7 @@ fn look_in(schema: &[u8], row: &[u8], path: Path) -> Answer
     match find(schema, row, path) {
         Found::NoPlace => Answer::Refused(Refusal::NoPlace),
         Found::NullBefore => Answer::Refused(Refusal::NullBefore),
-        Found::Broken => Answer::Refused(Refusal::Layout),
+        Found::Broken(place) => Answer::Refused(Refusal::Layout { place }),
         Found::Null(_, _, _) => Answer::Null,
         Found::At(p) => values::answer(row, p),
     }

@@ -2,13 +2,12 @@
 use schema::Opened;
 ghost use mathlib.Core.Path.{_≡_};
 ghost use Prim.Native.Nat.{_+_, _≤_, _<_};
-ghost use lib.ListN.{length};
 ghost use Rattle.words.specs.Bytes.{part};
-ghost use Rattle.schema.specs.Marks.{line};
 ghost use Rattle.schema.specs.Types.{fix, fixedAt};
 ghost use Rattle.schema.specs.Walk.{Typed, typeAt};
 ghost use Rattle.reading.specs.Children.{wideOf};
 ghost use Rattle.reading.specs.Places.{slotWidth, wideX, Leaf, Row, OpenSmall, listHolds, mapHolds, structHolds, holdsOf, placeTy, bytesOf, Rests};
+ghost use Rattle.reading.specs.Places.{bySize, brokenX};
 use crate::Place;
 
 // A type's bytes by the table, 0 where they vary.
@@ -88,6 +87,13 @@ fn element_width(s: &[u8], at: usize, depth: usize) -> usize
     slot_width(width(schema::open(s, at, depth)))
 }
 
+// A slot for less than 8 bytes, else the header.
+fn by_size(size: usize, slot: usize, header: usize) -> usize
+    ensures { λ r. ⌜ r ≡ bySize size slot header ⌝ }
+{
+    if size < 8 { slot } else { header }
+}
+
 // Whether the own rules of a place hold.
 pub fn holds(s: &[u8], row: &[u8], p: Place) -> bool
     requires { ⌜ Rests (now s) (now row) p ⌝ }
@@ -101,5 +107,21 @@ pub fn holds(s: &[u8], row: &[u8], p: Place) -> bool
         Opened::Map(_, _) => map_holds(row, p.start, p.len),
         Opened::Struct(_, n) => struct_holds(n, p.len),
         Opened::Nothing => false,
+    }
+}
+
+// Where a place is broken whose own rules do not hold: a leaf and a wrong header at its first byte, a wrong size at its slot.
+pub fn broken_at(p: Place) -> usize
+    ensures { λ r. ⌜ r ≡ brokenX (p .opened) (p .seat .slot) (p .start) (p .len) ⌝ }
+{
+    let x = p.opened;
+    let seat = p.seat;
+    match x {
+        Opened::Fixed(_) => p.start,
+        Opened::Text(_) => p.start,
+        Opened::List(_) => by_size(p.len, seat.slot, p.start),
+        Opened::Map(_, _) => by_size(p.len, seat.slot, p.start),
+        Opened::Struct(_, _) => seat.slot,
+        Opened::Nothing => p.start,
     }
 }

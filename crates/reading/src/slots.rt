@@ -1,6 +1,5 @@
 // A child by its bit and its slot.
-ghost use Prim.Native.Nat.{_+_, _≤_};
-ghost use lib.ListN.{length};
+ghost use Prim.Native.Nat.{_+_};
 ghost use Rattle.reading.specs.Children.{SlotOf, Points, IsChild, Comes};
 use crate::Child;
 use crate::Seat;
@@ -16,13 +15,13 @@ fn pointed(row: &[u8], base: usize, size: usize, fixed: usize, seat: Seat) -> Ch
     let off = words::slots::slot_offset(x);
     let len = words::slots::slot_size(x);
     if off < fixed as u64 {
-        return Child::Broken;
+        return Child::Broken(at);
     }
     if off % 8 != 0 {
-        return Child::Broken;
+        return Child::Broken(at);
     }
     if (size as u64) < off + len {
-        return Child::Broken;
+        return Child::Broken(at);
     }
     let start = base + off as usize;
     Child::At(seat, start, len as usize)

@@ -3,9 +3,6 @@ use schema::Opened;
 ghost use mathlib.Core.Path.{_≡_};
 ghost use mathlib.Core.Option.{some};
 ghost use mathlib.Core.List.{[], _∷_};
-ghost use Prim.Native.Nat.{_≤_};
-ghost use lib.ListN.{length};
-ghost use Rattle.words.specs.Bytes.{part};
 ghost use Rattle.schema.specs.Walk.{Typed, typeAt};
 ghost use Rattle.layout.specs.Walk.{into};
 ghost use Rattle.layout.specs.Reading.{typeAt as typeOn};
@@ -15,6 +12,7 @@ use crate::Child;
 use crate::Lot;
 use crate::Next;
 use crate::Place;
+use crate::Seat;
 use crate::own;
 use crate::slots;
 
@@ -65,7 +63,7 @@ pub fn settle(s: &[u8], row: &[u8], p: Place) -> Next
     if own::holds(s, row, p) {
         Next::To(p)
     } else {
-        Next::Broken
+        Next::Broken(own::broken_at(p))
     }
 }
 
@@ -75,7 +73,7 @@ fn enter(s: &[u8], row: &[u8], y: Opened, e: usize, c: Child) -> Next
     ensures { λ r. ⌜ Moves (now (s .entry)) (now (row .entry)) r (childAs (openTy (now (s .entry)) e y) (now (row .entry)) c) (some (openTy (now (s .entry)) e y)) ⌝ }
 {
     match c {
-        Child::Broken => Next::Broken,
+        Child::Broken(place) => Next::Broken(place),
         Child::Null(seat) => Next::Null(y, e, seat),
         Child::At(seat, start, len) => settle(
             s,
@@ -106,15 +104,20 @@ fn in_list(s: &[u8], row: &[u8], p: Place, i: usize, y: Opened, e: usize) -> Nex
     enter(s, row, y, e, c)
 }
 
-// A map's keys, step 0, or its values: the array in its extent, which the size of the keys' array tells.
+// A map's keys, step 0, or its values: the array in its extent, which the size of the keys' array tells. It has its first byte for a slot.
 fn in_map(s: &[u8], row: &[u8], p: Place, i: usize, y: Opened, e: usize) -> Next
     requires { ⌜ IntoMap (now s) (now row) p i y e ⌝ }
     ensures { λ r. ⌜ Steps (now (s .entry)) (now (row .entry)) p i r ⌝ }
 {
     let size = words::nums::get8(row, p.start) as usize;
-    let seat = p.seat;
     if i == 0 {
         let first = p.start + 8;
+        let seat = Seat {
+            bits: 0,
+            number: 0,
+            slot: first,
+            wide: 0,
+        };
         return settle(
             s,
             row,
@@ -130,6 +133,12 @@ fn in_map(s: &[u8], row: &[u8], p: Place, i: usize, y: Opened, e: usize) -> Next
     let before = 8 + size;
     let start = p.start + before;
     let len = p.len - before;
+    let seat = Seat {
+        bits: 0,
+        number: 0,
+        slot: start,
+        wide: 0,
+    };
     settle(
         s,
         row,

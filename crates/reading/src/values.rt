@@ -55,6 +55,6 @@ pub fn answer(row: &[u8], p: Place) -> Answer
             len,
             count: n,
         },
-        Opened::Nothing => Answer::Refused(Refusal::Layout),
+        Opened::Nothing => Answer::Refused(Refusal::Layout { place: 0 }),
     }
 }

@@ -69,8 +69,8 @@ pub fn along(s: &[u8], row: &[u8], from: Place, path: Path) -> Found
             Next::Nowhere => {
                 return Found::NoPlace;
             }
-            Next::Broken => {
-                return Found::Broken;
+            Next::Broken(place) => {
+                return Found::Broken(place);
             }
             Next::Null(x, d, seat) => {
                 return null_at(k == n, x, d, seat);
@@ -105,5 +105,5 @@ pub fn from_root(s: &[u8], row: &[u8], path: Path) -> Found
     if own::holds(s, row, root) {
         return along(s, row, root, path);
     }
-    Found::Broken
+    Found::Broken(own::broken_at(root))
 }

@@ -6,7 +6,8 @@ use Prim.Native.Nat.{ℕ}
 use native.Mathlib.Omega.{arith}
 use lib.Dec.{eqb}
 use borrow.Author.Tests.{eqb-false}
-use Rattle.row.specs.Demand1.{OneOf, here, there}
+use Rattle.layout.specs.Refusals.{Refusal}
+use Rattle.row.specs.Demand1.{OneOf, here, there, Told, number, place}
 
 abbrev pub Each : (ℕ → Type 0) → List ℕ → Type 0
 Each P [] = Unit {0}
@@ -31,3 +32,8 @@ rest true v h = cc
 pub not-among : (k : ℕ) {ns : List ℕ} {n : ℕ} → OneOf ns n → lacks k ns ≡ true → n ≡ k → ⊥
 not-among k (here {n = n} {ns = ns}) h e = other n k (eqb n k) (lacks k ns) refl h e
 not-among k (there {m = m} {ns = ns} o) h e = not-among k o (rest (eqb m k) (lacks k ns) h) e
+
+-- one of some numbers is one of more
+pub told-there : {m : ℕ} {ns : List ℕ} {r : Refusal} → Told ns r → Told (m ∷ ns) r
+told-there (number o h) = number (there o) h
+told-there (place o) = place (there o)

@@ -18,16 +18,19 @@ use Rattle.schema.specs.declared.Judged.the-variants.{Accepted}
 use Rattle.schema.proofs.Judging.{accepted-root}
 use Rattle.layout.specs.Reader.{_>>=_, _>>_, assert}
 use Rattle.layout.specs.Cells.{Cell, leaf, node, bytes, parts, part as partOf, clean}
-use Rattle.layout.specs.Layout.{number, string, codec, Fits, content, Lays, decode}
+use Rattle.layout.specs.Layout.{number, string, codec, Fits, content, Lays, decode, faultAt}
+use Rattle.layout.specs.Faults.{Read, fault, got, inRow, faultIn}
+use Rattle.layout.specs.Refusals.{Refusal, numbered, brokenAt}
 use Rattle.layout.specs.Listing.{listing, parse}
 use Rattle.layout.specs.Orders.{Order, Value, owns, Slots, StructInOrder, InOrder, children}
 use Rattle.layout.specs.Places.{starts, SamePlaces}
 use Rattle.layout.specs.Reading as R
 use Rattle.layout.specs.Reading.{valueOf, typeAt, placed, answerOf, found, readIn}
-use Rattle.layout.specs.Setting.{isSome, _or_, unless}
-use Rattle.layout.specs.Entries.{verdict, done, refused, checkOf, imageOf, listingOf}
+use Rattle.layout.specs.Setting.{_or_, unless}
+use Rattle.layout.specs.Entries.{verdict, done, refused, checkOf, imageOf, listingOf, broken}
 use Rattle.layout.proofs.Cells.{parts-node}
 use Rattle.layout.proofs.Reader.{assert-yes}
+use Rattle.layout.proofs.Faults.{got-some, no-fault}
 use Rattle.layout.proofs.Containers.{decode-lays, lays-decode, lays-content, lays-fits, lays-size, decode-content, clean-fits}
 use Rattle.layout.proofs.Listed.{parse-listing, listing-parse, listing-clean, listing-short}
 use Rattle.layout.proofs.AnyOrder.{any-order, every-order}
@@ -45,21 +48,22 @@ pub record Checked (s row : List ℕ) : Type 0 where
   pub contents : Cell
   pub reads : decode (ro (fieldsOf s)) row ≡ some contents
 
-clash-done : (n : ℕ) → refused n ≡ done → ⊥
+clash-done : (n : Refusal) → refused n ≡ done → ⊥
 clash-done n e = let z : _≡_ {A = ℕ} 0 1 = cc in omega arith
 
 pub checked : (s row : List ℕ) → judged s ≡ Accepted → checkOf s row ≡ done → Checked s row
-unfolding checkOf
-checked s row a e = go (leb (length row) 16384) refl (decode (ro (fieldsOf s)) row) refl (rw a at e)
+unfolding checkOf faultIn
+checked s row a e = go (leb (length row) 16384) refl (codec (ro (fieldsOf s)) .get row) refl (rw a at e)
   where
-    go : (t : Bool) → leb (length row) 16384 ≡ t → (o : Option Cell) → decode (ro (fieldsOf s)) row ≡ o → verdict (unless (leb (length row) 16384) 3 or unless (isSome (decode (ro (fieldsOf s)) row)) 7) ≡ done → Checked s row
-    go true h (some c) d q = record { short = leb-true (length row) 16384 h; contents = c; reads = d }
-    go true h none d q = absurd (clash-done 7 (rw (h, d) at q))
-    go false h o d q = absurd (clash-done 3 (rw h at q))
+    go : (t : Bool) → leb (length row) 16384 ≡ t → (m : Read Cell) → codec (ro (fieldsOf s)) .get row ≡ m
+        → verdict (unless (leb (length row) 16384) 3 or broken (faultAt (ro (fieldsOf s)) row)) ≡ done → Checked s row
+    go true h (got c) d q = record { short = leb-true (length row) 16384 h; contents = c; reads = got-some d }
+    go true h (fault p) d q = absurd (clash-done (brokenAt (inRow p)) (rw (h, d) at q))
+    go false h m d q = absurd (clash-done (numbered 3) (rw h at q))
 
 pub checks : (s row : List ℕ) (c : Cell) → judged s ≡ Accepted → length row ≤ 16384 → decode (ro (fieldsOf s)) row ≡ some c → checkOf s row ≡ done
 unfolding checkOf
-checks s row c a h d = rw (a, le-leb (length row) 16384 h, d)
+checks s row c a h d = rw (a, le-leb (length row) 16384 h, no-fault (codec (ro (fieldsOf s)) .get row) d)
 
 -- ---- the listing of an accepted row is within its limit
 

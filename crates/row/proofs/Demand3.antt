@@ -1,5 +1,5 @@
 -- Demand 3 holds of every accepted row, at the entries. Assumes nothing.
-use mathlib.Core.Path.{_≡_, refl, sym, ap, _∙_}
+use mathlib.Core.Path.{_≡_, refl, sym, _∙_}
 use mathlib.Core.List.{List}
 use Prim.Native.Nat.{ℕ, _≤_}
 use native.Mathlib.Omega.{arith}
@@ -10,8 +10,9 @@ use Rattle.schema.specs.Reading.{judged}
 use Rattle.schema.specs.Walk.{fieldsOf}
 use Rattle.schema.specs.declared.Judged.{Judged}
 use Rattle.schema.specs.declared.Judged.the-variants.{Accepted, Refused}
+use Rattle.layout.specs.Refusals.{numbered}
 use Rattle.layout.specs.Reading.{readIn}
-use Rattle.layout.specs.Setting.{Setting, becomes, setIn}
+use Rattle.layout.specs.Setting.{Setting, setIn}
 use Rattle.layout.specs.Entries.{done, refused, checkOf, readOf, setOf}
 use Rattle.layout.specs.Demand as L
 use Rattle.layout.proofs.Demanded.{demand3 as in-layout}
@@ -34,7 +35,7 @@ check-judged s row e = go (judged s) refl
   where
     go : (j : Judged) → judged s ≡ j → judged s ≡ Accepted
     go Accepted q = q
-    go Refused q = let z : refused 1 ≡ done = rw q at e in let n : _≡_ {A = ℕ} 0 1 = cc in absurd (omega arith)
+    go Refused q = let z : refused (numbered 1) ≡ done = rw q at e in let n : _≡_ {A = ℕ} 0 1 = cc in absurd (omega arith)
 
 pub demand3 : (s row : List ℕ) → Bytes row → checkOf s row ≡ done → SetsWell s row
 demand3 s row hb e =

@@ -1,21 +1,20 @@
 -- The refusals of `list` and its answer, each where the document gives it. Assumes nothing.
-use mathlib.Core.Path.{_≡_, refl, sym, ap, _∙_}
+use mathlib.Core.Path.{_≡_, sym, _∙_}
 use mathlib.Core.Bool.{Bool, true, false, cond}
-use mathlib.Core.Option.{Option, none, some}
+use mathlib.Core.Option.{none, some}
 use mathlib.Core.List.{List}
 use Prim.Native.Nat.{ℕ, _≤_, _<_}
 use lib.ListN.{length}
 use lib.Dec.{leb}
-use lib.Seq.{sets}
 use borrow.Author.Tests.{le-leb, lt-leb}
 use Rattle.schema.specs.Types.{ro}
 use Rattle.schema.specs.Reading.{judged}
 use Rattle.schema.specs.Walk.{fieldsOf}
-use Rattle.schema.specs.declared.Judged.{Judged}
 use Rattle.schema.specs.declared.Judged.the-variants.{Accepted, Refused}
-use Rattle.layout.specs.Layout.{decode}
-use Rattle.layout.specs.Setting.{isSome, orEmpty}
-use Rattle.layout.specs.Entries.{listOf, listedOf, listingOf, takes, refusedWith, sizedAfter, filled}
+use Rattle.layout.specs.Refusals.{numbered}
+use Rattle.layout.specs.Layout.{faultAt}
+use Rattle.layout.specs.Setting.{orEmpty}
+use Rattle.layout.specs.Entries.{listOf, listedOf, listingOf, takes, refusedWith}
 use Rattle.answers.specs.declared.Refusal.the-variants as F
 use Rattle.answers.specs.declared.Length.the-variants as L
 use Rattle.listing.specs.Lines.{Answered}
@@ -32,12 +31,13 @@ module _ (s row out : List ℕ) where
     list-long h = record { answers = rw (a, lt-leb (length row) 16384 h); leaves = rw (a, lt-leb (length row) 16384 h) }
 
     module _ (h : length row ≤ 16384) where
-      pub list-bad : isSome (decode (ro (fieldsOf s)) row) ≡ false → ListsTo s row out (L.Refused F.Layout) out
+      pub list-bad : (j : ℕ) → faultAt (ro (fieldsOf s)) row ≡ some j → ListsTo s row out (L.Refused (F.Layout j)) out
       unfolding listOf listedOf
-      list-bad e = record { answers = rw (a, le-leb (length row) 16384 h, e); leaves = rw (a, le-leb (length row) 16384 h, e) }
+      list-bad j e = record { answers = rw (a, le-leb (length row) 16384 h, e); leaves = rw (a, le-leb (length row) 16384 h, e) }
 
-      module _ (e : isSome (decode (ro (fieldsOf s)) row) ≡ true) (out′ : List ℕ) (r : ℕ) (z : Answered out (orEmpty (listingOf s row)) out′ r) where
-        asked : (v : Bool) → leb (length (orEmpty (listingOf s row))) (length out) ≡ v → listOf s row (length out) ≡ cond v (takes r) (refusedWith 4 r)
+      module _ (e : faultAt (ro (fieldsOf s)) row ≡ none) (out′ : List ℕ) (r : ℕ) (z : Answered out (orEmpty (listingOf s row)) out′ r) where
+        asked : (v : Bool) → leb (length (orEmpty (listingOf s row))) (length out) ≡ v
+            → listOf s row (length out) ≡ cond v (takes r) (refusedWith (numbered 4) r)
         unfolding listOf
         asked v q = rw (a, le-leb (length row) 16384 h, e, q, z .need)
 

@@ -5,6 +5,7 @@ use mathlib.Core.Option.{Option, none, some}
 use mathlib.Core.List.{List, [], _∷_}
 use Prim.Native.Nat.{ℕ, zero, suc, _+_, _*_, _/_, _%_, _^_}
 use native.Mathlib.Decide.{decLe, decLt, ℕ-discrete}
+use native.Mathlib.Omega.{arith}
 use lib.ListN.{length, take}
 use lib.Dec.{leb}
 use Rattle.words.specs.Bytes.{num, part, bitmap}
@@ -14,64 +15,67 @@ use Rattle.schema.specs.Walk.{fieldsOf}
 use Rattle.schema.specs.declared.Judged.{Judged}
 use Rattle.schema.specs.declared.Judged.the-variants.{Accepted, Refused}
 use Rattle.layout.specs.Layout.{slotOf, front, limit, codec}
+use Rattle.layout.specs.Refusals.{Refusal, numbered, brokenAt}
 use Rattle.layout.specs.Walk.{Seat, Seen, bad, nullAt, seen, Step, stop, toNull, into, must, mustStep, own, bySlot, byFlag, seatOf, child, stepIn, goOn, rootSeat, walk}
 use Rattle.layout.specs.Reading as R
 use Rattle.layout.specs.Reading.{Answer, valueOf, placed, answerOf, found, readIn}
 use Rattle.layout.specs.Entries.{readOf}
-use Rattle.row.specs.Demand1.{OneOf, here, there, Gives, ReadGives}
+use Rattle.row.specs.Demand1.{here, there, Told, number, place, Gives, ReadGives}
 use Rattle.row.specs.Demand1 as D
-use Rattle.row.proofs.Among.{not-among}
+use Rattle.row.proofs.Among.{not-among, told-there}
 
 -- the numbers of the walk
 abbrev walks : List ℕ
 walks = 5 ∷ 6 ∷ 7 ∷ []
 
-five : OneOf walks 5
-five = here
+five : Told walks (numbered 5)
+five = number here (λ e. omega arith)
 
-six : OneOf walks 6
-six = there here
+six : Told walks (numbered 6)
+six = number (there here) (λ e. omega arith)
 
-seven : OneOf walks 7
-seven = there (there here)
+seven : (p : ℕ) → Told walks (brokenAt p)
+seven p = place (there (there here))
 
 -- what a walk may find
 data Fair : Seen → Type 0 where
-  refuses : {n : ℕ} → OneOf walks n → Fair (bad n)
+  refuses : {r : Refusal} → Told walks r → Fair (bad r)
   absent : {z : Seat} → Fair (nullAt z)
   present : {z : Seat} {o : ℕ} {b : List ℕ} → Fair (seen z o b)
 
 data FairStep : Step → Type 0 where
-  refuses : {n : ℕ} → OneOf walks n → FairStep (stop n)
+  refuses : {r : Refusal} → Told walks r → FairStep (stop r)
   absent : {z : Seat} → FairStep (toNull z)
   present : {t : Ty} {z : Seat} {o : ℕ} {b : List ℕ} → FairStep (into t z o b)
 
-fair-must : {P : Type 0} (d : Dec P) (n : ℕ) (v : Seen) → OneOf walks n → Fair v → Fair (must d n v)
+fair-must : {P : Type 0} (d : Dec P) (n : Refusal) (v : Seen) → Told walks n → Fair v → Fair (must d n v)
 unfolding must
 fair-must (yes _) n v q f = f
 fair-must (no _) n v q f = Fair.refuses q
 
-fair-step : {P : Type 0} (d : Dec P) (n : ℕ) (v : Step) → OneOf walks n → FairStep v → FairStep (mustStep d n v)
+fair-step : {P : Type 0} (d : Dec P) (n : Refusal) (v : Step) → Told walks n → FairStep v → FairStep (mustStep d n v)
 unfolding mustStep
 fair-step (yes _) n v q f = f
 fair-step (no _) n v q f = FairStep.refuses q
 
-own-fair : (t : Ty) (b : List ℕ) (v : Seen) → Fair v → Fair (own t b v)
+own-fair : (t : Ty) (z : Seat) (o : ℕ) (b : List ℕ) (v : Seen) → Fair v → Fair (own t z o b v)
 unfolding own
-own-fair (fix g) b v f = fair-must (decLt (num b) (limit g)) 7 v seven f
-own-fair (text k) b v f = f
-own-fair (li t) b v f = fair-must (decLe 8 (length b)) 7 _ seven (fair-must (decLe (front 8 (slotOf (codec t .wide)) (num (take 8 b))) (length b)) 7 v seven f)
-own-fair (ma k w) b v f =
-    fair-must (decLe 8 (length b)) 7 _ seven (fair-must (ℕ-discrete (num (take 8 b) % 8) 0) 7 _ seven (fair-must (decLe (8 + num (take 8 b)) (length b)) 7 v seven f))
-own-fair (ro ts) b v f = fair-must (decLe (front 0 8 (count ts)) (length b)) 7 v seven f
+own-fair (fix g) z o b v f = fair-must (decLt (num b) (limit g)) _ v (seven o) f
+own-fair (text k) z o b v f = f
+own-fair (li t) z o b v f =
+    fair-must (decLe 8 (length b)) _ _ (seven (z .slot)) (fair-must (decLe (front 8 (slotOf (codec t .wide)) (num (take 8 b))) (length b)) _ v (seven o) f)
+own-fair (ma k w) z o b v f =
+    fair-must (decLe 8 (length b)) _ _ (seven (z .slot))
+    (fair-must (ℕ-discrete (num (take 8 b) % 8) 0) _ _ (seven o) (fair-must (decLe (8 + num (take 8 b)) (length b)) _ v (seven o) f))
+own-fair (ro ts) z o b v f = fair-must (decLe (front 0 8 (count ts)) (length b)) _ v (seven (z .slot)) f
 
 slot-fair : (w : Option ℕ) (t : Ty) (z : Seat) (f o j : ℕ) (b : List ℕ) → FairStep (bySlot w t z f o j b)
 unfolding bySlot
 slot-fair (some v) t z f o j b = FairStep.present
 slot-fair none t z f o j b =
-    fair-step (decLe f (num (part b j 8) / 2 ^ 32)) 7 _ seven
-    (fair-step (ℕ-discrete (num (part b j 8) / 2 ^ 32 % 8) 0) 7 _ seven
-    (fair-step (decLe (num (part b j 8) / 2 ^ 32 + num (part b j 8) % 2 ^ 32) (length b)) 7 _ seven FairStep.present))
+    fair-step (decLe f (num (part b j 8) / 2 ^ 32)) _ _ (seven (z .slot))
+    (fair-step (ℕ-discrete (num (part b j 8) / 2 ^ 32 % 8) 0) _ _ (seven (z .slot))
+    (fair-step (decLe (num (part b j 8) / 2 ^ 32 + num (part b j 8) % 2 ^ 32) (length b)) _ _ (seven (z .slot)) FairStep.present))
 
 flag-fair : (n : ℕ) (z : Seat) (r : Step) → FairStep r → FairStep (byFlag n z r)
 unfolding byFlag
@@ -81,7 +85,9 @@ flag-fair (suc n) z r f = FairStep.absent
 child-fair : (h w n : ℕ) (t : Ty) (i o : ℕ) (b : List ℕ) → FairStep (child h w n t i o b)
 unfolding child
 child-fair h w n t i o b =
-    fair-step (decLt i n) 5 _ five (flag-fair (num (part b h (bitmap n)) / 2 ^ i % 2) (seatOf h w n i o) _ (slot-fair (codec t .wide) t (seatOf h w n i o) (front h w n) o (h + (bitmap n + i * w)) b))
+    fair-step (decLt i n) (numbered 5) _ five
+    (flag-fair (num (part b h (bitmap n)) / 2 ^ i % 2) (seatOf h w n i o) _
+    (slot-fair (codec t .wide) t (seatOf h w n i o) (front h w n) o (h + (bitmap n + i * w)) b))
 
 step-fair : (t : Ty) (i : ℕ) (z : Seat) (o : ℕ) (b : List ℕ) → FairStep (stepIn t i z o b)
 unfolding stepIn
@@ -102,8 +108,8 @@ on-fair p next f r (FairStep.present {t = t} {z = z} {o = o} {b = b}) = f t z o 
 
 walk-fair : (p : List ℕ) (t : Ty) (z : Seat) (o : ℕ) (b : List ℕ) → Fair (walk p t z o b)
 unfolding walk
-walk-fair [] t z o b = own-fair t b _ Fair.present
-walk-fair (i ∷ p) t z o b = own-fair t b _ (on-fair p (λ t s o b. walk p t s o b) (λ t z o b. walk-fair p t z o b) (stepIn t i z o b) (step-fair t i z o b))
+walk-fair [] t z o b = own-fair t z o b _ Fair.present
+walk-fair (i ∷ p) t z o b = own-fair t z o b _ (on-fair p (λ t s o b. walk p t s o b) (λ t z o b. walk-fair p t z o b) (stepIn t i z o b) (step-fair t i z o b))
 
 -- ---- answers
 
@@ -145,17 +151,17 @@ after-two a D.float32 = D.float32
 after-two a D.float64 = D.float64
 after-two a D.bytes = D.bytes
 after-two a D.container = D.container
-after-two a (D.refused o) = D.refused (there (there o))
+after-two a (D.refused o) = D.refused (told-there (told-there o))
 
 pub read-gives : (s row p : List ℕ) → ReadGives (readOf s row p)
 unfolding readOf
 read-gives s row p = by-schema (judged s) refl (leb (length row) 16384) refl
   where
     by-schema : (j : Judged) → judged s ≡ j → (v : Bool) → leb (length row) 16384 ≡ v → ReadGives (readOf s row p)
-    by-schema Refused a v h = rw a (D.refused here)
-    by-schema Accepted a false h = rw (a, h) (D.refused (there here))
+    by-schema Refused a v h = rw a (D.refused (number here (λ e. omega arith)))
+    by-schema Accepted a false h = rw (a, h) (D.refused (number (there here) (λ e. omega arith)))
     by-schema Accepted a true h = rw (a, h) (after-two (readIn (fieldsOf s) row p) (place-gives (fieldsOf s) row p))
 
 -- so none is the number 0, which stands for a float's case without its float
-pub no-zero : ReadGives (R.refused 0) → ⊥
-no-zero (D.refused o) = not-among 0 o refl refl
+pub no-zero : ReadGives (R.refused (numbered 0)) → ⊥
+no-zero (D.refused (number o _)) = not-among 0 o refl refl

@@ -1,29 +1,39 @@
 -- The refusals that entries share, each where the document gives it. Assumes nothing.
 use mathlib.Core.Path.{_≡_, refl, sym, ap, _∙_}
-use mathlib.Core.Bool.{Bool, true, false}
-use mathlib.Core.Option.{Option, none, some}
+use mathlib.Core.Bool.{true}
+use mathlib.Core.Option.{none, some}
 use mathlib.Core.List.{List}
 use Prim.Native.Nat.{ℕ, _≤_, _<_}
+use native.Mathlib.Omega.{arith}
 use lib.ListN.{length}
 use borrow.Author.Tests.{le-leb, lt-leb}
 use Rattle.schema.specs.Types.{ro}
 use Rattle.schema.specs.Reading.{judged}
 use Rattle.schema.specs.Walk.{fieldsOf}
-use Rattle.schema.specs.declared.Judged.{Judged}
 use Rattle.schema.specs.declared.Judged.the-variants.{Accepted, Refused}
-use Rattle.layout.specs.Entries.{Verdict, done, refused, schemaBad, rowLong, layoutBad, judgeOf, checkOf, isAccepted}
-use Rattle.layout.specs.Layout.{decode}
+use Rattle.layout.specs.Entries.{done, refused, schemaBad, rowLong, judgeOf, checkOf}
+use Rattle.layout.specs.Faults.{Read, fault, got, yielded, faultIn}
+use Rattle.layout.specs.Refusals.{numbered, brokenAt}
+use Rattle.layout.specs.Layout.{codec, decode, faultAt}
 use Rattle.layout.specs.Setting.{isSome}
-use Rattle.checking.specs.Sound.{sound}
+use Rattle.checking.specs.declared.Checked.{Checked}
+use Rattle.checking.specs.declared.Checked.the-variants as C
+use Rattle.checking.specs.Sound.{checkedMeans}
+
+-- a reading without a fault yields
+fault-free : {A : Type 0} (m : Read A) → faultIn m ≡ none → isSome (yielded m) ≡ true
+unfolding faultIn yielded
+fault-free (fault p) e = let z : _≡_ {A = ℕ} 0 1 = cc in absurd (omega arith)
+fault-free (got a) e = refl
 
 module _ (s : List ℕ) where
-  pub schema-refused : judged s ≡ Refused → schemaBad s ≡ some 1
+  pub schema-refused : judged s ≡ Refused → schemaBad s ≡ some (numbered 1)
   schema-refused e = rw e
 
   pub schema-taken : judged s ≡ Accepted → schemaBad s ≡ none
   schema-taken e = rw e
 
-  pub judge-no : judged s ≡ Refused → refused 1 ≡ judgeOf s
+  pub judge-no : judged s ≡ Refused → refused (numbered 1) ≡ judgeOf s
   unfolding judgeOf
   judge-no e = rw e
 
@@ -32,31 +42,37 @@ module _ (s : List ℕ) where
   judge-yes e = rw e
 
   module _ (row : List ℕ) where
-    pub row-long : 16384 < length row → rowLong row ≡ some 3
+    pub row-long : 16384 < length row → rowLong row ≡ some (numbered 3)
     row-long h = rw (lt-leb (length row) 16384 h)
 
     pub row-short : length row ≤ 16384 → rowLong row ≡ none
     row-short h = rw (le-leb (length row) 16384 h)
 
-    -- what the checker answers is whether the row decodes
-    pub layout-is : (r v : Bool) → r ≡ sound (ro (fieldsOf s)) row → r ≡ v → isSome (decode (ro (fieldsOf s)) row) ≡ v
-    unfolding sound
-    layout-is r v e h = sym e ∙ h
+    -- what the checker answers is where the row is broken
+    module _ (r : Checked) (e : checkedMeans r ≡ faultAt (ro (fieldsOf s)) row) where
+      pub fault-none : r ≡ C.Sound → faultAt (ro (fieldsOf s)) row ≡ none
+      fault-none q = sym e ∙ ap checkedMeans q
 
-    pub check-no : judged s ≡ Refused → refused 1 ≡ checkOf s row
+      pub fault-some : (j : ℕ) → r ≡ C.Broken j → faultAt (ro (fieldsOf s)) row ≡ some j
+      fault-some j q = sym e ∙ ap checkedMeans q
+
+      pub decodes : r ≡ C.Sound → isSome (decode (ro (fieldsOf s)) row) ≡ true
+      decodes q = fault-free (codec (ro (fieldsOf s)) .get row) (fault-none q)
+
+    pub check-no : judged s ≡ Refused → refused (numbered 1) ≡ checkOf s row
     unfolding checkOf
     check-no e = rw e
 
     module _ (a : judged s ≡ Accepted) where
-      pub check-long : 16384 < length row → refused 3 ≡ checkOf s row
+      pub check-long : 16384 < length row → refused (numbered 3) ≡ checkOf s row
       unfolding checkOf
       check-long h = rw (a, lt-leb (length row) 16384 h)
 
-      module _ (h : length row ≤ 16384) (r : Bool) (e : r ≡ sound (ro (fieldsOf s)) row) where
-        pub check-bad : r ≡ false → refused 7 ≡ checkOf s row
-        unfolding checkOf sound
-        check-bad q = rw (a, le-leb (length row) 16384 h, sym e ∙ q)
+      module _ (h : length row ≤ 16384) (r : Checked) (e : checkedMeans r ≡ faultAt (ro (fieldsOf s)) row) where
+        pub check-bad : (j : ℕ) → r ≡ C.Broken j → refused (brokenAt j) ≡ checkOf s row
+        unfolding checkOf
+        check-bad j q = rw (a, le-leb (length row) 16384 h, fault-some r e j q)
 
-        pub check-good : r ≡ true → done ≡ checkOf s row
-        unfolding checkOf sound
-        check-good q = rw (a, le-leb (length row) 16384 h, sym e ∙ q)
+        pub check-good : r ≡ C.Sound → done ≡ checkOf s row
+        unfolding checkOf
+        check-good q = rw (a, le-leb (length row) 16384 h, fault-none r e q)

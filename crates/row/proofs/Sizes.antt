@@ -1,9 +1,9 @@
 -- The lengths in answers are small. Assumes nothing.
-use mathlib.Core.Path.{_≡_, refl, sym, ap, _∙_}
+use mathlib.Core.Path.{_≡_, refl}
 use mathlib.Core.Bool.{Bool, true, false, cond}
 use mathlib.Core.Option.{Option, none, some}
 use mathlib.Core.List.{List}
-use Prim.Native.Nat.{ℕ, _*_, _≤_}
+use Prim.Native.Nat.{ℕ, _≤_}
 use native.Mathlib.Omega.{arith}
 use lib.ListN.{length}
 use lib.Dec.{leb}
@@ -15,30 +15,33 @@ use Rattle.schema.specs.Walk.{fieldsOf}
 use Rattle.schema.specs.declared.Judged.{Judged}
 use Rattle.schema.specs.declared.Judged.the-variants.{Accepted, Refused}
 use Rattle.layout.specs.Cells.{Cell}
-use Rattle.layout.specs.Layout.{decode}
+use Rattle.layout.specs.Faults.{Read, fault, got, faultIn}
+use Rattle.layout.specs.Refusals.{numbered}
+use Rattle.layout.specs.Layout.{codec}
+use Rattle.layout.proofs.Faults.{got-some}
 use Rattle.layout.specs.Setting.{orEmpty}
 use Rattle.layout.specs.Entries.{takes, refusedWith, writeOf, imageOf, listOf, listingOf}
 use Rattle.row.specs.Outcomes.{lengthIn}
 use Rattle.row.proofs.Demand2.{relisted}
 
-either : (b : Bool) (n : ℕ) → lengthIn (cond b (takes n) (refusedWith 4 n)) ≡ n
+either : (b : Bool) (n : ℕ) → lengthIn (cond b (takes n) (refusedWith (numbered 4) n)) ≡ n
 either true n = refl
 either false n = refl
 
 -- a listing is at most three times its row
 pub list-below : (s row : List ℕ) (room : ℕ) → Bytes row → lengthIn (listOf s row room) ≤ 49152
-unfolding listOf
+unfolding listOf faultIn
 list-below s row room hb = by-schema (judged s) refl
   where
-    by-row : judged s ≡ Accepted → leb (length row) 16384 ≡ true → (o : Option Cell) → decode (ro (fieldsOf s)) row ≡ o → lengthIn (listOf s row room) ≤ 49152
-    by-row a h none d = rw (a, h, d) (omega arith)
-    by-row a h (some c) d =
-        let z = relisted s a row hb (leb-true (length row) 16384 h) c d in
+    by-row : judged s ≡ Accepted → leb (length row) 16384 ≡ true → (m : Read Cell) → codec (ro (fieldsOf s)) .get row ≡ m → lengthIn (listOf s row room) ≤ 49152
+    by-row a h (fault p) d = rw (a, h, d) (omega arith)
+    by-row a h (got c) d =
+        let z = relisted s a row hb (leb-true (length row) 16384 h) c (got-some d) in
         let m : length (orEmpty (listingOf s row)) ≡ length (z .listed) = rw (z .lists) in
         rw (a, h, d, m, either) (omega (arith, z .short, leb-true (length row) 16384 h))
 
     by-length : judged s ≡ Accepted → (v : Bool) → leb (length row) 16384 ≡ v → lengthIn (listOf s row room) ≤ 49152
-    by-length a true h = by-row a h (decode (ro (fieldsOf s)) row) refl
+    by-length a true h = by-row a h (codec (ro (fieldsOf s)) .get row) refl
     by-length a false h = rw (a, h) (omega arith)
 
     by-schema : (j : Judged) → judged s ≡ j → lengthIn (listOf s row room) ≤ 49152

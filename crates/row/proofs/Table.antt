@@ -1,13 +1,14 @@
 -- The table, computed from the definitions. Assumes nothing.
 use mathlib.Core.Path.{refl}
 use native.Mathlib.Decide.{decLe, decLt, ℕ-discrete}
-use Rattle.words.specs.Bytes.{le, num, fill}
+use Rattle.words.specs.Bytes.{le, num, fill, zerosAhead, highBits, pastByte}
 use Rattle.schema.specs.Marks.{types, markAt}
 use Rattle.schema.specs.Kinds.{find, placeOf, kindOf, placed as placedKind, headKind, kindAt}
 use Rattle.schema.specs.Types.{fixedPlace, textPlace, fixedAt, textAt, place, width, mark, count, field}
 use Rattle.schema.specs.Reading.{parseAll, parseRo, parseKind, parse as parseTy, judged}
 use Rattle.schema.specs.Walk.{typeAt as tyAt, fieldsOf}
 use Rattle.layout.specs.Reader.{assert, cut}
+use Rattle.layout.specs.Faults.{assertAt, cutAt, seenFrom, within, yielded, inRow, faultIn}
 use Rattle.layout.specs.Tiles.{total, both?, either?, change?, aparts?, stands?}
 use Rattle.layout.specs.Cells.{fromCells, toCells, onNull, bytes, parts}
 use Rattle.layout.specs.Layout.{number, string, inside, outside, kidOf, slotOf, kidGet, flags, slots, tails, reads, bodyPut, bodyGet, struct, array, pair, limit, codec}
@@ -21,7 +22,8 @@ use Rattle.row.specs.Table.{Table}
 -- to unfold this is to unfold the definitions
 computes : Unit {0}
 unfolding le num fill types markAt find placeOf kindOf placedKind headKind kindAt fixedPlace textPlace fixedAt textAt place width mark count field
-    parseAll parseRo parseKind parseTy judged tyAt fieldsOf assert cut total both? either? change? aparts? stands? fromCells toCells onNull bytes parts
+    parseAll parseRo parseKind parseTy judged tyAt fieldsOf assert cut assertAt cutAt seenFrom within yielded inRow faultIn zerosAhead highBits pastByte
+    total both? either? change? aparts? stands? fromCells toCells onNull bytes parts
     number string inside outside kidOf slotOf kidGet flags slots tails reads bodyPut bodyGet struct array pair limit codec
     numberScript textScript marked nullOr item runPut runGet structScript listScript mapScript script listing parse
     must mustStep own bySlot byFlag child stepIn goOn walk typeAt placed valueOf answerOf found readIn

@@ -6,6 +6,8 @@ use mathlib.Core.List.{List, [], _∷_}
 use Prim.Native.Nat.{ℕ}
 use native.Mathlib.Omega.{arith}
 use denote.Ref.{RefT, now}
+use Rattle.layout.specs.Refusals as N
+use Rattle.layout.specs.Refusals.{Refusal}
 use Rattle.layout.specs.Reading as R
 use Rattle.layout.specs.Setting as S
 use Rattle.layout.specs.Setting.{refusalIn}
@@ -26,9 +28,10 @@ use Rattle.row.proofs.Numbers.{read-gives}
 
 -- ---- outcomes: 4, whose length a verdict leaves out, is none of them
 
-no-four : (ns : List ℕ) (v : Verdict) → lacks 4 ns ≡ true → Ends ns v → v ≡ E.refused 4 → ⊥
+no-four : (ns : List ℕ) (v : Verdict) → lacks 4 ns ≡ true → Ends ns v → v ≡ E.refused (N.numbered 4) → ⊥
 no-four ns v h D.done e = let z : _≡_ {A = ℕ} 0 1 = cc in omega arith
-no-four ns v h (D.refused {n = n} o) e = let z : n ≡ 4 = cc in not-among 4 o h z
+no-four ns v h (D.refused (D.number {n = n} o _)) e = let z : n ≡ 4 = cc in not-among 4 o h z
+no-four ns v h (D.refused (D.place o)) e = let z : _≡_ {A = ℕ} 0 1 = cc in omega arith
 
 outcomes : (ns : List ℕ) (v : Verdict) → lacks 4 ns ≡ true → Ends ns v → (r r′ : Outcome) → outcomeMeans r ≡ v → outcomeMeans r′ ≡ v → r ≡ r′
 outcomes ns v h g r r′ e e′ = outcome-one r r′ (e ∙ sym e′) (λ q. no-four ns v h g (sym e ∙ q))
@@ -40,12 +43,12 @@ set-ends ns o (D.refused q) = D.refused q
 
 -- ---- answers: neither the case of no answer, nor 4
 
-no-refusal : (a : R.Answer) → refusalIn a ≡ none → (n : ℕ) → a ≡ R.refused n → ⊥
+no-refusal : (a : R.Answer) → refusalIn a ≡ none → (n : Refusal) → a ≡ R.refused n → ⊥
 unfolding refusalIn
 no-refusal a q n e = let z : some n ≡ none = sym (ap refusalIn e) ∙ q in let o : _≡_ {A = ℕ} 0 1 = cc in omega arith
 
 value : (a : R.Answer) → refusalIn a ≡ none → Numbered a
-value a q = record { known = no-refusal a q 0; roomless = no-refusal a q 4 }
+value a q = record { known = no-refusal a q (N.numbered 0); roomless = no-refusal a q (N.numbered 4) }
 
 pub numbered : {ns : List ℕ} (a : R.Answer) → lacks 0 ns ≡ true → lacks 4 ns ≡ true → Gives ns a → Numbered a
 unfolding refusalIn
@@ -56,7 +59,9 @@ numbered a h₀ h₄ D.float32 = value a refl
 numbered a h₀ h₄ D.float64 = value a refl
 numbered a h₀ h₄ D.bytes = value a refl
 numbered a h₀ h₄ D.container = value a refl
-numbered a h₀ h₄ (D.refused {n = n} o) =
+numbered a h₀ h₄ (D.refused (D.place o)) =
+    record { known = λ e. let z : _≡_ {A = ℕ} 0 1 = cc in omega arith; roomless = λ e. let z : _≡_ {A = ℕ} 0 1 = cc in omega arith }
+numbered a h₀ h₄ (D.refused (D.number {n = n} o _)) =
     record { known = λ e. let z : n ≡ 0 = cc in not-among 0 o h₀ z; roomless = λ e. let z : n ≡ 4 = cc in not-among 4 o h₄ z }
 
 reads : (s row p : List ℕ) (r r′ : Answer) → meaning r ≡ readOf s row p → meaning r′ ≡ readOf s row p → r ≡ r′

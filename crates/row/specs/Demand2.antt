@@ -12,6 +12,7 @@ use Rattle.schema.specs.Walk.{fieldsOf}
 use Rattle.layout.specs.Cells.{Cell, leaf, node, flag, parts, part as partOf, clean}
 use Rattle.layout.specs.Layout.{content, Lays, decode}
 use Rattle.layout.specs.Orders.{Order, which, Value, owns, Slots, StructInOrder, children}
+use Rattle.layout.specs.Refusals.{numbered}
 use Rattle.layout.specs.Places.{SamePlaces, FieldOrder}
 use Rattle.layout.specs.Reading as R
 use Rattle.layout.specs.Reading.{Answer, valueOf, placed, readIn}
@@ -68,9 +69,9 @@ pub data Shows (row : List ℕ) : Ty → Cell → Answer → Type 0 where
 -- what the path reads as in contents c of type t: 5 where they have no such child, 6 where a null stands before its end
 pub data ReadsAs (row : List ℕ) : List ℕ → Ty → Cell → Answer → Type 0 where
   here : {t : Ty} {c : Cell} {a : Answer} → Shows row t c a → ReadsAs row [] t c a
-  nowhere : {i : ℕ} {p : List ℕ} {t : Ty} {c : Cell} → length (parts c) ≤ i → ReadsAs row (i ∷ p) t c (R.refused 5)
+  nowhere : {i : ℕ} {p : List ℕ} {t : Ty} {c : Cell} → length (parts c) ≤ i → ReadsAs row (i ∷ p) t c (R.refused (numbered 5))
   null : {i : ℕ} {t : Ty} {c : Cell} → i < length (parts c) → flag (partOf i c) ≡ 1 → ReadsAs row (i ∷ []) t c R.null
-  under : {i j : ℕ} {p : List ℕ} {t : Ty} {c : Cell} → i < length (parts c) → flag (partOf i c) ≡ 1 → ReadsAs row (i ∷ j ∷ p) t c (R.refused 6)
+  under : {i j : ℕ} {p : List ℕ} {t : Ty} {c : Cell} → i < length (parts c) → flag (partOf i c) ≡ 1 → ReadsAs row (i ∷ j ∷ p) t c (R.refused (numbered 6))
   on : {i : ℕ} {p : List ℕ} {t : Ty} {c : Cell} {a : Answer} → i < length (parts c) → flag (partOf i c) ≡ 0 → ReadsAs row p (childTy t i) (partOf i c) a → ReadsAs row (i ∷ p) t c a
 
 pub record Demand2 (s : List ℕ) : Type 0 where

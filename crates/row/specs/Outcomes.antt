@@ -2,9 +2,11 @@
 -- definitions.
 use mathlib.Core.Path.{_≡_}
 use mathlib.Core.List.{List}
-use Prim.Native.Nat.{ℕ}
+use mathlib.Core.Option.{Option, none, some}
+use Prim.Native.Nat.{ℕ, _≤_}
 use lib.ListN.{length}
-use Rattle.layout.specs.Entries.{Sized, takes, refusedWith, writeOf, writtenOf, listOf, listedOf}
+use Rattle.layout.specs.Refusals.{Refusal, numbered, brokenAt}
+use Rattle.layout.specs.Entries.{Verdict, done, refused, Sized, takes, refusedWith, writeOf, writtenOf, listOf, listedOf}
 use Rattle.answers.specs.declared.Length.{Length}
 use Rattle.answers.specs.Meaning.{lengthMeans}
 
@@ -21,4 +23,21 @@ pub record ListsTo (s row out : List ℕ) (r : Length) (out′ : List ℕ) : Typ
 -- the length in an answer
 abbrev pub lengthIn : Sized → ℕ
 lengthIn (takes n) = n
-lengthIn (refusedWith n k) = k
+lengthIn (refusedWith r k) = k
+
+-- a place in an answer is at most n
+abbrev pub Low : ℕ → Refusal → Type 0
+Low n (numbered m) = Unit {0}
+Low n (brokenAt place) = place ≤ n
+
+abbrev pub LowIn : ℕ → Option Refusal → Type 0
+LowIn n none = Unit {0}
+LowIn n (some r) = Low n r
+
+abbrev pub LowVerdict : ℕ → Verdict → Type 0
+LowVerdict n done = Unit {0}
+LowVerdict n (refused r) = Low n r
+
+abbrev pub LowSized : ℕ → Sized → Type 0
+LowSized n (takes m) = Unit {0}
+LowSized n (refusedWith r k) = Low n r

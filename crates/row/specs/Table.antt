@@ -6,6 +6,7 @@ use lib.ListN.{length, replicate, set, take}
 use Rattle.words.specs.Bytes.{zeros, part}
 use Rattle.layout.specs.Reading as R
 use Rattle.layout.specs.Setting as S
+use Rattle.layout.specs.Refusals.{numbered, brokenAt}
 use Rattle.layout.specs.Setting.{refuses, becomes}
 use Rattle.layout.specs.Entries.{done, refused, takes, checkOf, writeOf, writtenOf, listOf, listedOf, readOf, setOf}
 
@@ -161,28 +162,32 @@ pub record Table : Type 0 where
   pub f : Stands map (ro (ma (in4 3 ++ i8 (in8 1) ++ i8 (in8 2) ++ i8 (in8 3) ++ i8 (in8 4) ++ i8 (in8 5) ++ i8 (in8 6)))) F × (length F ≡ 104) × (part F 8 4 ≡ in4 88) × (part F 16 8 ≡ in8 40)
   pub g : Stands nested (ro (ro (i8 (in8 9) ++ f8 one))) G × (length G ≡ 40)
   -- the second offset, at byte 20, changed from 32 to 24
-  pub h : Stands strings (ro (st (in4 3 ++ STK) ++ st (in4 3 ++ PWR))) STK-PWR × (checkOf strings (set STK-PWR 20 24) ≡ refused 7)
+  pub h : Stands strings (ro (st (in4 3 ++ STK) ++ st (in4 3 ++ PWR))) STK-PWR × (checkOf strings (set STK-PWR 20 24) ≡ refused (brokenAt 16))
   -- the size, at byte 8, changed
-  pub i : (checkOf string (set C 8 8) ≡ done) × (checkOf string (set C 8 9) ≡ refused 7)
-  pub j : readOf string J (0 ∷ []) ≡ R.refused 7
+  pub i : (checkOf string (set C 8 8) ≡ done) × (checkOf string (set C 8 9) ≡ refused (brokenAt 8))
+  pub j : readOf string J (0 ∷ []) ≡ R.refused (brokenAt 8)
   -- the fixed part alone is a row of bools, and one byte less is none
-  pub k : (checkOf (bools 64) (zeros 520) ≡ done) × (checkOf (bools 64) (zeros 519) ≡ refused 7) × (checkOf (bools 65) (zeros 536) ≡ done) × (checkOf (bools 65) (zeros 535) ≡ refused 7)
+  pub k : (checkOf (bools 64) (zeros 520) ≡ done) × (checkOf (bools 64) (zeros 519) ≡ refused (brokenAt 0)) × (checkOf (bools 65) (zeros 536) ≡ done)
+      × (checkOf (bools 65) (zeros 535) ≡ refused (brokenAt 0))
   pub l : setOf numbers A (0 ∷ []) S.null ≡ becomes (in8 1 ++ zeros 8 ++ in8 1)
-  pub m : (setOf string C (0 ∷ []) (S.bytes TPH) ≡ becomes (zeros 8 ++ slot 16 3 ++ (TPH ++ zeros 5))) × (setOf string C (0 ∷ []) (S.bytes (take 2 TPH)) ≡ refuses 9) × (setOf string C (0 ∷ []) S.null ≡ refuses 9)
+  pub m : (setOf string C (0 ∷ []) (S.bytes TPH) ≡ becomes (zeros 8 ++ slot 16 3 ++ (TPH ++ zeros 5)))
+      × (setOf string C (0 ∷ []) (S.bytes (take 2 TPH)) ≡ refuses (numbered 9)) × (setOf string C (0 ∷ []) S.null ≡ refuses (numbered 9))
   pub n : Stands bytelist (ro (li (in4 0))) N × (length N ≡ 24)
   -- strings in another order than their fields: accepted, listed as in field order, read and set where they stand
   pub any-order : (checkOf strings turned ≡ done) × (listedOf strings turned (zeros 20) ≡ ro (st (in4 3 ++ STK) ++ st (in4 3 ++ PWR)))
       × (readOf strings turned (0 ∷ []) ≡ R.bytes 32 3)
       × (setOf strings turned (0 ∷ []) (S.bytes TPH) ≡ becomes (two (slot 32 3) (slot 24 3) ((PWR ++ zeros 5) ++ (TPH ++ zeros 5))))
   -- two slots at one nested stroke; a string that starts inside another, and one over another's last 8 bytes
-  pub overlaps : (checkOf strokes (two (slot 24 16) (slot 24 16) (zeros 8 ++ in8 7)) ≡ refused 7)
-      × (checkOf strings (two (slot 24 16) (slot 32 16) (zeros 24)) ≡ refused 7) × (checkOf strings (two (slot 32 8) (slot 24 16) (zeros 16)) ≡ refused 7)
+  pub overlaps : (checkOf strokes (two (slot 24 16) (slot 24 16) (zeros 8 ++ in8 7)) ≡ refused (brokenAt 16))
+      × (checkOf strings (two (slot 24 16) (slot 32 16) (zeros 24)) ≡ refused (brokenAt 16))
+      × (checkOf strings (two (slot 32 8) (slot 24 16) (zeros 16)) ≡ refused (brokenAt 16))
   -- 8 bytes over at the end, or between the two
-  pub gaps : (checkOf strings (turned ++ zeros 8) ≡ refused 7)
-      × (checkOf strings (two (slot 40 3) (slot 24 3) ((PWR ++ zeros 5) ++ zeros 8 ++ (STK ++ zeros 5))) ≡ refused 7)
+  pub gaps : (checkOf strings (turned ++ zeros 8) ≡ refused (brokenAt 0))
+      × (checkOf strings (two (slot 40 3) (slot 24 3) ((PWR ++ zeros 5) ++ zeros 8 ++ (STK ++ zeros 5))) ≡ refused (brokenAt 0))
   -- an empty string where the other starts, and where it ends; inside it, before the variable data and past the end
   pub empties : (checkOf strings (two (slot 24 0) (slot 24 3) (STK ++ zeros 5)) ≡ done)
       × (checkOf strings (two (slot 32 0) (slot 24 3) (STK ++ zeros 5)) ≡ done)
-      × (checkOf strings (two (slot 32 0) (slot 24 16) (zeros 16)) ≡ refused 7) × (checkOf strings (two (slot 24 16) (slot 32 0) (zeros 16)) ≡ refused 7)
-      × (checkOf strings (two (slot 16 0) (slot 24 3) (STK ++ zeros 5)) ≡ refused 7)
-      × (checkOf strings (two (slot 40 0) (slot 24 3) (STK ++ zeros 5)) ≡ refused 7)
+      × (checkOf strings (two (slot 32 0) (slot 24 16) (zeros 16)) ≡ refused (brokenAt 16))
+      × (checkOf strings (two (slot 24 16) (slot 32 0) (zeros 16)) ≡ refused (brokenAt 16))
+      × (checkOf strings (two (slot 16 0) (slot 24 3) (STK ++ zeros 5)) ≡ refused (brokenAt 8))
+      × (checkOf strings (two (slot 40 0) (slot 24 3) (STK ++ zeros 5)) ≡ refused (brokenAt 8))

@@ -36,10 +36,9 @@ pub fn check(schema: &[u8], row: &[u8]) -> Outcome
     if 16384 < row.len() {
         return Outcome::Refused(Refusal::TooLong);
     }
-    if checking::check_row(schema, row) {
-        Outcome::Done
-    } else {
-        Outcome::Refused(Refusal::Layout)
+    match checking::check_row(schema, row) {
+        checking::Checked::Sound => Outcome::Done,
+        checking::Checked::Broken { place } => Outcome::Refused(Refusal::Layout { place }),
     }
 }
 
@@ -63,16 +62,17 @@ pub fn list(schema: &[u8], row: &[u8], out: &mut [u8]) -> Length
     if 16384 < row.len() {
         return Length::Refused(Refusal::TooLong);
     }
-    if checking::check_row(schema, row) {
-        let room = out.len();
-        let needed = listing::list_row(schema, row, out);
-        if room < needed {
-            Length::Refused(Refusal::Room { needed })
-        } else {
-            Length::Done(needed)
+    match checking::check_row(schema, row) {
+        checking::Checked::Sound => {
+            let room = out.len();
+            let needed = listing::list_row(schema, row, out);
+            if room < needed {
+                Length::Refused(Refusal::Room { needed })
+            } else {
+                Length::Done(needed)
+            }
         }
-    } else {
-        Length::Refused(Refusal::Layout)
+        checking::Checked::Broken { place } => Length::Refused(Refusal::Layout { place }),
     }
 }
 

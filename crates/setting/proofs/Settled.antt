@@ -1,10 +1,8 @@
 -- From a leaf's outcome to that of its place, of the path and of the whole setting. Assumes nothing.
 use mathlib.Core.Path.{_≡_, refl, sym, ap, _∙_, subst}
-use mathlib.Core.Bool.{Bool, true, false}
 use mathlib.Core.Option.{Option, none, some}
 use mathlib.Core.List.{List}
 use Prim.Native.Nat.{ℕ, _≤_, _<_}
-use native.Mathlib.Omega.{arith}
 use lib.ListN.{length}
 use borrow.Author.Tests.{le-leb, lt-leb}
 use Rattle.words.proofs.Parts.{length-part}
@@ -15,13 +13,13 @@ use Rattle.schema.specs.Walk.{fieldsOf}
 use Rattle.schema.specs.declared.Judged.the-variants.{Accepted, Refused}
 use Rattle.schema.specs.declared.Opened.{Opened}
 use Rattle.schema.specs.declared.Opened.the-variants.{Fixed as OFixed, Text as OText, List as OList, Map as OMap, Struct as OStruct, Nothing as ONothing}
-use Rattle.layout.specs.Cells.{Cell}
-use Rattle.layout.specs.Layout.{decode}
+use Rattle.layout.specs.Refusals.{Refusal, numbered, brokenAt}
+use Rattle.layout.specs.Layout.{faultAt}
 use Rattle.layout.specs.Walk as W
 use Rattle.layout.specs.Walk.{Seen, bad, nullAt, seen, rootSeat, walk}
 use Rattle.layout.specs.Reading.{valueOf, answerOf, found, placed, readIn}
 use Rattle.layout.specs.Setting as S
-use Rattle.layout.specs.Setting.{Setting, isSome, suits, keepsText, keeps, _or_, refusalIn, judgeAt, write, writeAt, outcome, setIn}
+use Rattle.layout.specs.Setting.{Setting, suits, keepsText, keeps, _or_, refusalIn, judgeAt, write, writeAt, outcome, setIn}
 use Rattle.layout.specs.Entries.{setOf}
 use Rattle.answers.specs.declared.Outcome.{Outcome}
 use Rattle.answers.specs.declared.Outcome.the-variants as O
@@ -29,7 +27,9 @@ use Rattle.answers.specs.declared.Refusal.the-variants as F
 use Rattle.answers.specs.declared.Given.{Given}
 use Rattle.answers.specs.declared.Setting.{Setting as Asked}
 use Rattle.answers.specs.Meaning.{givenMeans, settingOf}
-use Rattle.checking.specs.Sound.{sound}
+use Rattle.checking.specs.declared.Checked.{Checked as Verdict}
+use Rattle.checking.specs.declared.Checked.the-variants as C
+use Rattle.checking.specs.Sound.{checkedMeans}
 use Rattle.reading.specs.Children.{seatAs, SeatIn}
 use Rattle.reading.specs.Places.{openTy, placeTy, bytesOf, wideX, Seated, OpenIs, Stands, NullIn}
 use Rattle.reading.specs.Finding.{foundAs, seenIn, Open, Finds}
@@ -41,7 +41,7 @@ use Rattle.setting.specs.Writes.{SetAs, decided, leafOutcome, fixedOutco
 
 -- ---- a place's outcome is its leaf's
 
-or-none : (o : Option ℕ) → (o or none) ≡ o
+or-none : (o : Option Refusal) → (o or none) ≡ o
 or-none none = refl
 or-none (some n) = refl
 
@@ -120,19 +120,10 @@ module _ (row : List ℕ) (p : Place) (P : PlaceThere row p) where
 
 -- ---- the path
 
-no-clash : false ≡ true → ⊥
-no-clash q = let n : _≡_ {A = ℕ} 0 1 = cc in omega arith
-
-outcome-is : (d : Option Cell) → isSome d ≡ true → (o : Option ℕ) (w : List ℕ) → outcome d o w ≡ decided o w
+outcome-is : (o : Option Refusal) (w : List ℕ) → outcome none o w ≡ decided o w
 unfolding outcome decided
-outcome-is none h o w = absurd (no-clash h)
-outcome-is (some c) h none w = refl
-outcome-is (some c) h (some n) w = refl
-
-outcome-none : (d : Option Cell) → isSome d ≡ false → (o : Option ℕ) (w : List ℕ) → outcome d o w ≡ S.refuses 7
-unfolding outcome
-outcome-none none h o w = refl
-outcome-none (some c) h o w = absurd (no-clash (sym h))
+outcome-is none w = refl
+outcome-is (some n) w = refl
 
 null-none : (t : Ty) (z : W.Seat) → refusalIn (answerOf t (nullAt z)) ≡ none
 unfolding answerOf refusalIn
@@ -160,9 +151,9 @@ seen-none (li t) z o b = refl
 seen-none (ma k v) z o b = refl
 seen-none (ro ts) z o b = refl
 
-judge-refused : (x : Setting) (o : Option Ty) (w : Seen) (n : ℕ) → bad n ≡ seenIn o w → judgeAt o (found o w) x ≡ some n
+judge-refused : (x : Setting) (o : Option Ty) (w : Seen) (n : Refusal) → bad n ≡ seenIn o w → judgeAt o (found o w) x ≡ some n
 unfolding judgeAt found answerOf refusalIn
-judge-refused x none w n e = let z : 5 ≡ n = cc in ap some z
+judge-refused x none w n e = let z : numbered 5 ≡ n = cc in ap some z
 judge-refused x (some (fix f)) w n e = rw (← e)
 judge-refused x (some (text f)) w n e = rw (← e)
 judge-refused x (some (li t)) w n e = rw (← e)
@@ -186,27 +177,28 @@ module _ (s row p : List ℕ) (C : Checked s row) where
   checked-open = record { schema = C .schema; short = C .short }
 
   set-is : (x : Setting) → setOf s row p x ≡ decided (judgeAt (placed p (ro (fieldsOf s))) (found (placed p (ro (fieldsOf s))) (walk p (ro (fieldsOf s)) rootSeat 0 row)) x) (writeAt (placed p (ro (fieldsOf s))) x (walk p (ro (fieldsOf s)) rootSeat 0 row) row)
-  unfolding setOf setIn readIn sound
-  set-is x = rw (C .schema, le-leb (length row) 16384 (C .short)) (outcome-is (decode (ro (fieldsOf s)) row) (C .sound) _ _)
+  unfolding setOf setIn readIn
+  set-is x = rw (C .schema, le-leb (length row) 16384 (C .short), C .sound) (outcome-is _ _)
 
   module _ (r : Found) (G : Finds s row p r) where
-    set-refused : (x : Setting) (n : ℕ) → foundAs row r ≡ bad n → setOf s row p x ≡ S.refuses n
+    set-refused : (x : Setting) (n : Refusal) → foundAs row r ≡ bad n → setOf s row p x ≡ S.refuses n
     unfolding decided
     set-refused x n e =
         set-is x
-        ∙ ap (λ (o : Option ℕ). decided o (writeAt (placed p (ro (fieldsOf s))) x (walk p (ro (fieldsOf s)) rootSeat 0 row) row)) (judge-refused x (placed p (ro (fieldsOf s))) (walk p (ro (fieldsOf s)) rootSeat 0 row) n (sym e ∙ G .means))
+        ∙ ap (λ (o : Option Refusal). decided o (writeAt (placed p (ro (fieldsOf s))) x (walk p (ro (fieldsOf s)) rootSeat 0 row) row))
+        (judge-refused x (placed p (ro (fieldsOf s))) (walk p (ro (fieldsOf s)) rootSeat 0 row) n (sym e ∙ G .means))
 
     pub set-nowhere : (x : Setting) → r ≡ NoPlace → SetAs (setOf s row p x) row row (O.Refused F.NoPlace)
     unfolding foundAs
-    set-nowhere x e = let q : setOf s row p x ≡ S.refuses 5 = set-refused x 5 (rw e) in rw q (record { answers = refl; after = refl })
+    set-nowhere x e = let q : setOf s row p x ≡ S.refuses (numbered 5) = set-refused x (numbered 5) (rw e) in rw q (record { answers = refl; after = refl })
 
     pub set-under : (x : Setting) → r ≡ NullBefore → SetAs (setOf s row p x) row row (O.Refused F.NullBefore)
     unfolding foundAs
-    set-under x e = let q : setOf s row p x ≡ S.refuses 6 = set-refused x 6 (rw e) in rw q (record { answers = refl; after = refl })
+    set-under x e = let q : setOf s row p x ≡ S.refuses (numbered 6) = set-refused x (numbered 6) (rw e) in rw q (record { answers = refl; after = refl })
 
-    pub set-broken : (x : Setting) → r ≡ Broken → SetAs (setOf s row p x) row row (O.Refused F.Layout)
+    pub set-broken : (x : Setting) (j : ℕ) → r ≡ Broken j → SetAs (setOf s row p x) row row (O.Refused (F.Layout j))
     unfolding foundAs
-    set-broken x e = let q : setOf s row p x ≡ S.refuses 7 = set-refused x 7 (rw e) in rw q (record { answers = refl; after = refl })
+    set-broken x j e = let q : setOf s row p x ≡ S.refuses (brokenAt j) = set-refused x (brokenAt j) (rw e) in rw q (record { answers = refl; after = refl })
 
     walk-is : (t : Ty) → some t ≡ placed p (ro (fieldsOf s)) → foundAs row r ≡ walk p (ro (fieldsOf s)) rootSeat 0 row
     walk-is t e = G .means ∙ rw (← e)
@@ -252,11 +244,17 @@ module _ (s row p : List ℕ) (x : Setting) where
     unfolding setOf
     set-long h = record { answers = rw (a, lt-leb (length row) 16384 h); after = rw (a, lt-leb (length row) 16384 h) }
 
-    pub set-unsound : length row ≤ 16384 → (r : Bool) → r ≡ sound (ro (fieldsOf s)) row → r ≡ false → SetAs (setOf s row p x) row row (O.Refused F.Layout)
-    unfolding setOf setIn sound
-    set-unsound h r e f =
-        let q : setOf s row p x ≡ S.refuses 7 = rw (a, le-leb (length row) 16384 h) (outcome-none (decode (ro (fieldsOf s)) row) (sym e ∙ f) _ _) in
-        subst (λ (o : S.Outcome). SetAs o row row (O.Refused F.Layout)) (sym q) (record { answers = refl; after = refl })
+    -- broken at a place, and not
+    module _ (h : length row ≤ 16384) (r : Verdict) (e : checkedMeans r ≡ faultAt (ro (fieldsOf s)) row) where
+      pub set-unsound : (j : ℕ) → r ≡ C.Broken j → SetAs (setOf s row p x) row row (O.Refused (F.Layout j))
+      unfolding setOf setIn outcome
+      set-unsound j f =
+          let g : faultAt (ro (fieldsOf s)) row ≡ some j = sym e ∙ ap checkedMeans f in
+          let q : setOf s row p x ≡ S.refuses (brokenAt j) = rw (a, le-leb (length row) 16384 h, g) in
+          subst (λ (o : S.Outcome). SetAs o row row (O.Refused (F.Layout j))) (sym q) (record { answers = refl; after = refl })
+
+      pub set-checked : r ≡ C.Sound → Checked s row
+      set-checked f = record { schema = a; short = h; sound = sym e ∙ ap checkedMeans f }
 
 pub set-given : (s row p : List ℕ) (g : Given) (v : Asked) → ((u : List ℕ) → givenMeans g u ≡ settingOf v u) → (u row′ : List ℕ) (r : Outcome) → SetAs (setOf s row p (givenMeans g u)) row row′ r → SetAs (setOf s row p (settingOf v u)) row row′ r
 set-given s row p g v e u row′ r h = subst (λ (x : Setting). SetAs (setOf s row p x) row row′ r) (e u) h

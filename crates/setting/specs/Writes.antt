@@ -1,6 +1,6 @@
 -- What a setting comes to at a leaf, and what it leaves in the row. Assumes nothing: these are definitions.
 use mathlib.Core.Path.{_≡_}
-use mathlib.Core.Bool.{true, false}
+use mathlib.Core.Bool.{false}
 use mathlib.Core.Option.{Option, none, some}
 use mathlib.Core.List.{List}
 use Prim.Native.Nat.{ℕ, _+_, _/_, _^_, _≤_, _<_}
@@ -13,6 +13,8 @@ use Rattle.schema.specs.Walk.{fieldsOf}
 use Rattle.schema.specs.declared.Judged.the-variants.{Accepted}
 use Rattle.schema.specs.declared.Opened.{Opened}
 use Rattle.schema.specs.declared.Opened.the-variants.{Fixed as OFixed, Text as OText, List as OList, Map as OMap, Struct as OStruct, Nothing as ONothing}
+use Rattle.layout.specs.Refusals.{Refusal}
+use Rattle.layout.specs.Layout.{faultAt}
 use Rattle.layout.specs.Walk as W
 use Rattle.layout.specs.Reading.{answerOf}
 use Rattle.layout.specs.Setting as S
@@ -20,7 +22,6 @@ use Rattle.layout.specs.Setting.{Setting, isNull, inBytes, suits, fitsText, kee
 use Rattle.layout.specs.Entries.{setVerdict, rowAfter}
 use Rattle.answers.specs.declared.Outcome.{Outcome}
 use Rattle.answers.specs.Meaning.{outcomeMeans}
-use Rattle.checking.specs.Sound.{sound}
 use Rattle.reading.specs.Children.{SeatIn}
 use Rattle.reading.specs.Places.{wideX, Seated}
 use Rattle.reading.specs.declared.Seat.{Seat}
@@ -54,9 +55,9 @@ pub record SetAs (o : S.Outcome) (row row′ : List ℕ) (r : Outcome) : Type 0 
   pub after : row′ ≡ rowAfter o row
 
 -- refused, or the row that is written
-unfoldable pub decided : Option ℕ → List ℕ → S.Outcome
+unfoldable pub decided : Option Refusal → List ℕ → S.Outcome
 decided none w = S.becomes w
-decided (some n) w = S.refuses n
+decided (some r) w = S.refuses r
 
 -- at a place of type t that the walk found: 8, then 9, then what is written
 unfoldable pub leafOutcome : Ty → Setting → W.Seen → List ℕ → S.Outcome
@@ -97,4 +98,4 @@ pub record PlaceThere (row : List ℕ) (p : Place) : Type 0 where
 pub record Checked (s row : List ℕ) : Type 0 where
   pub schema : judged s ≡ Accepted
   pub short : length row ≤ 16384
-  pub sound : sound (ro (fieldsOf s)) row ≡ true
+  pub sound : faultAt (ro (fieldsOf s)) row ≡ none

@@ -31,7 +31,7 @@ fn set_in(schema: &[u8], row: &mut [u8], path: Path, g: Given, bytes: &[u8]) -> 
     match reading::find(schema, row, path) {
         Found::NoPlace => Outcome::Refused(Refusal::NoPlace),
         Found::NullBefore => Outcome::Refused(Refusal::NullBefore),
-        Found::Broken => Outcome::Refused(Refusal::Layout),
+        Found::Broken(place) => Outcome::Refused(Refusal::Layout { place }),
         Found::Null(x, _, seat) => nulls::set_null(row, x, seat, g),
         Found::At(p) => present::set_place(row, p, g, bytes),
     }
@@ -50,8 +50,11 @@ pub fn set(schema: &[u8], row: &mut [u8], path: Path, value: Setting, bytes: &[u
     if 16384 < row.len() {
         return Outcome::Refused(Refusal::TooLong);
     }
-    if !checking::check_row(schema, row) {
-        return Outcome::Refused(Refusal::Layout);
+    match checking::check_row(schema, row) {
+        checking::Checked::Sound => {}
+        checking::Checked::Broken { place } => {
+            return Outcome::Refused(Refusal::Layout { place });
+        }
     }
     set_in(schema, row, path, answers::settings::given(value), bytes)
 }

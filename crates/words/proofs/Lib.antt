@@ -3,6 +3,7 @@ pub mod Numbers
 pub mod Parts
 pub mod Runs
 pub mod NumLaws
+pub mod FirstSet
 pub mod Turns
 pub mod BitLaws
 pub mod SignedLaws

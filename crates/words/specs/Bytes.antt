@@ -1,6 +1,6 @@
 -- Bytes, little-endian numbers, padding, and sizes. Assumes nothing: these are definitions.
 use mathlib.Core.List.{List, [], _∷_, _++_}
-use Prim.Native.Nat.{ℕ, zero, suc, _+_, _-_, _*_, _/_, _%_, _<_}
+use Prim.Native.Nat.{ℕ, zero, suc, _+_, _-_, _*_, _/_, _%_, _^_, _<_}
 use lib.ListN.{length, take, drop, replicate}
 
 -- every one is below 256
@@ -40,3 +40,18 @@ padded u = fill (pad (length u)) u
 -- the bytes of the bitmap of n children
 abbrev pub bitmap : ℕ → ℕ
 bitmap n = (n + 63) / 64 * 8
+
+-- how many zeros stand before the first byte that is none
+unfoldable pub zerosAhead : List ℕ → ℕ
+zerosAhead [] = 0
+zerosAhead (zero ∷ b) = suc (zerosAhead b)
+zerosAhead (suc x ∷ b) = 0
+
+-- without the r lowest bits of the first byte
+unfoldable pub highBits : ℕ → List ℕ → List ℕ
+highBits r [] = []
+highBits r (x ∷ m) = x / 2 ^ r ∷ m
+
+-- the first byte of a bitmap m that has a bit past n
+unfoldable pub pastByte : ℕ → List ℕ → ℕ
+pastByte n m = n / 8 + zerosAhead (highBits (n % 8) (drop (n / 8) m))

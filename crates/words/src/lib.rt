@@ -1,5 +1,6 @@
 // Bytes: little-endian numbers, slots, null bits, signed numbers, padding and copies.
 pub mod copies;
+pub mod finds;
 pub mod nulls;
 pub mod nums;
 pub mod signed;

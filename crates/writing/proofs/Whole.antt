@@ -22,6 +22,7 @@ use Rattle.schema.proofs.Typing.{typed-ro, typed-room, next-is}
 use Rattle.schema.proofs.Judging.{accepted-root}
 use Rattle.layout.specs.Reader.{_>>=_, assert, cut}
 use Rattle.layout.specs.Cells.{Cell, node}
+use Rattle.layout.specs.Refusals.{Refusal, numbered}
 use Rattle.layout.specs.Layout.{content}
 use Rattle.layout.specs.Listing.{marked, runGet, structScript, script, scripts, parse}
 use Rattle.layout.specs.Entries.{isAccepted, imageOf, Sized, takes, refusedWith, writeOf, writtenOf}
@@ -175,21 +176,21 @@ module _ (s l : List ℕ) (hj : judged s ≡ Accepted) (hl : length l ≤ 65536)
 -- ---- the answers
 
 module _ (s l : List ℕ) (room : ℕ) where
-  pub write-schema : isAccepted (judged s) ≡ false → refusedWith 1 0 ≡ writeOf s l room
+  pub write-schema : isAccepted (judged s) ≡ false → refusedWith (numbered 1) 0 ≡ writeOf s l room
   unfolding writeOf
   write-schema e = rw e
 
   module _ (e : isAccepted (judged s) ≡ true) where
-    pub write-listing : imageOf s l ≡ none → refusedWith 2 0 ≡ writeOf s l room
+    pub write-listing : imageOf s l ≡ none → refusedWith (numbered 2) 0 ≡ writeOf s l room
     unfolding writeOf
     write-listing f = rw (e, f)
 
     module _ (u : List ℕ) (f : imageOf s l ≡ some u) where
-      pub write-long : 16384 < length u → refusedWith 3 0 ≡ writeOf s l room
+      pub write-long : 16384 < length u → refusedWith (numbered 3) 0 ≡ writeOf s l room
       unfolding writeOf
       write-long h = rw (e, f, lt-leb _ _ h)
 
-      pub write-room : length u ≤ 16384 → room < length u → refusedWith 4 (length u) ≡ writeOf s l room
+      pub write-room : length u ≤ 16384 → room < length u → refusedWith (numbered 4) (length u) ≡ writeOf s l room
       unfolding writeOf
       write-room h g = rw (e, f, le-leb _ _ h, lt-leb _ _ g)
 
@@ -198,7 +199,7 @@ module _ (s l : List ℕ) (room : ℕ) where
       write-done h g = rw (e, f, le-leb _ _ h, le-leb _ _ g)
 
 -- a refusal leaves the output as it was
-pub left-alone : (s l out : List ℕ) (n k : ℕ) → refusedWith n k ≡ writeOf s l (length out) → out ≡ writtenOf s l out
+pub left-alone : (s l out : List ℕ) (n : Refusal) (k : ℕ) → refusedWith n k ≡ writeOf s l (length out) → out ≡ writtenOf s l out
 unfolding writtenOf
 left-alone s l out n k e = rw (← e)
 
@@ -220,15 +221,15 @@ pub record Answers (s l out y : List ℕ) (a : Sized) : Type 0 where
   pub bytes : y ≡ writtenOf s l out
 
 module _ (s l out : List ℕ) where
-  alone : (n k : ℕ) → refusedWith n k ≡ writeOf s l (length out) → Answers s l out out (refusedWith n k)
+  alone : (n : Refusal) (k : ℕ) → refusedWith n k ≡ writeOf s l (length out) → Answers s l out out (refusedWith n k)
   alone n k e = record { answer = e; bytes = left-alone s l out n k e }
 
-  pub no-schema : isAccepted (judged s) ≡ false → Answers s l out out (refusedWith 1 0)
-  no-schema e = alone 1 0 (write-schema s l (length out) e)
+  pub no-schema : isAccepted (judged s) ≡ false → Answers s l out out (refusedWith (numbered 1) 0)
+  no-schema e = alone (numbered 1) 0 (write-schema s l (length out) e)
 
   module _ (e : isAccepted (judged s) ≡ true) (r : Measured) (x : RowTold s l r) where
-    pub no-listing : r ≡ Refused → Answers s l out out (refusedWith 2 0)
-    no-listing q = alone 2 0 (write-listing s l (length out) e (subst (RowTold s l) q x))
+    pub no-listing : r ≡ Refused → Answers s l out out (refusedWith (numbered 2) 0)
+    no-listing q = alone (numbered 2) 0 (write-listing s l (length out) e (subst (RowTold s l) q x))
 
     module _ (next n : ℕ) (q : r ≡ Good next n) where
       pub row-given : RowGives s l n
@@ -237,11 +238,14 @@ module _ (s l out : List ℕ) where
       abbrev row : List ℕ
       row = content (ro (fieldsOf s)) (node (row-given .cells))
 
-      pub too-long : 16384 < n → Answers s l out out (refusedWith 3 0)
-      too-long h = alone 3 0 (write-long s l (length out) e row (row-given .image) (omega (arith, row-given .is)))
+      pub too-long : 16384 < n → Answers s l out out (refusedWith (numbered 3) 0)
+      too-long h = alone (numbered 3) 0 (write-long s l (length out) e row (row-given .image) (omega (arith, row-given .is)))
 
-      pub no-room : n ≤ 16384 → length out < n → Answers s l out out (refusedWith 4 n)
-      no-room h g = subst (λ (k : ℕ). Answers s l out out (refusedWith 4 k)) (sym (row-given .is)) (alone 4 (length row) (write-room s l (length out) e row (row-given .image) (omega (arith, row-given .is)) (omega (arith, row-given .is))))
+      pub no-room : n ≤ 16384 → length out < n → Answers s l out out (refusedWith (numbered 4) n)
+      no-room h g =
+          subst (λ (k : ℕ). Answers s l out out (refusedWith (numbered 4) k)) (sym (row-given .is))
+          (alone (numbered 4) (length row)
+          (write-room s l (length out) e row (row-given .image) (omega (arith, row-given .is)) (omega (arith, row-given .is))))
 
       pub all-done : n ≤ 16384 → n ≤ length out → (y : List ℕ) → some y ≡ imageOf s l → Answers s l out (y ++ drop n out) (takes n)
       all-done h g y f =

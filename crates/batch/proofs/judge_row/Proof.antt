@@ -11,15 +11,21 @@ returns c = check-long _ _ (c .before .before .before .pre) (omega (arith, c .if
 check-row-requires : tie.Need-check-row-requires
 check-row-requires c κs = search needs
 
+enum-told : tie.Need-enum-told
+enum-told c = search needs
+
+enum-known-place : tie.Need-enum-known-place
+enum-known-place c = search needs
+
 returns-2 : tie.Need-returns-2
 returns-2 c =
-    check-good _ _ (c .before .before .before .before .before .pre) (omega (arith, c .before .before .if1 .left))
-    _ (c .before .check-row .ensures) (c .if2 .taken)
+    check-good _ _ (c .before .before .before .before .before .before .pre) (omega (arith, c .before .before .before .if1 .left))
+    _ (c .before .before .check-row .ensures) (c .enum-told .given .1)
 
 returns-3 : tie.Need-returns-3
 returns-3 c =
-    check-bad _ _ (c .before .before .before .before .before .pre) (omega (arith, c .before .before .if1 .left))
-    _ (c .before .check-row .ensures) (c .if2 .left)
+    check-bad _ _ (c .before .before .before .before .before .before .before .pre) (omega (arith, c .before .before .before .before .if1 .left))
+    _ (c .before .before .before .check-row .ensures) _ (c .before .place .given .1)
 
 pub judge-row-spec : {M : Type 1} → statement M
-judge-row-spec = tie.close (tie.spec returns check-row-requires returns-2 returns-3)
+judge-row-spec = tie.close (tie.spec returns check-row-requires enum-told enum-known-place returns-2 returns-3)

@@ -17,6 +17,9 @@ whole-requires c κs = (checked _ _ _ (c .before .before .before .check .ensures
 enum-known-r : tie.Need-enum-known-r
 enum-known-r c = search needs
 
+say-place-requires : tie.Need-say-place-requires
+say-place-requires c κs = search needs
+
 number-requires : tie.Need-number-requires
 number-requires c κs = search needs
 
@@ -33,7 +36,10 @@ same-length-2 : tie.Need-same-length-2
 same-length-2 c = search needs
 
 returns-2 : tie.Need-returns-2
-returns-2 c = walked-as (text-refused _ _ _ _ _ (c .before .before .before .before .before .before .before .before .check .ensures) (c .before .before .before .before .before .before .r .given .1) (c .before .before .before .number .ensures)) (refusal-walked _ (c .before .before .before .before .before .before .before .before .before .before .before .before .pre) (c .before .before .refused .ensures))
+returns-2 c =
+    let t = c .before .before .before .before .before .before .before in
+    walked-as (text-refused _ _ _ _ _ (t .before .before .check .ensures) (t .r .given .1) (c .before .before .before .number .ensures))
+    (refusal-walked _ (t .before .before .before .before .before .before .pre) (c .before .before .refused .ensures))
 
 pub row-text-spec : {M : Type 1} → statement M
 row-text-spec =
@@ -43,6 +49,7 @@ row-text-spec =
     enum-told
     whole-requires
     enum-known-r
+    say-place-requires
     number-requires
     refused-requires
     same-length

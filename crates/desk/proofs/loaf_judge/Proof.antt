@@ -1,6 +1,7 @@
 -- `desk::loaf_judge` meets its contract. Assumes nothing.
 use mathlib.Core.Path.{ap, _∙_}
 use Rattle.desk.specs.Codes.{verdictCode}
+use Rattle.row.proofs.Low.{judge-low}
 use borrow.Author.Needs.{needs}
 use Rattle.desk.proofs.loaf_judge.Statement.{statement}
 use Rattle.desk.proofs.loaf_judge.Tie as tie
@@ -9,7 +10,7 @@ judge-requires : tie.Need-judge-requires
 judge-requires c κs = search needs
 
 outcome-code-requires : tie.Need-outcome-code-requires
-outcome-code-requires c κs = search needs
+outcome-code-requires c κs = rw (c .judge .ensures) (judge-low 16384 _)
 
 returns : tie.Need-returns
 returns c = c .outcome-code .ensures ∙ ap verdictCode (c .before .judge .ensures)

@@ -4,6 +4,7 @@ use Rattle.words.proofs.Numbers.{bytes-of}
 use Rattle.row.proofs.Sizes.{list-below}
 use Rattle.desk.specs.Codes.{sizedCode}
 use Rattle.desk.proofs.Codes.{halved}
+use Rattle.row.proofs.Low.{list-low}
 use borrow.Author.Needs.{needs}
 use Rattle.desk.proofs.loaf_list.Statement.{statement}
 use Rattle.desk.proofs.loaf_list.Tie as tie
@@ -12,7 +13,9 @@ list-requires : tie.Need-list-requires
 list-requires c κs = search needs
 
 length-code-requires : tie.Need-length-code-requires
-length-code-requires c κs = halved _ _ (c .before .before .list .ensures .answers) (list-below _ _ _ (bytes-of _ (λ i. c .before .before .before .before .before .shared-slice-known2 .given i .fits)))
+length-code-requires c κs =
+    halved _ _ (c .before .before .list .ensures .answers)
+    (list-below _ _ _ (bytes-of _ (λ i. c .before .before .before .before .before .shared-slice-known2 .given i .fits))) (list-low 16384 _ _ (λ h. h) _)
 
 same-length : tie.Need-same-length
 same-length c = search needs

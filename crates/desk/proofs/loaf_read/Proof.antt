@@ -4,6 +4,7 @@ use Rattle.row.proofs.Numbers.{read-gives}
 use Rattle.row.proofs.Unique.{numbered}
 use Rattle.desk.proofs.Steps.{taken-reads}
 use Rattle.desk.proofs.Words.{gives-as, tells-as}
+use Rattle.row.proofs.Low.{read-low}
 use borrow.Author.Needs.{needs}
 use Rattle.desk.proofs.loaf_read.Statement.{statement}
 use Rattle.desk.proofs.loaf_read.Tie as tie
@@ -15,7 +16,7 @@ read-requires : tie.Need-read-requires
 read-requires c κs = search needs
 
 put-answer-requires : tie.Need-put-answer-requires
-put-answer-requires c κs = gives-as (c .read .result) _ (c .read .ensures) (numbered _ refl refl (read-gives _ _ _))
+put-answer-requires c κs = gives-as (c .read .result) _ (c .read .ensures) (numbered _ refl refl (read-gives _ _ _)) (read-low 16384 _ _ (λ h. h) _)
 
 same-length : tie.Need-same-length
 same-length c = search needs

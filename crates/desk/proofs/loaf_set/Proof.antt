@@ -1,4 +1,5 @@
 -- `desk::loaf_set` meets its contract. Assumes nothing.
+use Rattle.row.proofs.Low.{set-low}
 use borrow.Author.Needs.{needs}
 use Rattle.desk.proofs.Asking.{asks-none, asks-for, leaves-none, leaves-set}
 use Rattle.desk.proofs.loaf_set.Statement.{statement}
@@ -23,7 +24,7 @@ set-requires : tie.Need-set-requires
 set-requires c κs = search needs
 
 outcome-code-requires : tie.Need-outcome-code-requires
-outcome-code-requires c κs = search needs
+outcome-code-requires c κs = rw (c .before .before .set .ensures .answers) (set-low 16384 _ _ (λ h. h) _ _)
 
 same-length : tie.Need-same-length
 same-length c = search needs

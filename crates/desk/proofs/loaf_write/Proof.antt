@@ -3,6 +3,7 @@ use mathlib.Core.Path.{ap, _∙_}
 use Rattle.row.proofs.Sizes.{write-below}
 use Rattle.desk.specs.Codes.{sizedCode}
 use Rattle.desk.proofs.Codes.{halved}
+use Rattle.row.proofs.Low.{write-low}
 use borrow.Author.Needs.{needs}
 use Rattle.desk.proofs.loaf_write.Statement.{statement}
 use Rattle.desk.proofs.loaf_write.Tie as tie
@@ -11,7 +12,7 @@ write-requires : tie.Need-write-requires
 write-requires c κs = search needs
 
 length-code-requires : tie.Need-length-code-requires
-length-code-requires c κs = halved _ _ (c .before .before .write .ensures .answers) (write-below _ _ _)
+length-code-requires c κs = halved _ _ (c .before .before .write .ensures .answers) (write-below _ _ _) (write-low 16384 _ _ _)
 
 same-length : tie.Need-same-length
 same-length c = search needs

@@ -1,5 +1,5 @@
 -- `desk::outcome_code` meets its contract. Assumes nothing.
-use Rattle.desk.proofs.Codes.{code-refused}
+use Rattle.desk.proofs.Codes.{low-refused, code-refused}
 use borrow.Author.Needs.{needs}
 use Rattle.desk.proofs.outcome_code.Statement.{statement}
 use Rattle.desk.proofs.outcome_code.Tie as tie
@@ -10,18 +10,21 @@ enum-told c = search needs
 enum-known-o : tie.Need-enum-known-o
 enum-known-o c = search needs
 
-number-requires : tie.Need-number-requires
-number-requires c κs = search needs
-
-cast-result : tie.Need-cast-result
-cast-result c = search needs
+refusal-code-requires : tie.Need-refusal-code-requires
+refusal-code-requires c κs = low-refused (c .before .before .before .args .o) _ (c .before .o .given .1) (c .before .before .before .pre)
 
 returns : tie.Need-returns
 returns c = search needs
 
 returns-2 : tie.Need-returns-2
-returns-2 c = code-refused (c .before .before .before .before .args .o) _ (c .number .result) (c .before .before .o .given .1) (c .number .ensures)
+returns-2 c = code-refused (c .before .before .before .before .args .o) _ (c .refusal-code .result) (c .before .before .o .given .1) (c .refusal-code .ensures)
 
 pub outcome-code-spec : {M : Type 1} → statement M
 outcome-code-spec =
-    tie.close (tie.spec enum-told enum-known-o number-requires cast-result returns returns-2)
+    tie.close
+    (tie.spec
+    enum-told
+    enum-known-o
+    refusal-code-requires
+    returns
+    returns-2)

@@ -1,4 +1,5 @@
 -- `desk::refuse` meets its contract. Assumes nothing.
+use Rattle.row.proofs.Low.{check-low, read-low}
 use borrow.Author.Needs.{needs}
 use mathlib.Core.Path.{refl, ap, _∙_}
 use Rattle.row.proofs.Numbers.{read-gives}
@@ -13,7 +14,7 @@ check-requires : tie.Need-check-requires
 check-requires c κs = search needs
 
 outcome-code-requires : tie.Need-outcome-code-requires
-outcome-code-requires c κs = search needs
+outcome-code-requires c κs = rw (c .check .ensures) (check-low 16384 _ _ (λ h. h))
 
 returns : tie.Need-returns
 returns c = refused-row _ _ _ _ (c .before .outcome-code .ensures ∙ ap verdictCode (c .before .before .check .ensures)) (c .if1 .taken)
@@ -25,7 +26,7 @@ read-requires : tie.Need-read-requires
 read-requires c κs = search needs
 
 put-answer-requires : tie.Need-put-answer-requires
-put-answer-requires c κs = gives-as (c .read .result) _ (c .read .ensures) (numbered _ refl refl (read-gives _ _ _))
+put-answer-requires c κs = gives-as (c .read .result) _ (c .read .ensures) (numbered _ refl refl (read-gives _ _ _)) (read-low 16384 _ _ (λ h. h) _)
 
 returns-2 : tie.Need-returns-2
 returns-2 c =

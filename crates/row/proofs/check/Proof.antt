@@ -16,19 +16,38 @@ enum-told-2 : tie.Need-enum-told-2
 enum-told-2 c = search needs
 
 returns : tie.Need-returns
-returns c = check-no (c .before .before .before .before .before .args .schema .now) (c .before .before .before .before .before .args .row .now) (sym (c .before .before .judge .ensures) ∙ c .enum-told2 .given .1)
+returns c =
+    let a = c .before .before .before .before .before .args in
+    check-no (a .schema .now) (a .row .now) (sym (c .before .before .judge .ensures) ∙ c .enum-told2 .given .1)
 
 returns-2 : tie.Need-returns-2
-returns-2 c = check-long (c .before .before .before .before .before .before .args .schema .now) (c .before .before .before .before .before .before .args .row .now) (sym (c .before .before .before .judge .ensures) ∙ c .before .enum-told .given .1) (omega (arith, c .if1 .taken))
+returns-2 c =
+    let a = c .before .before .before .before .before .before .args in
+    check-long (a .schema .now) (a .row .now) (sym (c .before .before .before .judge .ensures) ∙ c .before .enum-told .given .1)
+    (omega (arith, c .if1 .taken))
 
 check-row-requires : tie.Need-check-row-requires
 check-row-requires c κs = (sym (c .before .before .before .judge .ensures) ∙ c .before .enum-told .given .1, omega (arith, c .if1 .left))
 
+enum-told-3 : tie.Need-enum-told-3
+enum-told-3 c = search needs
+
+enum-known-place : tie.Need-enum-known-place
+enum-known-place c = search needs
+
 returns-3 : tie.Need-returns-3
-returns-3 c = check-good (c .before .before .before .before .before .before .before .before .args .schema .now) (c .before .before .before .before .before .before .before .before .args .row .now) (sym (c .before .before .before .before .before .judge .ensures) ∙ c .before .before .before .enum-told .given .1) (omega (arith, c .before .before .if1 .left)) _ (c .before .check-row .ensures) (c .if2 .taken)
+returns-3 c =
+    let a = c .before .before .before .before .before .before .before .before .before .args in
+    check-good (a .schema .now) (a .row .now)
+    (sym (c .before .before .before .before .before .before .judge .ensures) ∙ c .before .before .before .before .enum-told .given .1)
+    (omega (arith, c .before .before .before .if1 .left)) _ (c .before .before .check-row .ensures) (c .enum-told3 .given .1)
 
 returns-4 : tie.Need-returns-4
-returns-4 c = check-bad (c .before .before .before .before .before .before .before .before .args .schema .now) (c .before .before .before .before .before .before .before .before .args .row .now) (sym (c .before .before .before .before .before .judge .ensures) ∙ c .before .before .before .enum-told .given .1) (omega (arith, c .before .before .if1 .left)) _ (c .before .check-row .ensures) (c .if2 .left)
+returns-4 c =
+    let a = c .before .before .before .before .before .before .before .before .before .before .args in
+    check-bad (a .schema .now) (a .row .now)
+    (sym (c .before .before .before .before .before .before .before .judge .ensures) ∙ c .before .before .before .before .before .enum-told .given .1)
+    (omega (arith, c .before .before .before .before .if1 .left)) _ (c .before .before .before .check-row .ensures) _ (c .before .place .given .1)
 
 pub check-spec : {M : Type 1} → statement M
 check-spec =
@@ -40,5 +59,7 @@ check-spec =
     returns
     returns-2
     check-row-requires
+    enum-told-3
+    enum-known-place
     returns-3
     returns-4)

@@ -14,64 +14,67 @@ enum-told c = search needs
 enum-told-2 : tie.Need-enum-told-2
 enum-told-2 c = search needs
 
-enum-told-3 : tie.Need-enum-told-3
-enum-told-3 c = search needs
+enum-known-place : tie.Need-enum-known-place
+enum-known-place c = search needs
 
 enum-known-x : tie.Need-enum-known-x
 enum-known-x c = search needs
 
 set-null-requires : tie.Need-set-null-requires
 set-null-requires c κs =
-    let a = c .before .before .before .before .before .before .before .before .before .args in
-    null-there (a .schema .now) (a .row .now) _ (c .before .before .before .before .before .before .before .before .before .pre) _ (c .before .before .before .before .find .ensures) _ _ _ (c .before .before .x .given .1)
+    let s = c .before .before .before .before .before .before .before .before .before in let a = s .args in
+    null-there (a .schema .now) (a .row .now) _ (s .pre) _ (c .before .before .before .before .find .ensures) _ _ _ (c .before .before .x .given .1)
 
 enum-known-p : tie.Need-enum-known-p
 enum-known-p c = search needs
 
 set-place-requires : tie.Need-set-place-requires
 set-place-requires c κs =
-    let a = c .before .before .before .before .before .before .before .before .before .args in
-    place-there (a .schema .now) (a .row .now) _ (c .before .before .before .before .before .before .before .before .before .pre) _ (c .before .before .before .before .find .ensures) _ (c .before .before .p .given .1)
+    let s = c .before .before .before .before .before .before .before .before .before in let a = s .args in
+    place-there (a .schema .now) (a .row .now) _ (s .pre) _ (c .before .before .before .before .find .ensures) _ (c .before .before .p .given .1)
 
 same-length : tie.Need-same-length
 same-length c = search needs
 
 returns : tie.Need-returns
 returns c =
-    let a = c .before .before .before .before .before .before .before .args in
-    set-nowhere (a .schema .now) (a .row .now) _ (c .before .before .before .before .before .before .before .pre) _ (c .before .before .find .ensures) (givenMeans (a .g) (a .bytes .now)) (c .enum-told .given .1)
+    let s = c .before .before .before .before .before .before .before in let a = s .args in
+    set-nowhere (a .schema .now) (a .row .now) _ (s .pre) _ (c .before .before .find .ensures) (givenMeans (a .g) (a .bytes .now)) (c .enum-told .given .1)
 
 same-length-2 : tie.Need-same-length-2
 same-length-2 c = search needs
 
 returns-2 : tie.Need-returns-2
 returns-2 c =
-    let a = c .before .before .before .before .before .before .before .args in
-    set-under (a .schema .now) (a .row .now) _ (c .before .before .before .before .before .before .before .pre) _ (c .before .before .find .ensures) (givenMeans (a .g) (a .bytes .now)) (c .enum-told2 .given .1)
+    let s = c .before .before .before .before .before .before .before in let a = s .args in
+    set-under (a .schema .now) (a .row .now) _ (s .pre) _ (c .before .before .find .ensures) (givenMeans (a .g) (a .bytes .now)) (c .enum-told2 .given .1)
 
 same-length-3 : tie.Need-same-length-3
 same-length-3 c = search needs
 
 returns-3 : tie.Need-returns-3
 returns-3 c =
-    let a = c .before .before .before .before .before .before .before .args in
-    set-broken (a .schema .now) (a .row .now) _ (c .before .before .before .before .before .before .before .pre) _ (c .before .before .find .ensures) (givenMeans (a .g) (a .bytes .now)) (c .enum-told3 .given .1)
+    let s = c .before .before .before .before .before .before .before .before in let a = s .args in
+    set-broken (a .schema .now) (a .row .now) _ (s .pre) _ (c .before .before .before .find .ensures) (givenMeans (a .g) (a .bytes .now)) _
+    (c .before .place .given .1)
 
 same-length-4 : tie.Need-same-length-4
 same-length-4 c = search needs
 
 returns-4 : tie.Need-returns-4
 returns-4 c =
-    let a = c .before .before .before .before .before .before .before .before .before .before .before .before .args in
-    set-at-null (a .schema .now) (a .row .now) _ (c .before .before .before .before .before .before .before .before .before .before .before .before .pre) _ (c .before .before .before .before .before .before .before .find .ensures) _ _ _ (c .before .before .before .before .before .x .given .1) (a .g) (a .bytes .now) _ _ (c .before .before .set-null .ensures)
+    let s = c .before .before .before .before .before .before .before .before .before .before .before .before in let a = s .args in
+    set-at-null (a .schema .now) (a .row .now) _ (s .pre) _ (c .before .before .before .before .before .before .before .find .ensures) _ _ _
+    (c .before .before .before .before .before .x .given .1) (a .g) (a .bytes .now) _ _ (c .before .before .set-null .ensures)
 
 same-length-5 : tie.Need-same-length-5
 same-length-5 c = search needs
 
 returns-5 : tie.Need-returns-5
 returns-5 c =
-    let a = c .before .before .before .before .before .before .before .before .before .before .before .before .args in
-    set-at-place (a .schema .now) (a .row .now) _ (c .before .before .before .before .before .before .before .before .before .before .before .before .pre) _ (c .before .before .before .before .before .before .before .find .ensures) _ (c .before .before .before .before .before .p .given .1) (givenMeans (a .g) (a .bytes .now)) _ _ (c .before .before .set-place .ensures)
+    let s = c .before .before .before .before .before .before .before .before .before .before .before .before in let a = s .args in
+    set-at-place (a .schema .now) (a .row .now) _ (s .pre) _ (c .before .before .before .before .before .before .before .find .ensures) _
+    (c .before .before .before .before .before .p .given .1) (givenMeans (a .g) (a .bytes .now)) _ _ (c .before .before .set-place .ensures)
 
 pub set-in-spec : {M : Type 1} → statement M
 set-in-spec =
@@ -80,7 +83,7 @@ set-in-spec =
     find-requires
     enum-told
     enum-told-2
-    enum-told-3
+    enum-known-place
     enum-known-x
     set-null-requires
     enum-known-p

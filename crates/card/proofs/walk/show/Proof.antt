@@ -59,7 +59,9 @@ returns-3 : tie.Need-returns-3
 returns-3 c = shows-under _ _ (c .before .before .before .before .before .before .args .path) (c .before .before .before .before .before .before .pre .few) (c .before .before .before .before .before .before .pre .opened) _ (c .before .before .find .ensures) _ _ (c .enum-told2 .given .1)
 
 returns-4 : tie.Need-returns-4
-returns-4 c = shows-broken _ _ (c .before .before .before .before .before .before .args .path) (c .before .before .before .before .before .before .pre .few) (c .before .before .before .before .before .before .pre .opened) _ (c .before .before .find .ensures) _ _ (c .enum-told3 .given .1)
+returns-4 c =
+    shows-broken _ _ (c .before .before .before .before .before .before .args .path) (c .before .before .before .before .before .before .pre .few)
+    (c .before .before .before .before .before .before .pre .opened) _ (c .before .before .find .ensures) _ _ _ (c .enum-told3 .given .1)
 
 same-length-2 : tie.Need-same-length-2
 same-length-2 c = search needs

@@ -12,7 +12,8 @@ use Rattle.checking.proofs.Anywhere.{
   slot-end,
   stop-fits,
   any-start,
-  any-end,
+  any-done,
+  any-over,
   any-map,
   any-bit,
   any-slot,
@@ -21,6 +22,7 @@ use Rattle.checking.proofs.Anywhere.{
   any-less,
   any-null,
   any-place,
+  any-told,
   any-off,
   any-stood,
   stood-order,
@@ -29,6 +31,8 @@ use Rattle.checking.proofs.Anywhere.{
   stood-less,
   stood-sum,
   stood-pad,
+  stood-search,
+  stood-found,
   any-unpadded,
   any-next,
   any-known,
@@ -98,6 +102,9 @@ slice-aggregate-place c = any-map (c .before .before .before .before .before .be
 place-requires : tie.Need-place-requires Inv-loop μ-loop
 place-requires c κs = any-place (told (c .before))
 
+add-result : tie.Need-add-result Inv-loop μ-loop
+add-result c = any-told (told (c .before .before .before .before))
+
 returns : tie.Need-returns Inv-loop μ-loop
 returns c = any-off (told (c .before .before .before .before)) (c .before .before .place .ensures .0) (c .if2 .taken)
 
@@ -126,8 +133,16 @@ loop-again-2 c = any-known (stood (c .before)) (c .if3 .taken)
 pad-clear-requires : tie.Need-pad-clear-requires Inv-loop μ-loop
 pad-clear-requires c κs = stood-pad (stood (c .before))
 
+first-set-requires : tie.Need-first-set-requires Inv-loop μ-loop
+first-set-requires c κs = stood-search (stood (c .before .before .before))
+
+add-result-2 : tie.Need-add-result-2 Inv-loop μ-loop
+add-result-2 c = stood-found (stood (c .before .before .before .before)) (c .first-set .ensures)
+
 returns-2 : tie.Need-returns-2 Inv-loop μ-loop
-returns-2 c = any-unpadded (stood (c .before .before .before)) (c .before .pad-clear .ensures) (c .if4 .taken)
+returns-2 c =
+    any-unpadded (stood (c .before .before .before .before)) (text-sound _) (c .before .before .pad-clear .ensures)
+    (c .before .if4 .taken) (c .first-set .ensures)
 
 sub-sum-2 : tie.Need-sub-sum-2 Inv-loop μ-loop
 sub-sum-2 c = stood-order (stood (c .before .before .before))
@@ -148,7 +163,10 @@ loop-again-3 : tie.Need-loop-again-3 Inv-loop μ-loop
 loop-again-3 c = any-next (stood (c .before .before .before)) (text-sound _) (c .before .pad-clear .ensures) (c .if4 .left)
 
 returns-3 : tie.Need-returns-3 Inv-loop μ-loop
-returns-3 c = any-end (c .before .loop .inv) (c .loop-test .left)
+returns-3 c = any-over (c .before .before .loop .inv) (c .before .loop-test .left) (c .if5 .taken)
+
+returns-4 : tie.Need-returns-4 Inv-loop μ-loop
+returns-4 c = any-done (c .before .before .loop .inv) (c .before .loop-test .left) (c .if5 .left)
 
 pub any-texts-spec : {M : Type 1} → statement M
 any-texts-spec =
@@ -169,6 +187,7 @@ any-texts-spec =
     pad-size-requires
     slice-aggregate-place
     place-requires
+    add-result
     returns
     sub-sum
     add-sum
@@ -177,6 +196,8 @@ any-texts-spec =
     loop-less-2
     loop-again-2
     pad-clear-requires
+    first-set-requires
+    add-result-2
     returns-2
     sub-sum-2
     add-sum-2
@@ -184,4 +205,5 @@ any-texts-spec =
     add-i-3
     loop-less-3
     loop-again-3
-    returns-3)
+    returns-3
+    returns-4)

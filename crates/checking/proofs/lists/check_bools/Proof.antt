@@ -1,53 +1,108 @@
 -- `checking::lists::check_bools` meets its contract: before element i, what is left leads to the same end. Assumes nothing.
-use mathlib.Core.Path.{refl, sym, _∙_}
 use Prim.Native.Nat.{_-_}
 use native.Mathlib.Omega.{arith}
 use Rattle.words.proofs.Numbers.{bytes-of}
-use Rattle.checking.proofs.Leaves.{BoolsAt, bools-start, bools-end, bools-null, bools-wrong, bools-next}
+use Rattle.checking.proofs.Leaves.{
+  end-gap,
+  end-done,
+  end-over,
+  BoolsAt,
+  bools-start,
+  bools-stop,
+  bools-pad,
+  bools-search,
+  bools-found,
+  bools-end,
+  bools-bit,
+  bools-byte,
+  bools-at,
+  bools-told,
+  bools-on,
+  bools-null,
+  bools-wrong,
+  bools-next,
+}
 use Rattle.checking.proofs.lists.check_bools.Statement.{statement}
 use Rattle.checking.proofs.lists.check_bools.Tie as tie
 
 abbrev Inv-loop : tie.InvT-loop
-Inv-loop b n slots start i₀ i = BoolsAt b n start i
+Inv-loop b n slots start i₀ i = BoolsAt b n slots start i
 
 abbrev μ-loop : tie.MeasureT-loop
 μ-loop b n slots start i₀ i = n - i
 
 loop-holds : tie.Need-loop-holds Inv-loop μ-loop
-loop-holds c = let A = c .before .args in let B = A .b .now in bools-start B (A .n) (A .slots) (A .start) (c .before .pre) (bytes-of B (λ i. c .shared-slice-known .given i .fits))
+loop-holds c = bools-start (c .before .pre) (bytes-of _ (λ i. c .shared-slice-known .given i .fits))
 
 is-null-requires : tie.Need-is-null-requires Inv-loop μ-loop
-is-null-requires c κs = omega (arith, c .before .before .before .pre .map, c .before .before .before .pre .elements, c .before .before .before .pre .room)
+is-null-requires c κs = bools-bit (c .before .loop .inv) (c .loop-test .taken)
 
 add-i : tie.Need-add-i Inv-loop μ-loop
-add-i c = omega arith
+add-i c = bools-on (c .before .before .before .loop .inv) (c .before .before .loop-test .taken)
 
 loop-less : tie.Need-loop-less Inv-loop μ-loop
 loop-less c = omega arith
 
 loop-again : tie.Need-loop-again Inv-loop μ-loop
-loop-again c = let A = c .before .before .before .before .before .args in let B = A .b .now in bools-null B (A .n) (A .slots) (A .start) (c .before .before .before .before .before .pre) (bytes-of B (λ i. c .before .before .before .before .shared-slice-known .given i .fits)) (c .before .before .before .loop .i) (c .before .before .before .loop .inv) (c .before .before .loop-test .taken) (sym (c .before .is-null .ensures) ∙ c .if1 .taken)
+loop-again c = bools-null (c .before .before .before .loop .inv) (c .before .before .loop-test .taken) (c .before .is-null .ensures) (c .if1 .taken)
 
 add-if2 : tie.Need-add-if2 Inv-loop μ-loop
-add-if2 c = omega (arith, c .before .before .before .before .before .pre .elements, c .before .before .before .before .before .pre .room, c .before .before .before .before .before .pre .small)
+add-if2 c = bools-at (c .before .before .before .loop .inv) (c .before .before .loop-test .taken)
 
 shared-slice-read-if2 : tie.Need-shared-slice-read-if2 Inv-loop μ-loop
-shared-slice-read-if2 c = omega (arith, c .before .before .before .before .before .before .pre .elements, c .before .before .before .before .before .before .pre .room)
+shared-slice-read-if2 c = bools-byte (c .before .before .before .before .loop .inv) (c .before .before .before .loop-test .taken)
+
+add-result : tie.Need-add-result Inv-loop μ-loop
+add-result c = bools-at (c .before .before .before .before .before .loop .inv) (c .before .before .before .before .loop-test .taken)
+
+add-result-2 : tie.Need-add-result-2 Inv-loop μ-loop
+add-result-2 c = bools-told (c .before .before .before .before .before .loop .inv) (c .before .before .before .before .loop-test .taken)
 
 returns : tie.Need-returns Inv-loop μ-loop
-returns c = let A = c .before .before .before .before .before .before .before .args in let B = A .b .now in bools-wrong B (A .n) (A .slots) (A .start) (c .before .before .before .before .before .before .before .pre) (bytes-of B (λ i. c .before .before .before .before .before .before .shared-slice-known .given i .fits)) (c .before .before .before .before .before .loop .i) (c .before .before .before .before .before .loop .inv) (c .before .before .before .before .loop-test .taken) _ refl (sym (c .before .before .before .is-null .ensures) ∙ c .before .before .if1 .left) (c .if2 .taken)
+returns c =
+    bools-wrong (c .before .before .before .before .before .loop .inv) (c .before .before .before .before .loop-test .taken)
+    (c .before .before .before .is-null .ensures) (c .before .before .if1 .left) (c .if2 .taken)
 
 add-i-2 : tie.Need-add-i-2 Inv-loop μ-loop
-add-i-2 c = omega arith
+add-i-2 c = bools-on (c .before .before .before .before .before .loop .inv) (c .before .before .before .before .loop-test .taken)
 
 loop-less-2 : tie.Need-loop-less-2 Inv-loop μ-loop
 loop-less-2 c = omega arith
 
 loop-again-2 : tie.Need-loop-again-2 Inv-loop μ-loop
-loop-again-2 c = let A = c .before .before .before .before .before .before .before .args in let B = A .b .now in bools-next B (A .n) (A .slots) (A .start) (c .before .before .before .before .before .before .before .pre) (bytes-of B (λ i. c .before .before .before .before .before .before .shared-slice-known .given i .fits)) (c .before .before .before .before .before .loop .i) (c .before .before .before .before .before .loop .inv) (c .before .before .before .before .loop-test .taken) _ refl (sym (c .before .before .before .is-null .ensures) ∙ c .before .before .if1 .left) (omega (arith, c .if2 .left))
+loop-again-2 c =
+    bools-next (c .before .before .before .before .before .loop .inv) (c .before .before .before .before .loop-test .taken)
+    (c .before .before .before .is-null .ensures) (c .before .before .if1 .left) (c .if2 .left)
+
+add-pad-clear : tie.Need-add-pad-clear Inv-loop μ-loop
+add-pad-clear c = bools-stop (c .before .loop .inv)
+
+pad-clear-requires : tie.Need-pad-clear-requires Inv-loop μ-loop
+pad-clear-requires c κs = bools-pad (c .before .loop .inv)
+
+add-first-set : tie.Need-add-first-set Inv-loop μ-loop
+add-first-set c = bools-stop (c .before .before .before .loop .inv)
+
+first-set-requires : tie.Need-first-set-requires Inv-loop μ-loop
+first-set-requires c κs = bools-search (c .before .before .before .loop .inv)
+
+add-result-3 : tie.Need-add-result-3 Inv-loop μ-loop
+add-result-3 c = bools-found (c .before .before .before .before .loop .inv) (c .first-set .ensures)
 
 returns-2 : tie.Need-returns-2 Inv-loop μ-loop
-returns-2 c = let A = c .before .before .before .args in let B = A .b .now in bools-end B (A .n) (A .slots) (A .start) (c .before .before .before .pre) (bytes-of B (λ i. c .before .before .shared-slice-known .given i .fits)) (c .before .loop .i) (c .before .loop .inv) (omega arith)
+returns-2 c =
+    end-gap _ _ _ _ (bools-end (c .before .before .before .before .loop .inv) (c .before .before .before .loop-test .left))
+    (c .before .before .pad-clear .ensures) (c .before .if3 .taken) (c .first-set .ensures)
+
+returns-3 : tie.Need-returns-3 Inv-loop μ-loop
+returns-3 c =
+    end-over _ _ _ _ (bools-end (c .before .before .before .before .loop .inv) (c .before .before .before .loop-test .left))
+    (c .before .before .pad-clear .ensures) (c .before .if3 .left) (c .if4 .taken)
+
+returns-4 : tie.Need-returns-4 Inv-loop μ-loop
+returns-4 c =
+    end-done _ _ _ _ (bools-end (c .before .before .before .before .loop .inv) (c .before .before .before .loop-test .left))
+    (c .before .before .pad-clear .ensures) (c .before .if3 .left) (c .if4 .left)
 
 pub check-bools-spec : {M : Type 1} → statement M
 check-bools-spec =
@@ -62,8 +117,17 @@ check-bools-spec =
     loop-again
     add-if2
     shared-slice-read-if2
+    add-result
+    add-result-2
     returns
     add-i-2
     loop-less-2
     loop-again-2
-    returns-2)
+    add-pad-clear
+    pad-clear-requires
+    add-first-set
+    first-set-requires
+    add-result-3
+    returns-2
+    returns-3
+    returns-4)

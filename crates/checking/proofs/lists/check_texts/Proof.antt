@@ -9,7 +9,9 @@ no-nulls-requires : tie.Need-no-nulls-requires
 no-nulls-requires c κs = search needs
 
 full-texts-requires : tie.Need-full-texts-requires
-full-texts-requires c κs = (c .before .before .before .pre, subst (NoNullsIf (c .before .before .before .args .b .now) (c .before .before .before .args .n)) (c .if1 .taken) (c .before .no-nulls .ensures))
+full-texts-requires c κs =
+    let A = c .before .before .before .args in
+    (c .before .before .before .pre, subst (NoNullsIf (A .b .now) (A .n)) (c .if1 .taken) (c .before .no-nulls .ensures))
 
 returns : tie.Need-returns
 returns c = search needs

@@ -8,15 +8,19 @@ use Rattle.checking.proofs.Cursor.{
   AtCursor,
   Here,
   order-start,
-  order-end,
+  order-done,
+  order-over,
   order-stop,
   order-fits,
   order-slot,
   here-slot-on,
   here-on,
   here-less,
+  here-told,
   here-long,
   here-pad,
+  here-search,
+  here-found,
   here-unpadded,
   here-next,
 }
@@ -69,14 +73,25 @@ here c = record {
   to = c .pad-size .ensures;
 }
 
+add-result : tie.Need-add-result Inv-loop μ-loop
+add-result c = here-told (here (c .before))
+
 returns-2 : tie.Need-returns-2 Inv-loop μ-loop
 returns-2 c = here-long (here (c .before)) (c .if2 .taken)
 
 pad-clear-requires : tie.Need-pad-clear-requires Inv-loop μ-loop
 pad-clear-requires c κs = here-pad (here (c .before)) (c .if2 .left)
 
+first-set-requires : tie.Need-first-set-requires Inv-loop μ-loop
+first-set-requires c κs = here-search (here (c .before .before .before)) (c .before .before .if2 .left)
+
+add-result-2 : tie.Need-add-result-2 Inv-loop μ-loop
+add-result-2 c = here-found (here (c .before .before .before .before)) (c .before .before .before .if2 .left) (c .first-set .ensures)
+
 returns-3 : tie.Need-returns-3 Inv-loop μ-loop
-returns-3 c = here-unpadded (here (c .before .before .before)) (c .before .before .if2 .left) (c .before .pad-clear .ensures) (c .if3 .taken)
+returns-3 c =
+    here-unpadded (here (c .before .before .before .before)) (c .before .before .before .if2 .left) (text-sound _) (c .before .before .pad-clear .ensures)
+    (c .before .if3 .taken) (c .first-set .ensures)
 
 add-slot : tie.Need-add-slot Inv-loop μ-loop
 add-slot c = here-slot-on (here (c .before .before .before))
@@ -91,7 +106,10 @@ loop-again : tie.Need-loop-again Inv-loop μ-loop
 loop-again c = here-next (here (c .before .before .before)) (c .before .before .if2 .left) (text-sound _) (c .before .pad-clear .ensures) (c .if3 .left)
 
 returns-4 : tie.Need-returns-4 Inv-loop μ-loop
-returns-4 c = order-end (c .before .loop .inv) (c .loop-test .left)
+returns-4 c = order-over (c .before .before .loop .inv) (c .before .loop-test .left) (c .if4 .taken)
+
+returns-5 : tie.Need-returns-5 Inv-loop μ-loop
+returns-5 c = order-done (c .before .before .loop .inv) (c .before .loop-test .left) (c .if4 .left)
 
 pub full-texts-spec : {M : Type 1} → statement M
 full-texts-spec =
@@ -107,11 +125,15 @@ full-texts-spec =
     slot-size-requires
     add-end
     pad-size-requires
+    add-result
     returns-2
     pad-clear-requires
+    first-set-requires
+    add-result-2
     returns-3
     add-slot
     add-i
     loop-less
     loop-again
-    returns-4)
+    returns-4
+    returns-5)

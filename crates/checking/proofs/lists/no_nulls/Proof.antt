@@ -32,10 +32,14 @@ loop-less : tie.Need-loop-less Inv-loop μ-loop
 loop-less c = omega arith
 
 loop-again : tie.Need-loop-again Inv-loop μ-loop
-loop-again c = let B = c .before .before .before .before .before .args .b .now in (omega (arith, c .before .before .before .loop .inv .0), clear-word B (c .before .before .before .loop .i) _ (c .before .get8 .result) (bytes-of B (λ i. c .before .before .before .before .shared-slice-known .given i .fits)) (c .before .before .before .loop .inv .0) refl (c .before .get8 .ensures) (c .if1 .left) (c .before .before .before .loop .inv .1))
+loop-again c = (
+  omega (arith, c .before .before .before .loop .inv .0),
+  clear-word _ _ _ _ (bytes-of _ (λ i. c .before .before .before .before .shared-slice-known .given i .fits)) (c .before .before .before .loop .inv .0) refl
+      (c .before .get8 .ensures) (c .if1 .left) (c .before .before .before .loop .inv .1),
+)
 
 returns-2 : tie.Need-returns-2 Inv-loop μ-loop
-returns-2 c = clear-end (c .before .before .before .args .b .now) (c .before .before .before .args .n) (c .before .loop .i) (omega arith) (c .before .loop .inv .1)
+returns-2 c = clear-end _ _ _ (c .loop-test .left) (c .before .loop .inv .1)
 
 pub no-nulls-spec : {M : Type 1} → statement M
 no-nulls-spec =

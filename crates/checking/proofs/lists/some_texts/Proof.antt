@@ -8,7 +8,8 @@ use Rattle.checking.proofs.Cursor.{
   AtCursor,
   Here,
   order-start,
-  order-end,
+  order-done,
+  order-over,
   order-stop,
   order-fits,
   order-bit,
@@ -20,8 +21,11 @@ use Rattle.checking.proofs.Cursor.{
   here-slot-on,
   here-on,
   here-less,
+  here-told,
   here-long,
   here-pad,
+  here-search,
+  here-found,
   here-unpadded,
   here-next,
 }
@@ -92,14 +96,25 @@ here c = record {
   to = c .pad-size .ensures;
 }
 
+add-result : tie.Need-add-result Inv-loop μ-loop
+add-result c = here-told (here (c .before))
+
 returns-2 : tie.Need-returns-2 Inv-loop μ-loop
 returns-2 c = here-long (here (c .before)) (c .if3 .taken)
 
 pad-clear-requires : tie.Need-pad-clear-requires Inv-loop μ-loop
 pad-clear-requires c κs = here-pad (here (c .before)) (c .if3 .left)
 
+first-set-requires : tie.Need-first-set-requires Inv-loop μ-loop
+first-set-requires c κs = here-search (here (c .before .before .before)) (c .before .before .if3 .left)
+
+add-result-2 : tie.Need-add-result-2 Inv-loop μ-loop
+add-result-2 c = here-found (here (c .before .before .before .before)) (c .before .before .before .if3 .left) (c .first-set .ensures)
+
 returns-3 : tie.Need-returns-3 Inv-loop μ-loop
-returns-3 c = here-unpadded (here (c .before .before .before)) (c .before .before .if3 .left) (c .before .pad-clear .ensures) (c .if4 .taken)
+returns-3 c =
+    here-unpadded (here (c .before .before .before .before)) (c .before .before .before .if3 .left) (text-sound _) (c .before .before .pad-clear .ensures)
+    (c .before .if4 .taken) (c .first-set .ensures)
 
 add-slot-2 : tie.Need-add-slot-2 Inv-loop μ-loop
 add-slot-2 c = here-slot-on (here (c .before .before .before))
@@ -114,7 +129,10 @@ loop-again-2 : tie.Need-loop-again-2 Inv-loop μ-loop
 loop-again-2 c = here-next (here (c .before .before .before)) (c .before .before .if3 .left) (text-sound _) (c .before .pad-clear .ensures) (c .if4 .left)
 
 returns-4 : tie.Need-returns-4 Inv-loop μ-loop
-returns-4 c = order-end (c .before .loop .inv) (c .loop-test .left)
+returns-4 c = order-over (c .before .before .loop .inv) (c .before .loop-test .left) (c .if5 .taken)
+
+returns-5 : tie.Need-returns-5 Inv-loop μ-loop
+returns-5 c = order-done (c .before .before .loop .inv) (c .before .loop-test .left) (c .if5 .left)
 
 pub some-texts-spec : {M : Type 1} → statement M
 some-texts-spec =
@@ -135,11 +153,15 @@ some-texts-spec =
     slot-size-requires
     add-end
     pad-size-requires
+    add-result
     returns-2
     pad-clear-requires
+    first-set-requires
+    add-result-2
     returns-3
     add-slot-2
     add-i-2
     loop-less-2
     loop-again-2
-    returns-4)
+    returns-4
+    returns-5)

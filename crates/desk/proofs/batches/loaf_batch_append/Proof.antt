@@ -1,5 +1,5 @@
 -- `desk::batches::loaf_batch_append` meets its contract. Assumes nothing.
-use Rattle.desk.proofs.InBatch.{append-told, append-refused}
+use Rattle.desk.proofs.InBatch.{append-told, append-refused, append-low-refused}
 use borrow.Author.Needs.{needs}
 use Rattle.desk.proofs.batches.loaf_batch_append.Statement.{statement}
 use Rattle.desk.proofs.batches.loaf_batch_append.Tie as tie
@@ -17,7 +17,7 @@ enum-known-r : tie.Need-enum-known-r
 enum-known-r c = search needs
 
 tell-refusal-requires : tie.Need-tell-refusal-requires
-tell-refusal-requires c κs = search needs
+tell-refusal-requires c κs = append-low-refused (c .before .before .before .before .before .before .append .ensures) (c .before .before .r .given .1)
 
 same-length : tie.Need-same-length
 same-length c = search needs

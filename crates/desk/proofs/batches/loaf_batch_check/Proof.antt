@@ -1,6 +1,7 @@
 -- `desk::batches::loaf_batch_check` meets its contract. Assumes nothing.
 use mathlib.Core.Path.{sym, ap, _∙_}
 use Rattle.batch.specs.Meaning.{checkMeans}
+use Rattle.batch.proofs.Low.{check-low, check-row-low}
 use Rattle.desk.proofs.InBatch.{check-done, check-refused, check-told}
 use borrow.Author.Needs.{needs}
 use Rattle.desk.proofs.batches.loaf_batch_check.Statement.{statement}
@@ -16,7 +17,7 @@ enum-known-r : tie.Need-enum-known-r
 enum-known-r c = search needs
 
 refusal-code-requires : tie.Need-refusal-code-requires
-refusal-code-requires c κs = search needs
+refusal-code-requires c κs = check-low _ _ (sym (ap checkMeans (c .before .r .given .1)) ∙ c .before .before .before .check .ensures)
 
 enum-known-row : tie.Need-enum-known-row
 enum-known-row c = search needs
@@ -25,7 +26,9 @@ put-word-requires : tie.Need-put-word-requires
 put-word-requires c κs = search needs
 
 refusal-code-requires-2 : tie.Need-refusal-code-requires-2
-refusal-code-requires-2 c κs = search needs
+refusal-code-requires-2 c κs =
+    let t = c .before .before .before .before .before in
+    check-row-low _ _ (sym (ap checkMeans (t .row .given .1)) ∙ t .before .before .check .ensures)
 
 returns : tie.Need-returns
 returns c = check-done _ (sym (ap checkMeans (c .enum-told .given .1)) ∙ c .before .before .check .ensures)

@@ -1,6 +1,7 @@
 -- `desk::batches::loaf_batch_count` meets its contract. Assumes nothing.
 use mathlib.Core.Path.{sym, ap, _∙_}
 use Rattle.batch.specs.Meaning.{countMeans}
+use Rattle.batch.proofs.Low.{count-low}
 use Rattle.desk.proofs.InBatch.{count-told, count-refused}
 use borrow.Author.Needs.{needs}
 use Rattle.desk.proofs.batches.loaf_batch_count.Statement.{statement}
@@ -19,7 +20,7 @@ enum-known-r : tie.Need-enum-known-r
 enum-known-r c = search needs
 
 refusal-code-requires : tie.Need-refusal-code-requires
-refusal-code-requires c κs = search needs
+refusal-code-requires c κs = count-low _ (sym (ap countMeans (c .before .r .given .1)) ∙ c .before .before .before .count .ensures)
 
 same-length : tie.Need-same-length
 same-length c = search needs

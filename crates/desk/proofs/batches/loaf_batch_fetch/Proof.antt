@@ -1,6 +1,7 @@
 -- `desk::batches::loaf_batch_fetch` meets its contract. Assumes nothing.
 use mathlib.Core.Path.{sym, ap, _∙_}
 use Rattle.batch.specs.Meaning.{fetchMeans}
+use Rattle.batch.proofs.Low.{fetch-low}
 use Rattle.desk.proofs.InBatch.{fetch-told, fetch-refused}
 use borrow.Author.Needs.{needs}
 use Rattle.desk.proofs.batches.loaf_batch_fetch.Statement.{statement}
@@ -19,7 +20,7 @@ enum-known-r : tie.Need-enum-known-r
 enum-known-r c = search needs
 
 refusal-code-requires : tie.Need-refusal-code-requires
-refusal-code-requires c κs = search needs
+refusal-code-requires c κs = fetch-low _ _ _ (sym (ap fetchMeans (c .before .r .given .1)) ∙ c .before .before .before .fetch .ensures)
 
 same-length : tie.Need-same-length
 same-length c = search needs

@@ -1,5 +1,6 @@
 -- `desk::batches::loaf_batch_read` meets its contract. Assumes nothing.
 use Rattle.batch.proofs.Single.{numbered-read}
+use Rattle.batch.proofs.Low.{read-low}
 use Rattle.desk.proofs.Words.{gives-as, tells-as}
 use Rattle.desk.proofs.InBatch.{reads-in}
 use borrow.Author.Needs.{needs}
@@ -13,7 +14,7 @@ read-requires : tie.Need-read-requires
 read-requires c κs = search needs
 
 put-answer-requires : tie.Need-put-answer-requires
-put-answer-requires c κs = gives-as (c .read .result) _ (c .read .ensures) (numbered-read _ _ _ _)
+put-answer-requires c κs = gives-as (c .read .result) _ (c .read .ensures) (numbered-read _ _ _ _) (read-low _ _ _ _)
 
 same-length : tie.Need-same-length
 same-length c = search needs

@@ -1,4 +1,5 @@
 -- `desk::batches::loaf_batch_set` meets its contract. Assumes nothing.
+use Rattle.batch.proofs.Low.{set-low}
 use Rattle.desk.proofs.Asking.{asks-none, asks-for}
 use Rattle.desk.proofs.InBatch.{leaves-none-in, leaves-set-in}
 use borrow.Author.Needs.{needs}
@@ -24,7 +25,7 @@ set-requires : tie.Need-set-requires
 set-requires c κs = search needs
 
 outcome-code-requires : tie.Need-outcome-code-requires
-outcome-code-requires c κs = search needs
+outcome-code-requires c κs = rw (c .before .before .set .ensures .answers) (set-low _ _ _ _ _)
 
 same-length : tie.Need-same-length
 same-length c = search needs

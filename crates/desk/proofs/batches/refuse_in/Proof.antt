@@ -1,10 +1,12 @@
 -- `desk::batches::refuse_in` meets its contract: the row is looked at as one by itself. Assumes nothing.
 use mathlib.Core.Path.{sym, ap, _∙_}
-use Prim.Native.Nat.{ℕ, _*_, _^_}
 use native.Mathlib.Omega.{arith}
 use Rattle.words.proofs.Numbers.{bytes-of}
+use Rattle.layout.specs.Refusals.{Refusal}
 use Rattle.batch.specs.Meaning.{fetchMeans}
 use Rattle.batch.proofs.Settings.{fetches}
+use Rattle.batch.proofs.Low.{fetch-low}
+use Rattle.desk.specs.Codes.{refusalCode}
 use Rattle.desk.proofs.InBatch.{unfit-refused, unfit-row}
 use borrow.Author.Needs.{needs}
 use Rattle.desk.proofs.batches.refuse_in.Statement.{statement}
@@ -41,19 +43,20 @@ enum-known-r : tie.Need-enum-known-r
 enum-known-r c = search needs
 
 refusal-code-requires : tie.Need-refusal-code-requires
-refusal-code-requires c κs = search needs
+refusal-code-requires c κs = fetch-low _ _ _ (sym (ap fetchMeans (c .before .r .given .1)) ∙ c .before .before .before .fetch .ensures)
 
 returns : tie.Need-returns
 returns c =
     let t = c .before .before .before in
     let hb = bytes-of _ (λ i. t .before .before .before .shared-slice-known2 .given i .fits) in
     let e = unfit-row _ _ _ _ hb (sym (ap fetchMeans (t .start .given .1)) ∙ t .before .before .fetch .ensures) in
-    c .refuse .ensures ∙ ap (λ (n : ℕ). n * 2 ^ 32) e
+    c .refuse .ensures ∙ ap (λ (r : Refusal). refusalCode r) e
 
 returns-2 : tie.Need-returns-2
 returns-2 c =
     let t = c .before .before .before .before in
-    c .refusal-code .ensures ∙ ap (λ (n : ℕ). n * 2 ^ 32) (unfit-refused _ _ _ _ _ (sym (ap fetchMeans (c .before .before .r .given .1)) ∙ t .fetch .ensures))
+    c .refusal-code .ensures ∙ ap (λ (r : Refusal). refusalCode r)
+    (unfit-refused _ _ _ _ _ (sym (ap fetchMeans (c .before .before .r .given .1)) ∙ t .fetch .ensures))
 
 pub refuse-in-spec : {M : Type 1} → statement M
 refuse-in-spec =

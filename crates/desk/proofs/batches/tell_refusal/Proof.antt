@@ -12,7 +12,9 @@ refusal-code-requires : tie.Need-refusal-code-requires
 refusal-code-requires c κs = search needs
 
 returns : tie.Need-returns
-returns c = refusal-alone _ _ (λ q. c .before .if1 .taken (c .before .before .number .ensures ∙ q)) (c .refusal-code .ensures)
+returns c =
+    refusal-alone (c .before .before .before .before .args .r) (c .refusal-code .ensures)
+    (λ q. c .before .if1 .taken (c .before .before .number .ensures ∙ q))
 
 length-requires : tie.Need-length-requires
 length-requires c κs = search needs
@@ -29,7 +31,8 @@ same-length c = search needs
 returns-2 : tie.Need-returns-2
 returns-2 c =
     let t = c .before .before .before in
-    refusal-told _ _ (sym (t .before .before .before .before .number .ensures) ∙ t .before .before .before .if1 .left) (c .refusal-code2 .ensures)
+    refusal-told (t .before .before .before .before .before .before .args .r) (c .refusal-code2 .ensures)
+    (sym (t .before .before .before .before .number .ensures) ∙ t .before .before .before .if1 .left)
     (t .before .length .ensures) (t .put-word .ensures)
 
 pub tell-refusal-spec : {M : Type 1} → statement M

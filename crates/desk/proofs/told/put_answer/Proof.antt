@@ -3,7 +3,8 @@ use mathlib.Core.Path.{refl, ap, _∙_}
 use mir.Syntax.{w64}
 use mir.ValLaws.{toZ-ofZ}
 use Rattle.words.specs.Signed.{halfOf, ofSigned}
-use Rattle.desk.proofs.Words.{tells-null, tells-bool, tells-number, tells-float32, tells-nan32, tells-float64, tells-nan64, tells-bytes, tells-container, tells-refused}
+use Rattle.desk.proofs.Words.{tells-null, tells-bool, tells-number, tells-float32, tells-nan32, tells-float64, tells-nan64, tells-bytes}
+use Rattle.desk.proofs.Words.{tells-container, low-answer, tells-refused}
 use borrow.Author.Needs.{needs}
 use Rattle.desk.proofs.told.put_answer.Statement.{statement}
 use Rattle.desk.proofs.told.put_answer.Tie as tie
@@ -83,11 +84,8 @@ put-requires-9 c κs = search needs
 enum-known-x-9 : tie.Need-enum-known-x-9
 enum-known-x-9 c = search needs
 
-number-requires : tie.Need-number-requires
-number-requires c κs = search needs
-
-cast-result : tie.Need-cast-result
-cast-result c = search needs
+refusal-code-requires : tie.Need-refusal-code-requires
+refusal-code-requires c κs = low-answer (c .before .before .before .before .args .x) _ (c .before .x9 .given .1) (c .before .before .before .before .pre .1)
 
 same-length : tie.Need-same-length
 same-length c = search needs
@@ -111,25 +109,37 @@ same-length-4 : tie.Need-same-length-4
 same-length-4 c = search needs
 
 returns-4 : tie.Need-returns-4
-returns-4 c = tells-float32 _ _ _ (c .before .before .before .before .before .before .before .before .before .args .x) _ _ (c .before .before .before .before .before .before .x3 .given .1) (c .before .before .before .bits32 .ensures) (c .before .before .before .before .before .before .before .before .before .pre) (c .before .before .put4 .ensures)
+returns-4 c =
+    tells-float32 _ _ _ (c .before .before .before .before .before .before .before .before .before .args .x) _ _
+    (c .before .before .before .before .before .before .x3 .given .1) (c .before .before .before .bits32 .ensures)
+    (c .before .before .before .before .before .before .before .before .before .pre .0) (c .before .before .put4 .ensures)
 
 same-length-5 : tie.Need-same-length-5
 same-length-5 c = search needs
 
 returns-5 : tie.Need-returns-5
-returns-5 c = tells-nan32 _ _ _ (c .before .before .before .before .before .before .before .before .args .x) _ (c .before .before .before .before .before .x4 .given .1) (c .before .before .before .before .before .before .before .before .pre) (c .before .before .put5 .ensures)
+returns-5 c =
+    tells-nan32 _ _ _ (c .before .before .before .before .before .before .before .before .args .x) _
+    (c .before .before .before .before .before .x4 .given .1) (c .before .before .before .before .before .before .before .before .pre .0)
+    (c .before .before .put5 .ensures)
 
 same-length-6 : tie.Need-same-length-6
 same-length-6 c = search needs
 
 returns-6 : tie.Need-returns-6
-returns-6 c = tells-float64 _ _ _ (c .before .before .before .before .before .before .before .before .before .args .x) _ _ (c .before .before .before .before .before .before .x5 .given .1) (c .before .before .before .bits64 .ensures) (c .before .before .before .before .before .before .before .before .before .pre) (c .before .before .put6 .ensures)
+returns-6 c =
+    tells-float64 _ _ _ (c .before .before .before .before .before .before .before .before .before .args .x) _ _
+    (c .before .before .before .before .before .before .x5 .given .1) (c .before .before .before .bits64 .ensures)
+    (c .before .before .before .before .before .before .before .before .before .pre .0) (c .before .before .put6 .ensures)
 
 same-length-7 : tie.Need-same-length-7
 same-length-7 c = search needs
 
 returns-7 : tie.Need-returns-7
-returns-7 c = tells-nan64 _ _ _ (c .before .before .before .before .before .before .before .before .args .x) _ (c .before .before .before .before .before .x6 .given .1) (c .before .before .before .before .before .before .before .before .pre) (c .before .before .put7 .ensures)
+returns-7 c =
+    tells-nan64 _ _ _ (c .before .before .before .before .before .before .before .before .args .x) _
+    (c .before .before .before .before .before .x6 .given .1) (c .before .before .before .before .before .before .before .before .pre .0)
+    (c .before .before .put7 .ensures)
 
 same-length-8 : tie.Need-same-length-8
 same-length-8 c = search needs
@@ -144,7 +154,9 @@ returns-9 : tie.Need-returns-9
 returns-9 c = tells-container _ _ _ (c .before .before .before .before .before .before .before .before .args .x) _ _ _ (c .before .before .before .before .before .x8 .given .1) (c .before .before .put9 .ensures)
 
 returns-10 : tie.Need-returns-10
-returns-10 c = tells-refused (c .before .before .before .before .before .args .x) _ (c .number .result) _ (c .before .before .x9 .given .1) (c .number .ensures)
+returns-10 c =
+    tells-refused (c .before .before .before .before .before .args .x) _ (c .refusal-code .result) _ (c .before .before .x9 .given .1)
+    (c .refusal-code .ensures)
 
 pub put-answer-spec : {M : Type 1} → statement M
 put-answer-spec =
@@ -175,8 +187,7 @@ put-answer-spec =
     enum-known-x-8
     put-requires-9
     enum-known-x-9
-    number-requires
-    cast-result
+    refusal-code-requires
     same-length
     returns
     same-length-2
