@@ -11,6 +11,7 @@ import os
 import second
 from batches import framing
 from layouts import content
+from long_rows import SHARED, shared_row
 from schemas import Null, judge
 
 HERE = os.path.dirname(os.path.abspath(__file__))
@@ -196,6 +197,149 @@ broken_run('no_values', b'ro\x01mai8i8', bytes(8) + n(16 << 32 | 16, 8) + n(8, 8
 # The bool that is deep in field 0 is told, and not the slot of field 1 before it, which points nowhere.
 broken_run('deep_fault', b'ro\x02liro\x01bost',
            bytes(8) + n(24 << 32 | 40, 8) + n(0, 8) + n(1, 8) + bytes(8) + n(24 << 32 | 16, 8) + bytes(8) + n(2, 8), 56)
+
+# --- Pictures ---------------------------------------------------------------------
+
+def picture(name, *lines):
+    """The picture of the row that is stored under this name."""
+    want = ''.join(line + '\n' for line in lines)
+    with open(os.path.join(HERE, name + '.in'), 'rb') as file:
+        got = second.where(file.read())
+    assert got[0] == want, '%s:\n%s' % (name, got[0])
+    write(HERE, name + '.where', want.encode())
+
+
+picture('no_input', 'refused 1')
+picture('short_of_schema', 'refused 1')
+picture('bad_schema', 'refused 1')
+
+picture('case_b',
+        '    0  02 00 00 00 00 00 00 00  bitmap',
+        '    8  fe ff ff ff 00 00 00 00  slot of 0',
+        '   16  00 00 00 00 00 00 00 00  slot of 1')
+
+picture('texts',
+        '    0  00 00 00 00 00 00 00 00  bitmap',
+        '    8  03 00 00 00 28 00 00 00  slot of 0',
+        '   16  05 00 00 00 30 00 00 00  slot of 1',
+        '   24  00 00 00 00 38 00 00 00  slot of 2',
+        '   32  00 00 00 00 38 00 00 00  slot of 3',
+        '   40  53 54 4b 00 00 00 00 00  text and padding of 0',
+        '   48  00 01 7f 80 ff 00 00 00  binary and padding of 1')
+
+picture('map',
+        '    0  00 00 00 00 00 00 00 00  bitmap',
+        '    8  50 00 00 00 18 00 00 00  slot of 0',
+        '   16  18 00 00 00 68 00 00 00  slot of 1',
+        '   24  18 00 00 00 00 00 00 00  size of keys of 0',
+        '   32  02 00 00 00 00 00 00 00  count of 0.0',
+        '   40  00 00 00 00 00 00 00 00  bitmap of 0.0',
+        '   48  07 00 00 00 f9 ff ff ff  slots from 0.0.0',
+        '   56  02 00 00 00 00 00 00 00  count of 0.1',
+        '   64  00 00 00 00 00 00 00 00  bitmap of 0.1',
+        '   72  01 00 00 00 20 00 00 00  slot of 0.1.0',
+        '   80  02 00 00 00 28 00 00 00  slot of 0.1.1',
+        '   88  53 00 00 00 00 00 00 00  text and padding of 0.1.0',
+        '   96  54 4b 00 00 00 00 00 00  text and padding of 0.1.1',
+        '  104  08 00 00 00 00 00 00 00  size of keys of 1',
+        '  112  00 00 00 00 00 00 00 00  count of 1.0',
+        '  120  00 00 00 00 00 00 00 00  count of 1.1')
+
+# Nothing is followed behind a null; what stands under it is shown.
+picture('nulls_inside',
+        '    0  00 00 00 00 00 00 00 00  bitmap',
+        '    8  58 00 00 00 18 00 00 00  slot of 0',
+        '   16  60 00 00 00 70 00 00 00  slot of 1',
+        '   24  03 00 00 00 00 00 00 00  count of 0',
+        '   32  01 00 00 00 00 00 00 00  bitmap of 0',
+        '   40  de ad be ef ff ff ff ff  slot of 0.0',
+        '   48  18 00 00 00 28 00 00 00  slot of 0.1',
+        '   56  18 00 00 00 40 00 00 00  slot of 0.2',
+        '   64  02 00 00 00 00 00 00 00  count of 0.1',
+        '   72  02 00 00 00 00 00 00 00  bitmap of 0.1',
+        '   80  09 ff 00 00 00 00 00 00  slots and padding from 0.1.0',
+        '   88  01 00 00 00 00 00 00 00  count of 0.2',
+        '   96  01 00 00 00 00 00 00 00  bitmap of 0.2',
+        '  104  80 00 00 00 00 00 00 00  slots and padding from 0.2.0',
+        '  112  18 00 00 00 00 00 00 00  size of keys of 1',
+        '  120  02 00 00 00 00 00 00 00  count of 1.0',
+        '  128  01 00 00 00 00 00 00 00  bitmap of 1.0',
+        '  136  02 01 00 00 00 00 00 00  slots and padding from 1.0.0',
+        '  144  02 00 00 00 00 00 00 00  count of 1.1',
+        '  152  01 00 00 00 00 00 00 00  bitmap of 1.1',
+        '  160  de ad be ef ff ff ff ff  slot of 1.1.0',
+        '  168  20 00 00 00 20 00 00 00  slot of 1.1.1',
+        '  176  01 00 00 00 00 00 00 00  bitmap of 1.1.1',
+        '  184  de ad be ef ff ff ff ff  slot of 1.1.1.0',
+        '  192  01 00 00 00 18 00 00 00  slot of 1.1.1.1',
+        '  200  78 00 00 00 00 00 00 00  text and padding of 1.1.1.1')
+
+# A row of no bytes has the mark alone; a place where the row ends has it behind the last line.
+picture('no_row',
+        '       ^^')
+picture('no_values',
+        '    0  00 00 00 00 00 00 00 00  bitmap',
+        '    8  10 00 00 00 10 00 00 00  slot of 0',
+        '   16  08 00 00 00 00 00 00 00  size of keys of 0',
+        '   24  00 00 00 00 00 00 00 00  count of 0.0',
+        '       ^^')
+
+# Of two values in one place the first has the name; a gap has none.
+picture('case_h',
+        '    0  00 00 00 00 00 00 00 00  bitmap',
+        '    8  03 00 00 00 18 00 00 00  slot of 0',
+        '   16  03 00 00 00 18 00 00 00  slot of 1',
+        '       ^^',
+        '   24  53 54 4b 00 00 00 00 00  text and padding of 0',
+        '   32  50 57 52 00 00 00 00 00')
+picture('reversed_with_a_gap',
+        '    0  00 00 00 00 00 00 00 00  bitmap',
+        '       ^^',
+        '    8  03 00 00 00 30 00 00 00  slot of 0',
+        '   16  09 00 00 00 18 00 00 00  slot of 1',
+        '   24  50 57 52 50 57 52 50 57  text of 1',
+        '   32  52 00 00 00 00 00 00 00  text and padding of 1',
+        '   40  00 00 00 00 00 00 00 00',
+        '   48  53 54 4b 00 00 00 00 00  text and padding of 0')
+picture('late_fault',
+        '    0  00 00 00 00 00 00 00 00  bitmap',
+        '    8  01 00 00 00 00 00 00 00  slot of 0',
+        '   16  03 00 00 00 18 00 00 00  slot of 1',
+        '   24  53 54 4b 00 00 00 00 01  text and padding of 1',
+        '                            ^^')
+
+# The slot of field 1 points nowhere and has its name all the same.
+picture('deep_fault',
+        '    0  00 00 00 00 00 00 00 00  bitmap',
+        '    8  28 00 00 00 18 00 00 00  slot of 0',
+        '   16  00 00 00 00 00 00 00 00  slot of 1',
+        '   24  01 00 00 00 00 00 00 00  count of 0',
+        '   32  00 00 00 00 00 00 00 00  bitmap of 0',
+        '   40  10 00 00 00 18 00 00 00  slot of 0.0',
+        '   48  00 00 00 00 00 00 00 00  bitmap of 0.0',
+        '   56  02 00 00 00 00 00 00 00  slot of 0.0.0',
+        '       ^^')
+
+# The list's count does not fit, so neither it nor what follows is named; the last line has four bytes.
+broken_run('wrong_count', b'ro\x02lii8st', bytes(8) + n(24 << 32 | 16, 8) + n(40 << 32 | 2, 8) + n(1, 8) + bytes(8) + b'TK' + bytes(2), 0)
+picture('wrong_count',
+        '    0  00 00 00 00 00 00 00 00  bitmap',
+        '       ^^',
+        '    8  10 00 00 00 18 00 00 00  slot of 0',
+        '   16  02 00 00 00 28 00 00 00  slot of 1',
+        '   24  01 00 00 00 00 00 00 00',
+        '   32  00 00 00 00 00 00 00 00',
+        '   40  54 4b 00 00              text and padding of 1')
+
+# Lists below each other, forty slots in each, all at one list: of every forty the first is followed, and no line is left for the others.
+# The innermost list stands at 16 + 5 * 336, and its second slot, at 24 of it, is the first that lies over another.
+broken_run('many_at_one', SHARED, shared_row(), 1720)
+SHOWN = ['bitmap', 'slot of 0']
+for level in range(6):
+    path = '.'.join('0' * (level + 1))
+    SHOWN += ['count of ' + path, 'bitmap of ' + path] + ['slot of %s.%d' % (path, i) for i in range(40)]
+SHOWN = ['%5d  %s  %s' % (8 * i, shared_row()[8 * i:8 * i + 8].hex(' '), name) for i, name in enumerate(SHOWN + ['text of 0.0.0.0.0.0.0'])]
+picture('many_at_one', *SHOWN[:216], '       ^^', *SHOWN[216:])
 
 # --- Batches ----------------------------------------------------------------------
 

@@ -1,10 +1,10 @@
 #!/usr/bin/env python3
 """The card by the second reading of the documents, and the tool against it.
 
-    second.py [--seed S] [--count N] [--batches M] PROGRAM [WORDS..]
+    second.py [--seed S] [--count N] [--batches M] [--pictures L] PROGRAM [WORDS..]
 
 Runs the tool on the rows of N random check requests and on M random batches,
-sound and damaged ones.
+sound and damaged ones, and has it show L random rows, most of them damaged.
 """
 
 import argparse
@@ -19,6 +19,7 @@ import rows
 from damage import bad_row, bad_schema
 from layouts import decode
 from making import Chooser, sound_schema
+from picture import picture
 from scenes import some_scene
 from schemas import BOOL, BYTES, FLOAT, INT, LIST, Null, Refused, judge
 
@@ -64,6 +65,14 @@ def card(data):
     except Refused as refused:
         return 'refused %d\n' % refused.number, 'the row is broken at byte %d\n' % refused.place if refused.number == 7 else ''
     return row_text(schema, row), ''
+
+
+def where(data):
+    """What the tool prints and says for this input under --where."""
+    try:
+        return picture(*parts(data))
+    except Refused as refused:
+        return 'refused %d\n' % refused.number, ''
 
 
 # --- Batches --------------------------------------------------------------------
@@ -118,6 +127,15 @@ def random_batches(seed, count):
         yield random_batch(Chooser('batches %d/%d' % (seed, number)))
 
 
+def random_rows(seed, count):
+    """Rows for pictures: in most of them the damage is at one place, so that much of the row can be named."""
+    for number in range(count):
+        choose = Chooser('pictures %d/%d' % (seed, number))
+        scene = some_scene(choose, sound_schema(choose), 20)
+        row = bad_row(choose, scene)[0] if choose.chance(0.8) else scene.row
+        yield len(scene.schema).to_bytes(2, 'little') + scene.schema + row
+
+
 def compare(name, inputs, program, expected):
     """Runs the program on each input, and answers how many of them it accepted; None where it prints something else."""
     accepted = 0
@@ -128,7 +146,7 @@ def compare(name, inputs, program, expected):
         if got != want:
             print('DIFFERENT: %s %d\nexpected:\n%s%sprinted:\n%s%sinput: %s' % ((name, number) + want + got + (data.hex(),)))
             return None
-        accepted += not want[0].startswith('refused')
+        accepted += not want[0].startswith('refused') and not want[1]
     return accepted
 
 
@@ -137,11 +155,13 @@ def main():
     parser.add_argument('--seed', type=int, default=1)
     parser.add_argument('--count', type=int, default=1000)
     parser.add_argument('--batches', type=int, default=500)
+    parser.add_argument('--pictures', type=int, default=500)
     parser.add_argument('program', nargs='+')
     options = parser.parse_args()
     for name, inputs, count, program, expected in (
             ('row', checked_rows(options.seed, options.count), options.count, options.program, card),
-            ('batch', random_batches(options.seed, options.batches), options.batches, options.program + ['--batch'], cards)):
+            ('batch', random_batches(options.seed, options.batches), options.batches, options.program + ['--batch'], cards),
+            ('picture', random_rows(options.seed, options.pictures), options.pictures, options.program + ['--where'], where)):
         accepted = compare('seed %d, %s' % (options.seed, name), inputs, program, expected)
         if accepted is None:
             return 1

@@ -58,7 +58,7 @@ unfolding dotted
 dotted-most [] = omega arith
 dotted-most (i ∷ p) = omega (arith, length-append (46 ∷ decimal i) (dotted p), decimal-twenty i, dotted-most p)
 
-path-most : (p : List ℕ) → length (path p) ≤ 21 * length p
+pub path-most : (p : List ℕ) → length (path p) ≤ 21 * length p
 unfolding path
 path-most [] = omega arith
 path-most (i ∷ p) = omega (arith, length-append (decimal i) (dotted p), decimal-twenty i, dotted-most p)

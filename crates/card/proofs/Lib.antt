@@ -7,4 +7,6 @@ mod Placing
 mod Checked
 mod Walking
 mod Turns
+mod Drawing
+mod Pictures
 mod Example

@@ -6,3 +6,4 @@ pub mod Places
 pub mod Whole
 pub mod Output
 pub mod Rows
+pub mod Picture

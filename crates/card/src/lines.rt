@@ -20,7 +20,7 @@ fn dotted(out: &mut [u8], at: usize, i: u32) -> usize
     text::decimal(out, next, i as u64)
 }
 
-fn path_text(out: &mut [u8], at: usize, path: Path) -> usize
+pub fn path_text(out: &mut [u8], at: usize, path: Path) -> usize
     requires { ⌜ PathRoom (now out) at path ⌝ }
     ensures { λ r. ⌜ Puts (now (out .entry)) at (pathText (pathOf path)) r (now (out .exit)) ⌝ }
 {

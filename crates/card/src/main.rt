@@ -1,4 +1,4 @@
-// The card tool: a row or a batch on standard input, the leaves as lines of text on standard output.
+// The card tool: a row or a batch on standard input, the leaves as lines of text on standard output, or the picture of a row.
 ghost use mathlib.Core.Path.{_≡_};
 ghost use lib.ListN.{length};
 ghost use Rattle.card.specs.Lines.{refusal, Puts};
@@ -13,6 +13,7 @@ use libc::STDOUT_FILENO;
 mod batches;
 mod input;
 mod lines;
+mod picture;
 mod text;
 mod walk;
 
@@ -94,8 +95,16 @@ fn print_cards() {
     io::write_all(STDOUT_FILENO, &out[..k]);
 }
 
-// A row without an argument, a batch with `--batch` or its short name `-b`. A function that is called from two places keeps a frame of its
-// own, so that the card of a row takes none of the batch's memory.
+fn print_where() {
+    let mut buf = [0u8; 81922];
+    let n = io::read_full(STDIN_FILENO, &mut buf);
+    let mut out = room();
+    let k = picture::where_output(&buf[..n], &mut out);
+    io::write_all(STDOUT_FILENO, &out[..k]);
+}
+
+// A row without an argument, a batch with `--batch` or its short name `-b`, a row's picture with `--where` or `-w`. A function that is called
+// from two places keeps a frame of its own, so that the card of a row takes none of the batch's memory, nor of the picture's.
 fn main() {
     let count = os::arg_count();
     if count < 2 {
@@ -113,6 +122,17 @@ fn main() {
             print_cards();
             return;
         }
+        if check::same(&word[..n], b"--where") {
+            print_where();
+            return;
+        }
+        if check::same(&word[..n], b"-w") {
+            print_where();
+            return;
+        }
     }
-    io::write_all(STDERR_FILENO, b"usage: card [-b | --batch]\n");
+    io::write_all(
+        STDERR_FILENO,
+        b"usage: card [-b | --batch | -w | --where]\n",
+    );
 }

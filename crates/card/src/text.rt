@@ -7,7 +7,7 @@ ghost use Rattle.io.specs.Digits.{glyph as glyphOf};
 ghost use Rattle.words.specs.Bytes.{part};
 ghost use Rattle.card.specs.Lines.{hex as hexOf, decimalIn, decimal as decimalOf, signed as signedOf, bytes as bytesOf, Puts};
 
-fn glyph(d: u8) -> u8
+pub fn glyph(d: u8) -> u8
     requires { ⌜ d < 16 ⌝ }
     ensures { λ r. ⌜ r ≡ glyphOf d ⌝ }
 {
