@@ -1,0 +1,9 @@
+pub mod Decode
+pub mod Spots
+pub mod Flat
+pub mod Places
+pub mod Got
+pub mod Filling
+pub mod Running
+pub mod Lines
+pub mod Building

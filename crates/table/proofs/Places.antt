@@ -1,0 +1,310 @@
+-- The one fact about a table, as its users meet it: wherever a type stands in the schema that the table says, the entry at its place has the
+-- type's place in the table of types and its count, and leads to the first child and to what stands behind the type. Assumes nothing.
+use mathlib.Core.Path.{_≡_, refl, ap, sym, _∙_, subst}
+use mathlib.Core.List.{List, [], _∷_, _++_, append-assoc, append-nil}
+use Prim.Native.Nat.{ℕ, zero, suc, _+_, _*_, _-_, _<_, _≤_}
+use native.Mathlib.Decide.{decLt}
+use native.Mathlib.Omega.{arith}
+use lib.Dec.{T}
+use lib.ListN.{length, take, drop, getD, length-append, drop-of-length-le}
+use native.Mathlib.Numerals.{add-one}
+use lib.Seq.{take-all, take-at, drop-at, getD-at, getD-drop, take-suc}
+use Rattle.schema.specs.Marks.{markAt}
+use Rattle.schema.specs.Types.{Fixed, Text, Ty, fix, text, li, ma, ro, Tys, end, _then_, count, fixedPlace, textPlace, mark, place}
+use Rattle.schema.specs.House.{schema, schemas, depth, Right}
+use Rattle.schema.specs.Kinds.{placeAt, headKind}
+use Rattle.schema.specs.Reading.{Parsed, none, some, after, parse, judged}
+use Rattle.schema.specs.declared.Judged.the-variants.{Accepted}
+use Rattle.schema.specs.Walk.{size, sizes, Typed, typeAt, nextAt, fieldsOf}
+use Rattle.schema.proofs.Table.{fixed-high, text-low, text-high}
+use Rattle.schema.proofs.Parse.{complete}
+use Rattle.schema.proofs.Laws.{size-fixed, size-text, size-li, size-ma, size-ro, sizes-done, sizes-more, size-two}
+use Rattle.schema.proofs.Typing.{typed-deeper, typed-room, next-is}
+use Rattle.schema.proofs.Places.{typed-place}
+use Rattle.schema.proofs.Judging.{accepted-root}
+use Rattle.table.specs.Words.{word, placeIn, countIn, afterIn, bytesIn, Lined}
+use Rattle.table.specs.Tables.{many, manys, entries, entriesAll, tableOf, schemaOf, posOf, Table, EntryAt}
+use Rattle.table.proofs.Decode.{place-word, count-word, after-word, lined-word, bytes-other, bytes-struct}
+use Rattle.table.proofs.Spots.{Small, small-count, small-fields, many-one, entries-many, entries-manys, says-append, says, Spot, spot}
+use Rattle.table.proofs.Flat.{place-small, leaf-one, flat-all, past-front}
+
+-- an entry for every two bytes of a schema at most
+mutual
+  unfolding many
+
+  pub many-size : (X : Ty) → 2 * many X ≤ size X
+  many-size (fix f) = omega (arith, size-fixed f)
+  many-size (text t) = omega (arith, size-text t)
+  many-size (li X) = omega (arith, size-li X, many-size X)
+  many-size (ma K U) = omega (arith, size-ma K U, many-size K, many-size U)
+  many-size (ro ts) = omega (arith, size-ro ts, manys-sizes ts)
+
+  manys-sizes : (ts : Tys) → 2 * manys ts ≤ sizes ts
+  manys-sizes end = omega (arith, sizes-done)
+  manys-sizes (X then ts) = omega (arith, sizes-more X ts, many-size X, manys-sizes ts)
+
+-- how many children a type has
+abbrev held : Ty → ℕ
+held (fix f) = 0
+held (text t) = 0
+held (li X) = 1
+held (ma K U) = 2
+held (ro ts) = count ts
+
+abbrev tail : ℕ → ℕ → Ty → List ℕ
+tail d i (fix f) = []
+tail d i (text t) = []
+tail d i (li X) = entries (d + 1) (i + 1) X
+tail d i (ma K U) = entries (d + 1) (i + 1) K ++ entries (d + 1) (i + 1 + many K) U
+tail d i (ro ts) = entriesAll (d + 1) (i + 1) ts
+
+head-entry : (X : Ty) (d i : ℕ) → entries d i X ≡ word (place X) d (held X) i (i + many X) ∷ tail d i X
+unfolding entries place many
+head-entry (fix f) d i = refl
+head-entry (text t) d i = refl
+head-entry (li X) d i = refl
+head-entry (ma K U) d i = refl
+head-entry (ro ts) d i = refl
+
+held-small : (X : Ty) (d i : ℕ) → Small d i X → held X < 256
+held-small (fix f) d i h = omega arith
+held-small (text t) d i h = omega arith
+held-small (li X) d i h = omega arith
+held-small (ma K U) d i h = omega arith
+held-small (ro ts) d i h = omega (arith, small-count d i ts h)
+
+depth-one : (X : Ty) → 1 ≤ depth X
+unfolding depth
+depth-one (fix f) = omega arith
+depth-one (text t) = omega arith
+depth-one (li X) = omega arith
+depth-one (ma K U) = omega arith
+depth-one (ro ts) = omega arith
+
+-- the type that a form begins with is the one that stands there
+form-type : (s : List ℕ) (at d : ℕ) (X : Ty) (r : List ℕ) → Right X → drop at s ≡ schema X ++ r → Typed s at d → typeAt s at d ≡ X
+unfolding typeAt
+form-type s at d X r h e t =
+    let q = typed-deeper s at d (d + depth X) t (omega arith) .same in
+    let p : parse (d + depth X) (drop at s) ≡ some X r = ap (parse (d + depth X)) e ∙ complete X (d + depth X) r h (omega arith) in
+    sym q ∙ rw p
+
+none-past : (s : List ℕ) (at d : ℕ) → length s ≤ at → Typed s at d → ⊥
+none-past s at d l h = omega (arith, typed-room s at d h, next-is s at d, size-two (typeAt s at d))
+
+module _ (t : List ℕ) (h : Table t) where
+  abbrev s : List ℕ
+  s = schemaOf t
+
+  abbrev all : Ty
+  all = ro (fieldsOf s)
+
+  root-small : Small 1 0 all
+  unfolding size
+  root-small =
+      let r = accepted-root s (h .accepted) in
+      let z : 2 * many all ≤ length (schema all) = many-size all in
+      record { right = r .right; deep = omega (arith, r .deep); ends = omega (arith, r .short, ap length (r .form)) }
+
+  is-entries : t ≡ entries 1 0 all ++ []
+  unfolding tableOf
+  is-entries = h .given ∙ sym (append-nil (entries 1 0 all))
+
+  pub table-length : length t ≡ many all
+  unfolding tableOf
+  table-length = ap length (h .given) ∙ entries-many all 1 0
+
+  pub table-short : length t ≤ 512
+  unfolding size
+  table-short =
+      let r = accepted-root s (h .accepted) in
+      let z : 2 * many all ≤ length (schema all) = many-size all in
+      omega (arith, r .short, ap length (r .form), table-length)
+
+  at-spot : (c : ℕ) → c < length t → Spot t c
+  at-spot c l = subst (λ (u : List ℕ). Spot u c) (sym is-entries) (spot all 1 0 [] [] refl root-small c (omega arith) (omega (arith, table-length)))
+
+  -- a type stands at the position of the place c
+  module _ (c d : ℕ) (y : Typed s (posOf t c) d) where
+    pub place-room : c < length t
+    unfolding posOf
+    place-room = go (decLt c (length t))
+      where
+        go : Dec (c < length t) → c < length t
+        go (yes l) = l
+        go (no n) = absurd (none-past s (posOf t c) d (let e : length s ≡ length (schemaOf (take c t)) = ap (λ (u : List ℕ). length (schemaOf u))
+            (sym (take-all c t (omega arith))) in omega arith) y)
+
+    sp : Spot t c
+    sp = at-spot c place-room
+
+    abbrev X : Ty
+    X = sp .T
+
+    front-at : schemaOf (take c t) ≡ schemaOf (sp .front)
+    front-at = ap schemaOf (ap (take c) (sp .form) ∙ take-at (sp .front) (entries (sp .d) c X ++ sp .back) c (sp .before))
+
+    form-at : s ≡ schemaOf (sp .front) ++ (schema X ++ schemaOf (sp .back))
+    form-at =
+        ap schemaOf (sp .form) ∙ says-append (sp .front) (entries (sp .d) c X ++ sp .back)
+        ∙ ap (λ (u : List ℕ). schemaOf (sp .front) ++ u) (says-append (entries (sp .d) c X) (sp .back) ∙ ap (λ (u : List ℕ). u ++ schemaOf (sp .back))
+        (says X (sp .d) c (sp .small)))
+
+    drop-pos : drop (posOf t c) s ≡ schema X ++ schemaOf (sp .back)
+    unfolding posOf
+    drop-pos = ap (drop (length (schemaOf (take c t)))) form-at ∙ drop-at (schemaOf (sp .front)) (schema X ++ schemaOf (sp .back))
+        (length (schemaOf (take c t))) (ap length (sym front-at))
+
+    type-is : typeAt s (posOf t c) d ≡ X
+    type-is = form-type s (posOf t c) d X (schemaOf (sp .back)) (sp .small .right) drop-pos y
+
+    entry-is : getD t c 0 ≡ word (place X) (sp .d) (held X) c (c + many X)
+    entry-is =
+        let e : t ≡ sp .front ++ (word (place X) (sp .d) (held X) c (c + many X) ∷ (tail (sp .d) c X ++ sp .back)) = sp .form ∙ ap
+        (λ (u : List ℕ). sp .front ++ (u ++ sp .back)) (head-entry X (sp .d) c) in
+        ap (λ (u : List ℕ). getD u c 0) e ∙ getD-at (sp .front) (word (place X) (sp .d) (held X) c (c + many X)) (tail (sp .d) c X ++ sp .back) 0 c (sp .before)
+
+    d-small : sp .d < 16
+    d-small = omega (arith, sp .small .deep)
+
+    i-small : c + 1 < 1024
+    i-small = omega (arith, sp .small .ends, many-one X)
+
+    -- its place in the table of types
+    pub place-is : placeIn (getD t c 0) ≡ placeAt s (posOf t c)
+    place-is =
+        ap placeIn entry-is ∙ place-word (place X) (sp .d) (held X) c (c + many X) (place-small X) d-small (held-small X (sp .d) c (sp .small)) i-small
+        ∙ ap place (sym type-is) ∙ sym (typed-place s (posOf t c) d y)
+
+    lined : Lined (getD t c 0)
+    lined =
+        subst Lined (sym entry-is)
+        (lined-word (place X) (sp .d) (held X) c (c + many X) (place-small X) d-small (held-small X (sp .d) c (sp .small)) i-small)
+
+    after-is : afterIn (getD t c 0) ≡ c + many X
+    after-is = ap afterIn entry-is ∙ after-word (place X) (sp .d) (held X) c (c + many X) (place-small X) d-small (held-small X (sp .d) c (sp .small)) i-small
+
+    place-at : placeIn (getD t c 0) ≡ place X
+    place-at =
+        ap placeIn entry-is
+        ∙ place-word (place X) (sp .d) (held X) c (c + many X) (place-small X) d-small (held-small X (sp .d) c (sp .small)) i-small
+
+    count-at : countIn (getD t c 0) ≡ held X
+    count-at =
+        ap countIn entry-is
+        ∙ count-word (place X) (sp .d) (held X) c (c + many X) (place-small X) d-small (held-small X (sp .d) c (sp .small)) i-small
+
+    leaf-next : placeIn (getD t c 0) < 9 → afterIn (getD t c 0) ≡ c + 1
+    leaf-next l = after-is ∙ ap (λ (j : ℕ). c + j) (leaf-one X (omega (arith, place-at)))
+
+    -- a struct that has no more descendants than fields: each field is a leaf
+    pub flat-leaf : placeIn (getD t c 0) ≡ 11 → afterIn (getD t c 0) ≡ c + 1 + countIn (getD t c 0)
+        → (i : ℕ) → i < countIn (getD t c 0) → placeIn (getD t (c + 1 + i) 0) < 9
+    unfolding entries place many
+    flat-leaf e f i l = go X (sp .small) (sp .form) (sym place-at ∙ e) after-is count-at
+      where
+        go : (Y : Ty) → Small (sp .d) c Y → t ≡ sp .front ++ (entries (sp .d) c Y ++ sp .back) → place Y ≡ 11
+            → afterIn (getD t c 0) ≡ c + many Y → countIn (getD t c 0) ≡ held Y → placeIn (getD t (c + 1 + i) 0) < 9
+        go (fix g) z q m a n = absurd (omega (arith, fixed-high g))
+        go (text g) z q m a n = absurd (omega (arith, text-high g))
+        go (li Y) z q m a n = absurd (omega arith)
+        go (ma K U) z q m a n = absurd (omega arith)
+        go (ro ts) z q m a n =
+            let few : manys ts ≡ count ts = omega arith in
+            let in-count : i < count ts = omega arith in
+            let own = entriesAll (sp .d + 1) (c + 1) ts in
+            let j : getD t (c + 1 + i) 0 ≡ getD own i 0 =
+            ap (λ (u : List ℕ). getD u (c + 1 + i) 0) q
+            ∙ past-front (sp .front) (word 11 (sp .d) (count ts) c (c + suc (manys ts))) own (sp .back) c i (sp .before)
+            (omega (arith, entries-manys ts (sp .d + 1) (c + 1))) in
+            rw j (flat-all ts (sp .d + 1) (c + 1) (small-fields (sp .d) c ts z) few i in-count)
+
+    -- the place behind its last descendant is that of what stands behind it
+    pub next-place : posOf t (afterIn (getD t c 0)) ≡ nextAt s (posOf t c) d
+    unfolding posOf size
+    next-place =
+        let a = entries (sp .d) c X in
+        let e : t ≡ (sp .front ++ a) ++ sp .back = sp .form ∙ sym (append-assoc (sp .front) a (sp .back)) in
+        let l : length (sp .front ++ a) ≡ c + many X = length-append (sp .front) a ∙ rw (sp .before, entries-many X (sp .d) c) in
+        let k : take (c + many X) t ≡ sp .front ++ a = ap (take (c + many X)) e ∙ take-at (sp .front ++ a) (sp .back) (c + many X) l in
+        let m : schemaOf (take (c + many X) t) ≡ schemaOf (take c t) ++ schema X = ap schemaOf k ∙ says-append (sp .front) a ∙ rw
+        (says X (sp .d) c (sp .small), ← front-at) in
+        ap (λ (j : ℕ). length (schemaOf (take j t))) after-is ∙ ap length m ∙ length-append (schemaOf (take c t)) (schema X) ∙ sym
+        (next-is s (posOf t c) d ∙ ap (λ (u : Ty). posOf t c + length (schema u)) type-is)
+
+    pub next-room : afterIn (getD t c 0) ≤ length t
+    next-room = let a = entries (sp .d) c X in omega (
+      arith,
+      after-is,
+      ap length (sp .form),
+      length-append (sp .front) (a ++ sp .back),
+      length-append a
+          (sp .back),
+      entries-many X (sp .d) c,
+      sp .before,
+    )
+
+    -- the first child stands behind the entry's own bytes
+    pos-more : posOf t (c + 1) ≡ posOf t c + length (bytesIn (getD t c 0))
+    unfolding posOf schemaOf
+    pos-more =
+        let e : take (c + 1) t ≡ take c t ++ (getD t c 0 ∷ []) = ap (λ (j : ℕ). take j t) (add-one c) ∙ take-suc t c 0 place-room in
+        ap (λ (u : List ℕ). length (schemaOf u)) e ∙ ap length (says-append (take c t) (getD t c 0 ∷ [])) ∙ length-append (schemaOf (take c t))
+        (bytesIn (getD t c 0) ++ []) ∙ ap (λ (u : List ℕ). length (schemaOf (take c t)) + length u) (append-nil (bytesIn (getD t c 0)))
+
+    pub child-other : (placeAt s (posOf t c) ≡ 11 → ⊥) → posOf t (c + 1) ≡ posOf t c + 2
+    unfolding markAt
+    child-other n =
+        let p : place X ≡ placeAt s (posOf t c) = ap place (sym type-is) ∙ sym (typed-place s (posOf t c) d y) in
+        pos-more ∙ ap (λ (u : ℕ). posOf t c + length (bytesIn u)) entry-is
+        ∙ ap (λ (u : List ℕ). posOf t c + length u) (bytes-other (place X) (sp .d) (held X) c (c + many X) (place-small X) d-small
+        (held-small X (sp .d) c (sp .small)) i-small (λ e. n (sym p ∙ e)))
+
+    pub child-struct : placeAt s (posOf t c) ≡ 11 → posOf t (c + 1) ≡ posOf t c + 3
+    unfolding markAt
+    child-struct n =
+        let p : place X ≡ placeAt s (posOf t c) = ap place (sym type-is) ∙ sym (typed-place s (posOf t c) d y) in
+        pos-more ∙ ap (λ (u : ℕ). posOf t c + length (bytesIn u)) entry-is
+        ∙ ap (λ (u : List ℕ). posOf t c + length u) (bytes-struct (place X) (sp .d) (held X) c (c + many X) (place-small X) d-small
+        (held-small X (sp .d) c (sp .small)) i-small (p ∙ n))
+
+    -- a struct's count is the byte behind its mark
+    pub count-is : placeAt s (posOf t c) ≡ 11 → countIn (getD t c 0) ≡ getD s (posOf t c + 2) 0
+    unfolding place schema mark markAt
+    count-is n = go X type-is entry-is (sp .small) drop-pos (ap place (sym type-is) ∙ sym (typed-place s (posOf t c) d y) ∙ n)
+      where
+        go : (Y : Ty) → typeAt s (posOf t c) d ≡ Y → getD t c 0 ≡ word (place Y) (sp .d) (held Y) c (c + many Y) → Small (sp .d) c Y → drop
+            (posOf t c) s ≡ schema Y ++ schemaOf (sp .back) → place Y ≡ 11 → countIn (getD t c 0) ≡ getD s (posOf t c + 2) 0
+        go (fix f) q e z g m = absurd (omega (arith, fixed-high f))
+        go (text u) q e z g m = absurd (omega (arith, text-high u))
+        go (li Y) q e z g m = absurd (omega arith)
+        go (ma K U) q e z g m = absurd (omega arith)
+        go (ro ts) q e z g m =
+            ap countIn e ∙ count-word 11 (sp .d) (count ts) c (c + many (ro ts)) (omega arith) d-small (held-small (ro ts) (sp .d) c z) i-small
+            ∙ sym (sym (getD-drop (posOf t c) s 2 0) ∙ ap (λ (u : List ℕ). getD u 2 0) g)
+
+    -- all of it
+    pub entry-says : EntryAt t c d (getD t c 0)
+    entry-says = record {
+      lined = lined;
+      place = place-is;
+      next = next-place;
+      room = next-room;
+      leaf = leaf-next;
+      child = λ n. child-other (λ e. n (place-is ∙ e));
+      first = λ e. child-struct (sym place-is ∙ e);
+      count = λ e. count-is (sym place-is ∙ e);
+    }
+
+-- the table of an accepted schema says that schema, and the one fact holds of it
+module _ (s : List ℕ) (e : judged s ≡ Accepted) where
+  pub says-schema : schemaOf (tableOf s) ≡ s
+  unfolding tableOf size
+  says-schema =
+      let r = accepted-root s e in
+      let z : 2 * many (ro (fieldsOf s)) ≤ length (schema (ro (fieldsOf s))) = many-size (ro (fieldsOf s)) in
+      says (ro (fieldsOf s)) 1 0 (record { right = r .right; deep = omega (arith, r .deep); ends = omega (arith, r .short, ap length (r .form)) }) ∙ sym
+      (r .form)
+
+  pub table-of : Table (tableOf s)
+  table-of = record { accepted = ap judged says-schema ∙ e; given = ap tableOf (sym says-schema) }

@@ -1,0 +1,15 @@
+-- The kind, as the entry says it. Assumes nothing.
+use mathlib.Core.Path.{refl}
+use Rattle.table.specs.Words.{placeIn}
+use Rattle.table.proofs.place.Statement.{statement}
+use Rattle.table.proofs.place.Tie as tie
+use Rattle.table.proofs.place.Reads as reads
+use Rattle.table.proofs.place.Lts as lts
+
+-- src/lib.rt:189:1
+returns : tie.Need-returns
+unfolding placeIn
+returns c = refl
+
+pub place-spec : {M : Type 1} → statement M
+place-spec = tie.close (tie.spec returns)

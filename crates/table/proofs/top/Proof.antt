@@ -1,0 +1,15 @@
+-- The top bit, as the entry says it. Assumes nothing.
+use mathlib.Core.Path.{refl}
+use Rattle.table.specs.Words.{topIn}
+use Rattle.table.proofs.top.Statement.{statement}
+use Rattle.table.proofs.top.Tie as tie
+use Rattle.table.proofs.top.Reads as reads
+use Rattle.table.proofs.top.Lts as lts
+
+-- src/lib.rt:209:1
+returns : tie.Need-returns
+unfolding topIn
+returns c = refl
+
+pub top-spec : {M : Type 1} → statement M
+top-spec = tie.close (tie.spec returns)

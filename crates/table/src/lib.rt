@@ -1,0 +1,235 @@
+// The table of a schema: for each type an entry of one word, in the schema's order.
+ghost use mathlib.Core.Path.{_≡_};
+ghost use Prim.Native.Nat.{_+_, _*_, _≤_, _<_};
+ghost use lib.ListN.{length};
+ghost use Rattle.schema.specs.Marks.{elementWidth};
+ghost use Rattle.table.specs.Words.{lineAt, linesOf, heldAt, behindAt, Lined, placeIn, markIn, widthIn, topIn, countIn, afterIn};
+ghost use Rattle.table.specs.Tables.{Built, Stands, EntryAt};
+
+// The constant table of the twelve types, a word a line: the mark in bits 0 to 15, the top bit of a fixed-width slot's contents in 16 to 21,
+// the width in 22 to 25, 0 where it varies, and the kind in 28 to 31. The mark numbered m can stand at (109 m / 1024) mod 16, which
+// differs for all twelve; 0 where none does.
+pub const TYPES: [u32; 16] = [
+    0x623F3866,
+    0x423F3869,
+    0x10473169,
+    0x511F3466,
+    0x311F3469,
+    0x70007473,
+    0x0,
+    0x80006962,
+    0x9000696C,
+    0x0,
+    0x0,
+    0x406F62,
+    0xB0006F72,
+    0x208F3269,
+    0xA000616D,
+    0x0,
+];
+
+// The kinds by name, in the order of the document's table: those before STRING have a fixed width, and those before LIST are leaves.
+pub const BOOL: usize = 0;
+
+pub const INT8: usize = 1;
+
+pub const INT16: usize = 2;
+
+pub const INT32: usize = 3;
+
+pub const INT64: usize = 4;
+
+pub const FLOAT32: usize = 5;
+
+pub const FLOAT64: usize = 6;
+
+pub const STRING: usize = 7;
+
+pub const BINARY: usize = 8;
+
+pub const LIST: usize = 9;
+
+pub const MAP: usize = 10;
+
+pub const STRUCT: usize = 11;
+
+fn wide(x: u8) -> u64
+    ensures { λ r. ⌜ r ≡ x ⌝ }
+{
+    x as u64
+}
+
+fn widen(x: u32) -> u64
+    ensures { λ r. ⌜ r ≡ x ⌝ }
+{
+    x as u64
+}
+
+// The line of the mark a b, or 0 where it is none.
+fn line_of(lines: &[u32], a: u8, b: u8) -> u64
+    requires { ⌜ now lines ≡ linesOf ⌝ }
+    ensures { λ r. ⌜ r ≡ lineAt a b ⌝ }
+{
+    let m = words::nums::wide(a) + 256 * words::nums::wide(b);
+    let w = widen(lines[(m * 109 / 1024 % 16) as usize]);
+    if w % 65536 == m { w } else { 0 }
+}
+
+// How many children a container has, whose place in the table of types is k and whose mark ends at a position; 0 where that is refused.
+fn held(s: &[u8], at: usize, k: u64) -> u64
+    requires { ⌜ (9 ≤ k) × (k < 12) ⌝ }
+    ensures { λ r. ⌜ r ≡ heldAt (now (s .entry)) at k ⌝ }
+{
+    if k != 11 {
+        return k - 8;
+    }
+    if s.len() <= at {
+        return 0;
+    }
+    let n = wide(s[at]);
+    if 128 < n {
+        return 0;
+    }
+    n
+}
+
+// Where its first child stands.
+fn behind(at: usize, k: u64) -> usize
+    requires { ⌜ at ≤ 1024 ⌝ }
+    ensures { λ r. ⌜ r ≡ behindAt at k ⌝ }
+{
+    if k == 11 { at + 1 } else { at }
+}
+
+// The table of a schema, at the start of t: how many entries it has, or 0 where the schema is refused. One pass over the bytes: a frame
+// for each container that is open holds its place and how many types are left in its holder.
+pub fn build(s: &[u8], t: &mut [u64]) -> usize
+    requires { ⌜ length (now s) ≤ 2 * length (now t) ⌝ }
+    ensures { λ r. ⌜ Built (now (s .entry)) r (now (t .exit)) ⌝ }
+{
+    let len = s.len();
+    if 1024 < len {
+        return 0;
+    }
+    if len < 3 {
+        return 0;
+    }
+    let lines = TYPES;
+    if line_of(&lines, s[0], s[1]) != 0xB000_6F72 {
+        return 0;
+    }
+    let fields = held(s, 2, 11);
+    if fields == 0 {
+        return 0;
+    }
+    let mut frames = [0u64; 8];
+    t[0] = 0x1001_B000_6F72 + fields * 0x10_0000_0000;
+    let mut n = fields;
+    let mut at: usize = 3;
+    let mut i: usize = 1;
+    let mut d: usize = 0;
+    let mut base: u64 = 0x80_2002_0000_0000;
+    loop {
+        if len < at + 2 {
+            return 0;
+        }
+        let w = line_of(&lines, s[at], s[at + 1]);
+        if w == 0 {
+            return 0;
+        }
+        n -= 1;
+        if w < 0x9000_0000 {
+            t[i] = w + base;
+            at += 2;
+            i += 1;
+            base += 0x40_1000_0000_0000;
+            while n == 0 {
+                let f = frames[d];
+                let p = (f / 256) as usize;
+                t[p] = std::num::wrapping_add_u64(t[p], i as u64 * 0x40_0000_0000_0000);
+                if d == 0 {
+                    if at == len {
+                        return i;
+                    }
+                    return 0;
+                }
+                n = f % 256;
+                d -= 1;
+                base -= 0x1_0000_0000;
+            }
+            continue;
+        }
+        if d == 6 {
+            return 0;
+        }
+        let k = w / 0x1000_0000;
+        let c = held(s, at + 2, k);
+        if c == 0 {
+            return 0;
+        }
+        at = behind(at + 2, k);
+        d += 1;
+        frames[d] = i as u64 * 256 + n;
+        t[i] = w + c * 0x10_0000_0000 + (base - (i as u64 + 1) * 0x40_0000_0000_0000);
+        n = c;
+        i += 1;
+        base += 0x40_1001_0000_0000;
+    }
+}
+
+// The entry of the type at a place.
+pub fn entry_at(t: &[u64], c: usize, depth: usize) -> u64
+    requires { ⌜ Stands (now t) c depth ⌝ }
+    ensures { λ r. ⌜ EntryAt (now (t .entry)) c depth r ⌝ }
+{
+    t[c]
+}
+
+// The kind that an entry says, and its other columns: the mark's two bytes as a number,
+pub fn place(w: u64) -> usize
+    ensures { λ r. ⌜ r ≡ placeIn w ⌝ }
+{
+    (w / 0x1000_0000 % 16) as usize
+}
+
+pub fn mark(w: u64) -> usize
+    ensures { λ r. ⌜ r ≡ markIn w ⌝ }
+{
+    (w % 0x1_0000) as usize
+}
+
+// the bytes in a row, 0 where they vary,
+pub fn width(w: u64) -> usize
+    ensures { λ r. ⌜ r ≡ widthIn w ⌝ }
+{
+    (w / 0x40_0000 % 16) as usize
+}
+
+// the highest bit of a fixed width's contents in a slot,
+pub fn top(w: u64) -> u64
+    ensures { λ r. ⌜ r ≡ topIn w ⌝ }
+{
+    w / 0x1_0000 % 64
+}
+
+// a struct's fields,
+pub fn count(w: u64) -> usize
+    ensures { λ r. ⌜ r ≡ countIn w ⌝ }
+{
+    (w / 0x10_0000_0000 % 256) as usize
+}
+
+// and the place behind the last descendant.
+pub fn after(w: u64) -> usize
+    ensures { λ r. ⌜ r ≡ afterIn w ⌝ }
+{
+    (w / 0x40_0000_0000_0000) as usize
+}
+
+// The bytes of an element of the type: a slot's 8 where they vary.
+pub fn element_width(w: u64) -> usize
+    requires { ⌜ Lined w ⌝ }
+    ensures { λ r. ⌜ r ≡ elementWidth (placeIn w) ⌝ }
+{
+    if place(w) < STRING { width(w) } else { 8 }
+}
