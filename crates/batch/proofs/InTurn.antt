@@ -1,10 +1,10 @@
 -- Rows checked in turn: where the walk over the frames stands, what the next row's check makes of it, and its end. Assumes nothing.
-use mathlib.Core.Path.{_≡_, refl, sym, ap, _∙_}
+use mathlib.Core.Path.{_≡_, refl, sym, ap, _∙_, subst}
 use mathlib.Core.Option.{Option, none, some}
 use mathlib.Core.List.{List, []}
 use Prim.Native.Nat.{ℕ, suc, _+_, _-_, _<_}
 use native.Mathlib.Numerals.{add-one}
-use lib.ListN.{length, drop}
+use lib.ListN.{length, take, drop}
 use lib.Seq.{drop-cons, drop-length}
 use Rattle.words.specs.Bytes.{part}
 use Rattle.schema.specs.Reading.{judged}
@@ -12,6 +12,8 @@ use Rattle.schema.specs.declared.Judged.the-variants.{Accepted, Refused}
 use Rattle.layout.specs.Refusals as N
 use Rattle.layout.specs.Entries.{Verdict, verdict, checkOf as rowCheck}
 use Rattle.layout.specs.Entries as E
+use Rattle.table.specs.Tables.{schemaOf}
+use Rattle.table.proofs.Got.{Got}
 use Rattle.batch.specs.Frames.{framed}
 use Rattle.batch.specs.Entries.{orNone, rowsOf, rowOf, rowBad, inTurn, checkRows, checkOf}
 use Rattle.batch.specs.Entries as B
@@ -72,3 +74,7 @@ module _ {s b : List ℕ} {n : ℕ} (a : judged s ≡ Accepted) (c : InOrder s b
             let r = row-next p f q in
             let bad : rowBad s (rowOf b n) ≡ some m = from-refused (rowBad s (rowOf b n)) m (verdict-is r (E.refused m) e) in
             rw q (sym (turn r ∙ rw bad))
+
+-- what a check does by the table that was built is what it does with the schema
+pub check-by : {s : List ℕ} {n : ℕ} {T : List ℕ} → Got s n T → {v : B.Checking} (b : List ℕ) → v ≡ checkOf (schemaOf (take n T)) b → v ≡ checkOf s b
+check-by g {v} b h = subst (λ (u : List ℕ). v ≡ checkOf u b) (g .says) h

@@ -18,14 +18,14 @@ use Rattle.layout.specs.Refusals as N
 use Rattle.layout.specs.Setting.{Setting}
 use Rattle.layout.specs.Setting as S
 use Rattle.layout.specs.Reading as R
-use Rattle.layout.specs.Entries.{Verdict, verdict, setVerdict, rowAfter}
+use Rattle.layout.specs.Entries.{Verdict, verdict, setVerdict, rowAfter, judgeOf}
 use Rattle.layout.specs.Entries.{checkOf as rowCheck, readOf as rowRead, setOf as rowSet}
 use Rattle.layout.specs.Entries as E
 use Rattle.answers.specs.declared.Refusal.{Refusal}
 use Rattle.answers.specs.declared.Refusal.the-variants as F
 use Rattle.answers.specs.declared.Outcome.{Outcome}
 use Rattle.answers.specs.declared.Outcome.the-variants as O
-use Rattle.answers.specs.Meaning.{refusalMeans}
+use Rattle.answers.specs.Meaning.{refusalMeans, outcomeMeans}
 use Rattle.setting.specs.Writes.{SetAs}
 use Rattle.batch.specs.Frames.{framed}
 use Rattle.batch.specs.Entries.{rowOf, startOf, noRow, rowBad, Fetching, range, fetchAfter, fetchOf}
@@ -164,3 +164,25 @@ module _ (s : List ℕ) {b : List ℕ} {k start end : ℕ} (at : RowAt b k start
           answers = w .answers ∙ same-verdict (rowSet s lent p x);
           after = bytes ∙ ap (sets b start) (w .after) ∙ same-bytes (rowSet s lent p x);
         })
+
+-- what the judgement of a schema says
+module _ (s : List ℕ) {v : Outcome} (e : outcomeMeans v ≡ judgeOf s) where
+  pub judged-yes : v ≡ O.Done → judged s ≡ Accepted
+  unfolding judgeOf
+  judged-yes q = go (judged s) refl
+    where
+      go : (j : Judged) → judged s ≡ j → judged s ≡ Accepted
+      go Accepted a = a
+      go Refused a =
+          let z : E.done ≡ E.refused (N.numbered 1) = ap outcomeMeans (sym q) ∙ e ∙ rw a in
+          let o : _≡_ {A = ℕ} 0 1 = cc in absurd (omega arith)
+
+  pub judged-no : {r : Refusal} → v ≡ O.Refused r → judged s ≡ Refused
+  unfolding judgeOf
+  judged-no {r} q = go (judged s) refl
+    where
+      go : (j : Judged) → judged s ≡ j → judged s ≡ Refused
+      go Refused a = a
+      go Accepted a =
+          let z : E.refused (refusalMeans r) ≡ E.done = ap outcomeMeans (sym q) ∙ e ∙ rw a in
+          let o : _≡_ {A = ℕ} 0 1 = cc in absurd (omega arith)

@@ -1,11 +1,11 @@
 // Batches: frames back to back, each a row's size as 4 bytes, big endian, and the row. Each entry takes any bytes of any length and
 // ends with a result or a numbered refusal. Rows count from 0. An entry that takes a schema judges it once.
 ghost use mathlib.Core.Path.{_≡_};
-ghost use Prim.Native.Nat.{_+_};
+ghost use Prim.Native.Nat.{_+_, _*_, _≤_};
+ghost use lib.ListN.{length};
 ghost use Rattle.schema.specs.Reading.{judged};
-ghost use Rattle.schema.specs.declared.Judged.the-variants.{Accepted};
-ghost use Rattle.layout.specs.Entries.{checkOf as rowCheck};
-ghost use Rattle.answers.specs.Meaning.{refusalMeans, outcomeMeans, meaning, settingOf};
+ghost use Rattle.table.specs.Tables.{Table, schemaOf};
+ghost use Rattle.answers.specs.Meaning.{refusalMeans, meaning, settingOf};
 ghost use Rattle.answers.specs.Paths.{pathOf};
 ghost use Rattle.setting.specs.Writes.{SetAs};
 ghost use Rattle.batch.specs.Frames.{framed};
@@ -19,7 +19,6 @@ use answers::Path;
 use answers::Refusal;
 use answers::Setting;
 use frames::Found;
-use schema::Judged;
 
 pub mod frames;
 
@@ -45,9 +44,9 @@ pub enum Checked {
 fn after_schema(schema: &[u8], r: Refusal) -> Refusal
     ensures { λ a. ⌜ a ≡ afterSchema (judged (now (schema .entry))) r ⌝ }
 {
-    match schema::judge(schema) {
-        Judged::Accepted => r,
-        Judged::Refused => Refusal::Schema,
+    match row::judge(schema) {
+        Outcome::Done => r,
+        Outcome::Refused(_) => Refusal::Schema,
     }
 }
 
@@ -75,20 +74,6 @@ pub fn fetch(schema: &[u8], batch: &[u8], k: usize) -> Fetched
     }
 }
 
-// What check answers for a row, where the schema is accepted.
-fn judge_row(schema: &[u8], row: &[u8]) -> Outcome
-    requires { ⌜ judged (now schema) ≡ Accepted ⌝ }
-    ensures { λ r. ⌜ outcomeMeans r ≡ rowCheck (now (schema .entry)) (now (row .entry)) ⌝ }
-{
-    if 16384 < row.len() {
-        return Outcome::Refused(Refusal::TooLong);
-    }
-    match checking::check_row(schema, row) {
-        checking::Checked::Sound => Outcome::Done,
-        checking::Checked::Broken { place } => Outcome::Refused(Refusal::Layout { place }),
-    }
-}
-
 // The refusal of row n, whose frame ends at a place: 10 of the whole batch comes before it.
 fn refuse_row(b: &[u8], end: usize, n: usize, r: Refusal) -> Checked
     requires { ⌜ Passed (now b) end (n + 1) ⌝ }
@@ -101,9 +86,9 @@ fn refuse_row(b: &[u8], end: usize, n: usize, r: Refusal) -> Checked
 }
 
 // Frames and rows in one walk; behind a refused row the frames alone are looked at.
-fn check_rows(schema: &[u8], batch: &[u8]) -> Checked
-    requires { ⌜ judged (now schema) ≡ Accepted ⌝ }
-    ensures { λ r. ⌜ checkMeans r ≡ checkOf (now (schema .entry)) (now (batch .entry)) ⌝ }
+fn check_rows(t: &[u64], batch: &[u8]) -> Checked
+    requires { ⌜ Table (now t) ⌝ }
+    ensures { λ r. ⌜ checkMeans r ≡ checkOf (schemaOf (now (t .entry))) (now (batch .entry)) ⌝ }
 {
     let mut at = 0;
     let mut n = 0;
@@ -113,7 +98,7 @@ fn check_rows(schema: &[u8], batch: &[u8]) -> Checked
             return Checked::Refused(Refusal::Batch);
         }
         let start = at + 4;
-        match judge_row(schema, &batch[start..end]) {
+        match row::engine::check(t, &batch[start..end]) {
             Outcome::Done => {}
             Outcome::Refused(r) => {
                 return refuse_row(batch, end, n, r);
@@ -125,14 +110,34 @@ fn check_rows(schema: &[u8], batch: &[u8]) -> Checked
     Checked::Done
 }
 
+fn check_in(schema: &[u8], room: &mut [u64], batch: &[u8]) -> Checked
+    requires { ⌜ length (now schema) ≤ 2 * length (now room) ⌝ }
+    ensures { λ r. ⌜ checkMeans r ≡ checkOf (now (schema .entry)) (now (batch .entry)) ⌝ }
+{
+    let n = table::build(schema, room);
+    if n == 0 {
+        return Checked::Refused(Refusal::Schema);
+    }
+    check_rows(&room[..n], batch)
+}
+
 // Whether every row stands for contents of the schema: done, or refused with 1 or 10, or with 3 or 7 and the number of the first such row.
 pub fn check(schema: &[u8], batch: &[u8]) -> Checked
     ensures { λ r. ⌜ checkMeans r ≡ checkOf (now (schema .entry)) (now (batch .entry)) ⌝ }
 {
-    match schema::judge(schema) {
-        Judged::Accepted => check_rows(schema, batch),
-        Judged::Refused => Checked::Refused(Refusal::Schema),
+    if schema.len() <= 64 {
+        let mut room = [0u64; 32];
+        return check_in(schema, &mut room, batch);
     }
+    if schema.len() <= 256 {
+        let mut room = [0u64; 128];
+        return check_in(schema, &mut room, batch);
+    }
+    if 1024 < schema.len() {
+        return Checked::Refused(Refusal::Schema);
+    }
+    let mut room = [0u64; 512];
+    check_in(schema, &mut room, batch)
 }
 
 // A row added behind the batch that the first `used` bytes of a room are: the new length, or refused with 1, 10, 3, 7 or 4.

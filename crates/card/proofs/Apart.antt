@@ -11,8 +11,7 @@ use Rattle.words.specs.Bytes.{part}
 use Rattle.words.specs.Reads.{Reads}
 use Rattle.schema.specs.Kinds.{pick}
 use Rattle.card.specs.Input.{announced, splitOf}
-use Rattle.card.specs.Lines.{refusal}
-use Rattle.card.specs.Output.{bySplit}
+use Rattle.card.specs.Output.{refusal, bySplit}
 use Rattle.card.specs.declared.input.Split.{Split}
 use Rattle.card.specs.declared.input.Split.the-variants.{Short, Parts}
 

@@ -20,10 +20,10 @@ use Rattle.answers.specs.declared.Outcome.the-variants as O
 use Rattle.answers.specs.declared.Refusal.{Refusal}
 use Rattle.answers.specs.Meaning.{numberOf, outcomeMeans}
 use Rattle.answers.proofs.Unique.{number-means}
-use Rattle.reading.specs.Finding.{Open}
-use Rattle.card.specs.Lines.{refusal, Puts}
-use Rattle.card.specs.Whole.{cardOf, Walked}
-use Rattle.card.specs.Output.{byVerdict, judgedText}
+use Rattle.lettering.specs.Text.{Puts}
+use Rattle.lettering.specs.Held.{Walked}
+use Rattle.leaves.specs.Whole.{cardOf}
+use Rattle.card.specs.Output.{refusal, Ready, byVerdict, judgedText}
 use Rattle.card.proofs.Lengths.{refusal-most}
 
 not-done : (n : N.Refusal) → done ≡ refused n → ⊥
@@ -31,16 +31,16 @@ not-done n e = let z : _≡_ {A = ℕ} 0 1 = cc in omega arith
 
 module _ (s row : List ℕ) where
   opens : (j : Judged) → judged s ≡ j → (t : Bool) → leb (length row) 16384 ≡ t → (x : Option N.Refusal)
-      → done ≡ verdict (unless (isAccepted j) 1 or (unless t 3 or x)) → Open s row
+      → done ≡ verdict (unless (isAccepted j) 1 or (unless t 3 or x)) → Ready s row
   opens Refused e t f x d = absurd (not-done (N.numbered 1) d)
   opens Accepted e false f x d = absurd (not-done (N.numbered 3) d)
   opens Accepted e true f x d = record { schema = e; short = leb-true (length row) 16384 f }
 
-  pub accepted-opens : done ≡ checkOf s row → Open s row
+  pub accepted-opens : done ≡ checkOf s row → Ready s row
   unfolding checkOf
   accepted-opens e = opens (judged s) refl (leb (length row) 16384) refl (layoutBad s row) e
 
-  pub checked : (r : Outcome) → outcomeMeans r ≡ checkOf s row → r ≡ O.Done → Open s row
+  pub checked : (r : Outcome) → outcomeMeans r ≡ checkOf s row → r ≡ O.Done → Ready s row
   checked r m e = accepted-opens (ap outcomeMeans (sym e) ∙ m)
 
   pub text-done : (r : Outcome) → outcomeMeans r ≡ checkOf s row → r ≡ O.Done → cardOf s row ≡ judgedText s row
@@ -52,9 +52,6 @@ module _ (s row : List ℕ) where
   text-refused r f n m e q = ap refusal (q ∙ sym (number-means f)) ∙ ap (λ (v : Verdict). byVerdict v (cardOf s row)) (ap outcomeMeans (sym e) ∙ m)
 
 -- ---- a text as a whole
-
-pub walked-as : {u v out out′ : List ℕ} {used r : ℕ} → u ≡ v → Walked u out used r out′ → Walked v out used r out′
-walked-as e w = rw e at w
 
 pub refusal-walked : (n : ℕ) {out out′ : List ℕ} {r : ℕ} → length out ≡ 262144 → Puts out 0 (refusal n) r out′ → Walked (refusal n) out 0 r out′
 refusal-walked n e p = record { within = omega (arith, p .next, refusal-most n); held = λ l. p }

@@ -14,16 +14,18 @@ use Rattle.layout.specs.Reader.{assert, cut}
 use Rattle.layout.specs.Faults.{assertAt, cutAt, seenFrom, within, yielded, inRow, faultIn}
 use Rattle.layout.specs.Tiles.{total, both?, either?, change?, aparts?, stands?}
 use Rattle.layout.specs.Cells.{fromCells, toCells, onNull, bytes as cellBytes, parts}
-use Rattle.layout.specs.Layout.{number, string, inside, outside, kidOf, slotOf, kidGet, flags, slots, tails, reads, bodyPut, bodyGet, struct, array, pair, limit, codec}
+use Rattle.layout.specs.Layout.{number, string, inside, outside, kidOf, slotOf, kidGet, flags, slots, tails, reads, bodyPut, bodyGet, struct, array, pair}
+use Rattle.layout.specs.Layout.{limit, codec}
 use Rattle.layout.specs.Walk.{must, mustStep, own, bySlot, byFlag, child, stepIn, goOn, walk}
 use Rattle.layout.specs.Reading.{typeAt, placed, valueOf, answerOf, found, readIn}
 use Rattle.layout.specs.Entries.{checkOf, readOf}
 use Rattle.batch.specs.Frames.{big, first, frames, framesIn, framed}
 use Rattle.batch.specs.Entries.{checkRows, checkOf as batchCheck}
+use Rattle.lettering.specs.Text.{hex, decimalIn, decimal, signed, hexes, bytes, dotted, path, numbered}
+use Rattle.leaves.specs.Lines.{contents, line}
+use Rattle.leaves.specs.Places.{hasLine, below, markIn, textAt as lineAt}
+use Rattle.leaves.specs.Whole.{inOrder, cardFrom, cardOf}
 use Rattle.card.specs.Input.{announced, splitOf}
-use Rattle.card.specs.Lines.{hex, decimalIn, decimal, signed, hexes, bytes, dotted, path, contents, line, numbered}
-use Rattle.card.specs.Places.{hasLine, below, markIn, textAt as lineAt}
-use Rattle.card.specs.Whole.{inOrder, cardFrom, cardOf}
 use Rattle.card.specs.Output.{judgedText, outputOf}
 use Rattle.card.specs.Rows.{heading, rowsText, batchText, batchOutputOf}
 

@@ -1,12 +1,8 @@
 -- Laws that the proofs cite.
 mod Apart
-mod Putting
 mod Lengths
-mod Told
-mod Placing
 mod Checked
-mod Walking
+mod Tabled
 mod Turns
-mod Drawing
-mod Pictures
+mod Marked
 mod Example

@@ -8,6 +8,11 @@ use native.Mathlib.Omega.{arith}
 use lib.ListN.{length, take, getD, length-append, take-append-drop}
 use lib.Seq.{take-suc, take-all, length-take-le}
 use Rattle.words.specs.Bytes.{Bytes, part}
+use Rattle.schema.specs.Reading.{judged}
+use Rattle.schema.specs.declared.Judged.the-variants.{Accepted}
+use Rattle.answers.specs.declared.Refusal.{Refusal}
+use Rattle.answers.specs.Meaning.{numberOf}
+use Rattle.answers.proofs.Unique.{number-means}
 use Rattle.batch.specs.Entries.{done, orNone, rowsOf, rowOf, Checking, checkOf}
 use Rattle.batch.specs.Meaning.{checkMeans}
 use Rattle.batch.specs.Places.{Stands, FrameEnd, Passed, RowAt}
@@ -15,16 +20,13 @@ use Rattle.batch.specs.declared.Checked.{Checked}
 use Rattle.batch.specs.declared.Checked.the-variants as K
 use Rattle.batch.proofs.Passing.{passed-end, passed-stands, row-next}
 use Rattle.batch.proofs.Batches.{batches}
-use Rattle.answers.specs.declared.Refusal.{Refusal}
-use Rattle.answers.specs.Meaning.{numberOf}
-use Rattle.answers.proofs.Unique.{number-means}
-use Rattle.reading.specs.Finding.{Open}
-use Rattle.card.specs.Lines.{refusal, Puts}
-use Rattle.card.specs.Whole.{cardOf, Spilt, Walked}
+use Rattle.lettering.specs.Text.{Puts}
+use Rattle.lettering.specs.Held.{Spilt, Walked}
+use Rattle.lettering.proofs.Putting.{puts-none, puts-then, puts-as, at-used}
+use Rattle.leaves.specs.Whole.{cardOf}
+use Rattle.card.specs.Output.{refusal, Ready}
 use Rattle.card.specs.Rows.{heading, rowsText, byChecking, batchText}
-use Rattle.card.proofs.Putting.{puts-none, puts-then, puts-as}
 use Rattle.card.proofs.Checked.{accepted-opens}
-use Rattle.card.proofs.Walking.{at-used}
 
 -- ---- the next row
 
@@ -32,7 +34,7 @@ use Rattle.card.proofs.Walking.{at-used}
 pub record Next (s b : List ℕ) (at n end : ℕ) : Type 0 where
   pub stands : Stands b at end
   pub row : RowAt b n (at + 4) end
-  pub opened : Open s (part b (at + 4) (end - (at + 4)))
+  pub ready : Ready s (part b (at + 4) (end - (at + 4)))
 
 pub next-row : (s b : List ℕ) {at n end : ℕ} → Bytes b → checkOf s b ≡ done → Passed b at n → FrameEnd b at end → at < length b
     → Next s b at n end
@@ -42,7 +44,7 @@ next-row s b {n = n} hb e p f l =
     let r = row-next p z (v .is) in
     let few : n < length (rowsOf b) = rw (r .is) (r .counts) in
     let is = accepted-opens s (rowOf b n) (sym (batches s .each b n hb e few .checks)) in
-    record { stands = z; row = r; opened = subst (Open s) (sym (r .row)) is }
+    record { stands = z; row = r; ready = subst (Ready s) (sym (r .row)) is }
 
 -- ---- texts one behind the other
 
@@ -111,6 +113,10 @@ written-end {s} {b} {n = n} w p e =
     record { within = w .within; held = λ l. puts-as (ap (rowsText s 0) all) (w .held (omega arith)) }
 
 -- ---- by what check answers
+
+-- an accepted batch has an accepted schema
+pub batch-judged : (s b : List ℕ) → checkOf s b ≡ done → judged s ≡ Accepted
+batch-judged s b e = batches s .accepted b .0 e .schema
 
 module _ (s b : List ℕ) (c : Checked) (m : checkMeans c ≡ checkOf s b) where
   pub batch-accepted : c ≡ K.Done → checkOf s b ≡ done

@@ -3,10 +3,10 @@ use mathlib.Core.List.{List, [], _∷_, _++_}
 use Prim.Native.Nat.{ℕ, suc}
 use Rattle.layout.specs.Refusals.{numberIn}
 use Rattle.batch.specs.Entries.{Checking, done, refused, refusedRow, rowsOf, checkOf}
+use Rattle.lettering.specs.Text.{numbered}
+use Rattle.leaves.specs.Whole.{cardOf}
 use Rattle.card.specs.Input.{splitOf}
-use Rattle.card.specs.Lines.{numbered, refusal}
-use Rattle.card.specs.Output.{bySplit}
-use Rattle.card.specs.Whole.{cardOf}
+use Rattle.card.specs.Output.{refusal, bySplit}
 
 -- `row`, space, the row's number
 unfoldable pub heading : ℕ → List ℕ

@@ -1,28 +1,27 @@
 // The card tool: a row or a batch on standard input, the leaves as lines of text on standard output, or the picture of a row.
 ghost use mathlib.Core.Path.{_≡_};
 ghost use lib.ListN.{length};
-ghost use Rattle.card.specs.Lines.{refusal, Puts};
-ghost use Rattle.card.specs.Output.{judgedText, outputOf};
-ghost use Rattle.card.specs.Whole.{Walked};
+ghost use Rattle.lettering.specs.Text.{Puts};
+ghost use Rattle.lettering.specs.Held.{Walked};
+ghost use Rattle.leaves.specs.Whole.{cardOf};
+ghost use Rattle.card.specs.Output.{refusal, Ready, judgedText, outputOf};
 use answers::Outcome;
 use answers::Refusal;
+use lettering::text;
 use libc::STDERR_FILENO;
 use libc::STDIN_FILENO;
 use libc::STDOUT_FILENO;
 
 mod batches;
 mod input;
-mod lines;
-mod picture;
-mod text;
-mod walk;
+mod whereabouts;
 
 // The one line of an input that is not accepted.
 fn refused(out: &mut [u8], n: u8) -> usize
     requires { ⌜ length (now out) ≡ 262144 ⌝ }
     ensures { λ r. ⌜ Puts (now (out .entry)) 0 (refusal n) r (now (out .exit)) ⌝ }
 {
-    lines::numbered(out, 0, b"refused ", n as u64)
+    text::numbered(out, 0, b"refused ", n as u64)
 }
 
 // Says where a row is broken that is refused with 7: standard output has the document's one line, and no place.
@@ -34,13 +33,23 @@ fn say_place(r: Refusal) {
     }
 }
 
+// The card of an accepted row, by the table of its schema, which is worked out once.
+fn accepted_text(schema: &[u8], row: &[u8], out: &mut [u8]) -> usize
+    requires { ⌜ Ready (now schema) (now row) × (length (now out) ≡ 262144) ⌝ }
+    ensures { λ r. ⌜ Walked (cardOf (now (schema .entry)) (now (row .entry))) (now (out .entry)) 0 r (now (out .exit)) ⌝ }
+{
+    let mut room = [0u64; 512];
+    let n = table::build(schema, &mut room);
+    leaves::whole(&room[..n], row, out, 0)
+}
+
 // The whole row is checked before its first line is made.
 fn row_text(schema: &[u8], row: &[u8], out: &mut [u8]) -> usize
     requires { ⌜ length (now out) ≡ 262144 ⌝ }
     ensures { λ r. ⌜ Walked (judgedText (now (schema .entry)) (now (row .entry))) (now (out .entry)) 0 r (now (out .exit)) ⌝ }
 {
     match row::check(schema, row) {
-        Outcome::Done => walk::whole(schema, row, out, 0),
+        Outcome::Done => accepted_text(schema, row, out),
         Outcome::Refused(r) => {
             say_place(r);
             refused(out, answers::refusals::number(r))
@@ -99,7 +108,7 @@ fn print_where() {
     let mut buf = [0u8; 81922];
     let n = io::read_full(STDIN_FILENO, &mut buf);
     let mut out = room();
-    let k = picture::where_output(&buf[..n], &mut out);
+    let k = whereabouts::where_output(&buf[..n], &mut out);
     io::write_all(STDOUT_FILENO, &out[..k]);
 }
 

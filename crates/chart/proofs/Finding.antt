@@ -3,31 +3,30 @@ use mathlib.Core.Path.{_≡_, refl, sym, ap, _∙_}
 use mathlib.Core.Bool.{Bool, true, false, cond}
 use mathlib.Core.Option.{Option, none, some}
 use mathlib.Core.List.{List}
-use Prim.Native.Nat.{ℕ, _/_, _≤_}
+use Prim.Native.Nat.{ℕ, _/_, _≤_, _<_}
 use native.Mathlib.Omega.{arith}
+use native.Mathlib.Decide.{decLt}
 use Rattle.schema.specs.Types.{Fixed, Ty, fix, text, li, ma, ro, fixedAt}
-use Rattle.schema.specs.Walk.{fieldsOf}
-use Rattle.schema.specs.declared.Opened.{Opened}
-use Rattle.schema.specs.declared.Opened.the-variants.{Fixed as OFixed, Text as OText, List as OList, Map as OMap, Struct as OStruct, Nothing as ONothing}
 use Rattle.layout.specs.Reading as R
 use Rattle.layout.specs.Reading.{Answer, placed}
 use Rattle.layout.specs.Entries.{readOf}
-use Rattle.words.specs.Bytes.{num, part}
 use Rattle.answers.specs.declared.Answer.{Answer as Case}
 use Rattle.answers.specs.declared.Answer.the-variants as A
 use Rattle.answers.specs.Meaning.{meaning}
-use Rattle.reading.specs.Places.{openTy, placeTy, Stands}
-use Rattle.reading.specs.Finding.{Open, Finds}
-use Rattle.reading.specs.Texts.{shown, Reads}
+use Rattle.table.specs.Tables.{schemaOf}
+use Rattle.reading.specs.Places.{placeTy, Stands}
+use Rattle.reading.specs.Finding.{Open, rootTy, Finds}
+use Rattle.reading.specs.Texts.{countOf, showOf, Reads}
+use Rattle.reading.specs.declared.Opened.{Opened}
 use Rattle.reading.specs.declared.Place.{Place}
 use Rattle.reading.specs.declared.Seat.{Seat}
 use Rattle.reading.specs.declared.Found.{Found}
 use Rattle.reading.specs.declared.Found.the-variants.{NoPlace, NullBefore, Broken, Null, At}
-use Rattle.reading.proofs.Rules.{rest-not}
-use Rattle.reading.proofs.Shown.{read-nowhere, read-under, read-broken, read-null, read-at}
+use Rattle.reading.proofs.Opening.{ty-fixed, ty-text}
+use Rattle.reading.proofs.Shown.{show-text, show-holder, read-nowhere, read-under, read-broken, read-null, read-at}
 use Rattle.chart.specs.Claims.{claimAll, taken}
 use Rattle.chart.specs.Labels.{unlabelled, labelled, labelsBy, labelsIn, labelsAt, followed}
-use Rattle.chart.specs.Room.{Draws, Follows, countX, labelsOf}
+use Rattle.chart.specs.Room.{Draws, Follows, labelsOf}
 
 -- ---- by the answer
 
@@ -76,63 +75,73 @@ follows-none m = record { chart = refl; below = none-followed m; few = omega ari
 
 -- ---- by what was found
 
-module _ (s row p : List ℕ) (O : Open s row) (f : Found) (G : Finds s row p f) where
-  labels-as : (a : Case) → Reads s row p a → labelsIn (placed p (ro (fieldsOf s))) (meaning a) p ≡ labelsAt s row p
+module _ {t row : List ℕ} (p : List ℕ) (O : Open t row) {f : Found} (G : Finds t row p f) where
+  abbrev s : List ℕ
+  s = schemaOf t
+
+  labels-as : (a : Case) → Reads s row p a → labelsIn (placed p (rootTy t)) (meaning a) p ≡ labelsAt s row p
   unfolding labelsAt
-  labels-as a g = ap (λ (b : Answer). labelsIn (placed p (ro (fieldsOf s))) b p) (g .means)
+  labels-as a g = ap (λ (b : Answer). labelsIn (placed p (rootTy t)) b p) (g .means)
 
   none-as : (m : List ℕ) → unlabelled ≡ labelsAt s row p → Follows (labelsAt s row p) m 0 m
   none-as m e = rw (← e) (follows-none m)
 
   pub label-nowhere : (m : List ℕ) → f ≡ NoPlace → Follows (labelsAt s row p) m 0 m
-  label-nowhere m e = none-as m (sym (refused-none _ _ p) ∙ labels-as _ (read-nowhere s row p O f G e))
+  label-nowhere m e = none-as m (sym (refused-none _ _ p) ∙ labels-as _ (read-nowhere O G e))
 
   pub label-under : (m : List ℕ) → f ≡ NullBefore → Follows (labelsAt s row p) m 0 m
-  label-under m e = none-as m (sym (refused-none _ _ p) ∙ labels-as _ (read-under s row p O f G e))
+  label-under m e = none-as m (sym (refused-none _ _ p) ∙ labels-as _ (read-under O G e))
 
-  pub label-broken : (m : List ℕ) (j : ℕ) → f ≡ Broken j → Follows (labelsAt s row p) m 0 m
-  label-broken m j e = none-as m (sym (refused-none _ _ p) ∙ labels-as _ (read-broken s row p O f G j e))
+  pub label-broken : (m : List ℕ) {j : ℕ} → f ≡ Broken j → Follows (labelsAt s row p) m 0 m
+  label-broken m e = none-as m (sym (refused-none _ _ p) ∙ labels-as _ (read-broken O G e))
 
-  pub label-null : (m : List ℕ) (x : Opened) (d : ℕ) (z : Seat) → f ≡ Null x d z → Follows (labelsAt s row p) m 0 m
-  label-null m x d z e = none-as m (sym (null-none _ p) ∙ labels-as _ (read-null s row p O f G x d z e))
+  pub label-null : (m : List ℕ) {x : Opened} {z : Seat} → f ≡ Null x z → Follows (labelsAt s row p) m 0 m
+  label-null m e = none-as m (sym (null-none _ p) ∙ labels-as _ (read-null O G e))
 
-  module _ (y : Place) (e : f ≡ At y) where
-    pub found-stands : Stands s row y
+  module _ {y : Place} (e : f ≡ At y) where
+    pub found-stands : Stands t row y
     found-stands = rw e at (G .lands)
 
-    typed : (x : Opened) → y .opened ≡ x → some (openTy s (y .depth) x) ≡ placed p (ro (fieldsOf s))
-    typed x q = rw q at (rw e at (G .tells))
-
-    label-fixed : (k : ℕ) → y .opened ≡ OFixed k → unlabelled ≡ labelsAt s row p
-    unfolding labelsAt
-    label-fixed k q = sym (fixed-none (fixedAt k) (readOf s row p) p) ∙ ap (λ (o : Option Ty). labelsIn o (readOf s row p) p) (typed (OFixed k) q)
+    typed : some (placeTy t y) ≡ placed p (rootTy t)
+    typed = rw e at (G .tells)
 
     -- what a read answers there
-    there : (x : Opened) → y .opened ≡ x → (a : Case) → meaning a ≡ shown row x (y .start) (y .len)
-        → labelsIn (some (openTy s (y .depth) x)) (meaning a) p ≡ labelsAt s row p
-    there x q a h = ap (λ (o : Option Ty). labelsIn o (meaning a) p) (typed x q) ∙ labels-as a (read-at s row p O f G y e a (h ∙ rw q))
+    there : (a : Case) → meaning a ≡ showOf row y → labelsIn (some (placeTy t y)) (meaning a) p ≡ labelsAt s row p
+    there a h = ap (λ (o : Option Ty). labelsIn o (meaning a) p) typed ∙ labels-as a (read-at O G e h)
 
-    label-is : (x : Opened) → y .opened ≡ x → labelled (openTy s (y .depth) x) p (y .start) (y .len) (countX row x (y .start)) ≡ labelsAt s row p
+    label-fixed : y .opened .kind < 7 → labelsOf t row y p ≡ labelsAt s row p
+    unfolding labelsAt labelled
+    label-fixed h =
+        rw (ty-fixed t (y .opened) h) (sym (fixed-none (fixedAt (y .opened .kind)) (readOf s row p) p)
+        ∙ ap (λ (o : Option Ty). labelsIn o (readOf s row p) p) (rw (ty-fixed t (y .opened) h) at typed))
+
+    label-text : 7 ≤ y .opened .kind → y .opened .kind < 9 → labelsOf t row y p ≡ labelsAt s row p
     unfolding labelsIn labelsBy labelled
-    label-is (OFixed k) q = label-fixed k q
-    label-is (OText k) q = there (OText k) q (A.Bytes (y .start) (y .len)) refl
-    label-is (OList c) q = there (OList c) q (A.Container (y .start) (y .len) (num (part row (y .start) 8))) refl
-    label-is (OMap k v) q = there (OMap k v) q (A.Container (y .start) (y .len) 2) refl
-    label-is (OStruct g n) q = there (OStruct g n) q (A.Container (y .start) (y .len) n) refl
-    label-is ONothing q = absurd (rest-not s row y (found-stands .rests) q)
+    label-text l h =
+        rw (ty-text t (y .opened) l h) (rw (ty-text t (y .opened) l h) at (there (A.Bytes (y .start) (y .len)) (show-text row y l h)))
+
+    label-holder : 9 ≤ y .opened .kind → labelsOf t row y p ≡ labelsAt s row p
+    unfolding labelsIn labelsBy
+    label-holder h = there (A.Container (y .start) (y .len) (countOf row (y .opened) (y .start))) (show-holder row y h refl)
+
+    label-is : labelsOf t row y p ≡ labelsAt s row p
+    label-is = go (decLt (y .opened .kind) 7) (decLt (y .opened .kind) 9)
+      where
+        go : Dec (y .opened .kind < 7) → Dec (y .opened .kind < 9) → labelsOf t row y p ≡ labelsAt s row p
+        go (yes h) x = label-fixed h
+        go (no h) (yes x) = label-text (omega arith) x
+        go (no h) (no x) = label-holder (omega arith)
 
     pub line-within : y .start / 8 ≤ 2048
     line-within = omega (arith, found-stands .rests .within, found-stands .rests .short)
 
-    module _ {b : Bool} {m m′ : List ℕ} {r : ℕ} (t : b ≡ taken m (y .start / 8)) (d : Draws (labelsOf s row y p) m r m′) where
-      below-is : cond b 0 r ≡ followed (labelsOf s row y p) m
-      below-is = rw (t, d .below) (followed-at (placeTy s y) p (y .start) (y .len) (countX row (y .opened) (y .start)) m)
+    module _ {b : Bool} {m m′ : List ℕ} {r : ℕ} (q : b ≡ taken m (y .start / 8)) (d : Draws (labelsOf t row y p) m r m′) where
+      below-is : cond b 0 r ≡ followed (labelsOf t row y p) m
+      below-is = rw (q, d .below) (followed-at (placeTy t y) p (y .start) (y .len) (countOf row (y .opened) (y .start)) m)
 
       -- another had the first line before
       pub label-taken : b ≡ true → Follows (labelsAt s row p) m 0 m′
-      label-taken q =
-          rw (← (label-is (y .opened) refl)) (record { chart = d .chart; below = rw q at below-is; few = omega arith })
+      label-taken h = rw (← label-is) (record { chart = d .chart; below = rw h at below-is; few = omega arith })
 
       pub label-free : b ≡ false → Follows (labelsAt s row p) m r m′
-      label-free q =
-          rw (← (label-is (y .opened) refl)) (record { chart = d .chart; below = rw q at below-is; few = d .few })
+      label-free h = rw (← label-is) (record { chart = d .chart; below = rw h at below-is; few = d .few })

@@ -1,27 +1,30 @@
 -- What a place claims, by its type. Assumes nothing.
 use mathlib.Core.Path.{_≡_, refl, ap, _∙_}
-use mathlib.Core.Option.{none, some}
 use mathlib.Core.List.{List, [], _∷_}
 use Prim.Native.Nat.{ℕ, zero, suc, _+_, _*_, _-_, _/_, _≤_, _<_}
 use native.Mathlib.Omega.{arith}
 use lib.ListN.{length, getD}
 use borrow.Author.Tests.{leb-true}
 use Rattle.words.specs.Bytes.{num, part, bitmap}
-use Rattle.words.proofs.Parts.{length-part}
-use Rattle.schema.specs.Types.{Text, st, bi, textAt, count}
-use Rattle.schema.specs.Walk.{Typed, typeAt, openAt}
-use Rattle.schema.specs.declared.Opened.{Opened}
-use Rattle.schema.specs.declared.Opened.the-variants.{Fixed as OFixed, Text as OText, List as OList, Map as OMap, Struct as OStruct, Nothing as ONothing}
+use Rattle.schema.specs.Marks.{types, line}
+use Rattle.schema.specs.Types.{Text, st, bi, Ty, fix, text, li, ma, ro, width, textAt, fixedPlace, textPlace, place}
 use Rattle.schema.proofs.Typing.{typed-count}
+use Rattle.schema.proofs.Places.{typed-place}
 use Rattle.layout.specs.Layout.{front}
-use Rattle.answers.specs.declared.Answer.the-variants as A
 use Rattle.answers.specs.declared.Path.{Path}
 use Rattle.answers.specs.Paths.{pathOf}
+use Rattle.table.specs.Words.{widthIn, countIn}
+use Rattle.table.specs.Tables as S
+use Rattle.table.specs.Tables.{schemaOf, posOf, EntryAt}
 use Rattle.reading.specs.Children.{wideOf}
-use Rattle.reading.specs.Places.{wideX, slotWidth, structHolds, holdsOf, bytesOf}
+use Rattle.reading.specs.Opening.{heldTy, Fields}
+use Rattle.reading.specs.Places.{slotWidth, structHolds, holdsOf, bytesOf}
+use Rattle.reading.specs.Texts.{countOf}
 use Rattle.reading.specs.declared.Place.{Place}
 use Rattle.reading.proofs.Pointing.{slot-codec}
-use Rattle.reading.proofs.Rules.{wide-open, open-is, open-type, list-says, map-says, header-is, slot-some, rest-row, rest-list, rest-struct, rest-not}
+use Rattle.reading.proofs.Opening.{ty-fixed, ty-text, ty-list, ty-map, ty-struct, struct-left}
+use Rattle.reading.proofs.Rules.{list-says, map-says, header-is, slot-some, rest-row, rest-list, rest-size}
+use Rattle.reading.proofs.Shown.{count-list, count-map, count-struct}
 use Rattle.chart.specs.Claims.{claim, claimAll, byteLines}
 use Rattle.chart.specs.Labels.{unlabelled, textWord, header, childLines, entered, listed, labelled}
 use Rattle.chart.specs.Room.{Long, LineRoom, ByteRoom, ChildRoom, ListRoom, PlaceRoom, Draws, labelsOf}
@@ -38,8 +41,19 @@ pub text-first : (k : ℕ) → (k ≡ 8 → ⊥) → 6 ≡ textWord (textAt k)
 unfolding textAt
 text-first k h = first-text (k - 7) (λ e. h (omega arith))
 
-pub element-bytes : (s : List ℕ) (at d : ℕ) → Typed s at d → (x : Opened) → x ≡ openAt s at d → (v : ℕ) → v ≡ wideX x → v ≡ wideOf (typeAt s at d)
-element-bytes s at d h x e v q = q ∙ wide-open s (d - 1) x (open-is s at d h x e) ∙ ap wideOf (open-type s at d h x e)
+-- a type's bytes, by its place in the table of types
+place-wide : (y : Ty) → line (place y) .width ≡ wideOf y
+unfolding place wideOf width fixedPlace textPlace types
+place-wide (fix f) = refl
+place-wide (text st) = refl
+place-wide (text bi) = refl
+place-wide (li y) = refl
+place-wide (ma a b) = refl
+place-wide (ro ys) = refl
+
+pub element-bytes : {t : List ℕ} {c w v : ℕ} → S.Stands t c 7 → EntryAt t c 7 w → v ≡ widthIn w → v ≡ wideOf (heldTy t c)
+element-bytes {t} {c} h e q =
+    q ∙ e .lined .width ∙ ap (λ (k : ℕ). line k .width) (e .place ∙ typed-place (schemaOf t) (posOf t c) 7 (h .typed)) ∙ place-wide (heldTy t c)
 
 -- ---- nothing to claim
 
@@ -77,68 +91,78 @@ word-known : (t : Text) → textWord t < 8
 word-known st = omega arith
 word-known bi = omega arith
 
-module _ {m s row : List ℕ} {y : Place} {path : Path} (G : PlaceRoom m s row y path) where
+module _ {m t row : List ℕ} {y : Place} {path : Path} (G : PlaceRoom m t row y path) where
+  abbrev k : ℕ
+  k = y .opened .kind
+
   inside : y .start + y .len ≤ 16384
   inside = omega (arith, G .stands .rests .within, G .stands .rests .short)
 
   long : length (bytesOf row y) ≡ y .len
-  long = length-part row (y .start) (y .len) (G .stands .rests .within)
+  long = rest-size (G .stands .rests)
 
   abbrev Labelled : ℕ → List ℕ → Type 0
-  Labelled r m′ = Draws (labelsOf s row y (pathOf path)) m r m′
+  Labelled r m′ = Draws (labelsOf t row y (pathOf path)) m r m′
 
-  pub place-fixed : (k : ℕ) → y .opened ≡ OFixed k → Labelled 0 m
+  pub place-fixed : k < 7 → Labelled 0 m
   unfolding labelled
-  place-fixed k e = rw e (draws-none m)
+  place-fixed h = rw (ty-fixed t (y .opened) h) (draws-none m)
 
-  pub place-not : y .opened ≡ ONothing → Labelled 0 m
-  place-not e = absurd (rest-not s row y (G .stands .rests) e)
-
-  module _ (k x : ℕ) (e : y .opened ≡ OText k) (q : x ≡ textWord (textAt k)) where
+  module _ (l : 7 ≤ k) (h : k < 9) {x : ℕ} (q : x ≡ textWord (textAt k)) where
     pub text-room : ByteRoom m (y .start / 8) (y .len) x path
     text-room = record { long = G .long; within = omega (arith, inside); known = rw q (word-known (textAt k)); neat = G .neat }
 
     pub place-text : {m′ : List ℕ} → m′ ≡ claimAll (byteLines (y .start / 8) (y .len) x (pathOf path)) m → Labelled 0 m′
     unfolding labelled
-    place-text f = rw e (record { chart = rw q at f; below = refl; few = omega arith })
+    place-text f = rw (ty-text t (y .opened) l h) (record { chart = rw q at f; below = refl; few = omega arith })
 
-  module _ (c : ℕ) (e : y .opened ≡ OList c) where
-    pub element-typed : Typed s c (y .depth)
-    element-typed = rest-list s row y (G .stands .rests) c e
+  module _ (e : k ≡ 9) where
+    pub element-typed : S.Stands t (y .opened .first) 7
+    element-typed = rest-list (G .stands .rests) e
 
-    module _ (v : ℕ) (q : v ≡ wideOf (typeAt s c (y .depth))) where
+    module _ {v : ℕ} (q : v ≡ wideOf (heldTy t (y .opened .first))) where
       pub list-room : ListRoom m row (y .start) v path
       list-room =
-          let l = list-says _ (bytesOf row y) (rw e at (G .stands .holds)) in
+          let l = list-says _ (bytesOf row y) (rw (ty-list t (y .opened) e) at (G .stands .holds)) in
           let h : 8 ≤ y .len = rw long at (l .header) in
-          let n = header-is row (y .start) (y .len) (rest-row s row y (G .stands .rests)) h _ refl in
-          let f : front 8 (slotWidth v) (num (part row (y .start) 8)) ≤ y .len = rw (slot-codec (typeAt s c (y .depth)), ← q, n, long) at (l .fixed) in
+          let n = header-is (rest-row (G .stands .rests)) h refl in
+          let f : front 8 (slotWidth v) (num (part row (y .start) 8)) ≤ y .len =
+          rw (slot-codec (heldTy t (y .opened .first)), ← q, n, long) at (l .fixed) in
           record { long = G .long; short = G .stands .rests .short; within = omega (arith, G .stands .rests .within); neat = G .neat; more = G .more }
 
       pub place-list : {r : ℕ} {m′ : List ℕ} → Draws (listed (y .start / 8) v (num (part row (y .start) 8)) (pathOf path)) m r m′ → Labelled r m′
       unfolding labelled
-      place-list d = rw e (rw q at d)
+      place-list d = rw (ty-list t (y .opened) e, ← (count-list row (y .opened) (y .start) e refl)) (rw q at d)
 
-  module _ (k v : ℕ) (e : y .opened ≡ OMap k v) where
+  module _ (e : k ≡ 10) where
     pub map-room : LineRoom m (y .start / 8) path
     map-room =
-        let l = map-says _ _ (bytesOf row y) (rw e at (G .stands .holds)) in
+        let l = map-says _ _ (bytesOf row y) (rw (ty-map t (y .opened) e) at (G .stands .holds)) in
         record { long = G .long; within = omega (arith, inside, l .header, long); neat = G .neat }
 
     pub place-map : {m′ : List ℕ} → m′ ≡ claim (header (y .start / 8) 3 (pathOf path)) m → Labelled 2 m′
     unfolding labelled
-    place-map f = rw e (record { chart = claimed-one _ m f; below = refl; few = omega arith })
+    place-map f =
+        rw (ty-map t (y .opened) e) (record { chart = claimed-one _ m f; below = count-map row (y .opened) (y .start) e; few = omega arith })
 
-  module _ (f n : ℕ) (e : y .opened ≡ OStruct f n) where
+  module _ (a : 9 ≤ k) (b : k ≡ 9 → ⊥) (c : k ≡ 10 → ⊥) {n : ℕ} (q : n ≡ countIn (y .opened .entry)) where
+    struct : k ≡ 11
+    struct = struct-left (G .stands .rests .is .kinded) a b c
+
+    fields : Fields t (y .opened .first) (countIn (y .opened .entry))
+    fields = G .stands .rests .is .struct struct
+
     struct-fits : front 0 8 n ≤ y .len
     unfolding holdsOf structHolds
-    struct-fits =
-        let F = rest-struct s row y (G .stands .rests) f n e in
-        leb-true _ _ (rw (e, typed-count s f (y .depth) n (F .types), long) at (G .stands .holds))
+    struct-fits = leb-true _ _ (rw (ty-struct t (y .opened) struct, typed-count _ _ 7 _ (fields .types), long, ← q) at (G .stands .holds))
 
     pub struct-room : ChildRoom m (y .start / 8) 8 n path
     struct-room = record { long = G .long; within = omega (arith, inside, struct-fits); some = omega arith; neat = G .neat; more = G .more }
 
+    counted : n ≡ countOf row (y .opened) (y .start)
+    counted = count-struct row (y .opened) (y .start) b c q
+
     pub place-struct : {m′ : List ℕ} → m′ ≡ claimAll (childLines (y .start / 8) 8 n (pathOf path)) m → Labelled n m′
     unfolding labelled
-    place-struct g = rw e (record { chart = g; below = refl; few = omega (arith, rest-struct s row y (G .stands .rests) f n e .high) })
+    place-struct g =
+        rw (ty-struct t (y .opened) struct) (record { chart = rw counted at g; below = counted; few = omega (arith, fields .high) })

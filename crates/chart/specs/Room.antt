@@ -4,13 +4,13 @@ use mathlib.Core.List.{List}
 use Prim.Native.Nat.{ℕ, _+_, _*_, _-_, _/_, _≤_, _<_}
 use lib.ListN.{length}
 use Rattle.words.specs.Bytes.{num, part, bitmap, fill}
-use Rattle.schema.specs.declared.Opened.{Opened}
-use Rattle.schema.specs.declared.Opened.the-variants.{Fixed as OFixed, Text as OText, List as OList, Map as OMap, Struct as OStruct, Nothing as ONothing}
 use Rattle.answers.specs.declared.Path.{Path}
 use Rattle.answers.specs.Paths.{pathOf}
 use Rattle.layout.specs.Layout.{front}
 use Rattle.reading.specs.Places.{slotWidth, placeTy, Stands}
+use Rattle.table.specs.Tables.{schemaOf}
 use Rattle.reading.specs.Finding.{Open}
+use Rattle.reading.specs.Texts.{countOf}
 use Rattle.reading.specs.declared.Place.{Place}
 use Rattle.chart.specs.Claims.{claimAll, stepsAt}
 use Rattle.chart.specs.Labels.{Labels, labelled, followed, drawnFrom}
@@ -56,15 +56,15 @@ pub record ListRoom (m row : List ℕ) (start v : ℕ) (p : Path) : Type 0 where
   pub neat : Neat p
   pub more : p .len < 16
 
-pub record PlaceRoom (m s row : List ℕ) (y : Place) (p : Path) : Type 0 where
+pub record PlaceRoom (m t row : List ℕ) (y : Place) (p : Path) : Type 0 where
   pub long : Long m
-  pub stands : Stands s row y
+  pub stands : Stands t row y
   pub neat : Neat p
   pub more : p .len < 16
 
-pub record WalkRoom (m s row : List ℕ) (p : Path) : Type 0 where
+pub record WalkRoom (m t row : List ℕ) (p : Path) : Type 0 where
   pub long : Long m
-  pub opened : Open s row
+  pub opened : Open t row
   pub neat : Neat p
 
 -- the claims are made, and r says how many of the places below may have some
@@ -79,22 +79,13 @@ pub record Follows (x : Labels) (m : List ℕ) (r : ℕ) (m′ : List ℕ) : Typ
   pub below : r ≡ followed x m
   pub few : r ≤ 131072
 
--- how many places are right below one that is present
-abbrev pub countX : List ℕ → Opened → ℕ → ℕ
-countX row (OFixed k) o = 0
-countX row (OText k) o = 0
-countX row (OList c) o = num (part row o 8)
-countX row (OMap k v) o = 2
-countX row (OStruct f n) o = n
-countX row ONothing o = 0
-
--- the labels of one, at the path p
+-- the labels of a place that is present, at the path p
 abbrev pub labelsOf : List ℕ → List ℕ → Place → List ℕ → Labels
-labelsOf s row y p = labelled (placeTy s y) p (y .start) (y .len) (countX row (y .opened) (y .start))
+labelsOf t row y p = labelled (placeTy t y) p (y .start) (y .len) (countOf row (y .opened) (y .start))
 
 -- the place p and all below it, of the paths that have at most 15 steps
 abbrev pub drawnBelow : List ℕ → List ℕ → Path → List ℕ → List ℕ
-drawnBelow s row p m = drawnFrom (16 - p .len) s row (pathOf p) m
+drawnBelow t row p m = drawnFrom (16 - p .len) (schemaOf t) row (pathOf p) m
 
 -- the path of a line of the chart
 pub record PathAt (m : List ℕ) (line : ℕ) (p : Path) : Type 0 where

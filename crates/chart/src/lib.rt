@@ -3,6 +3,7 @@
 use answers::Path;
 ghost use mathlib.Core.Path.{_≡_};
 ghost use Prim.Native.Nat.{_<_};
+ghost use Rattle.table.specs.Tables.{schemaOf};
 ghost use Rattle.reading.specs.Finding.{Open};
 ghost use Rattle.chart.specs.Claims.{whatAt, held};
 ghost use Rattle.chart.specs.Labels.{drawn};
@@ -12,15 +13,15 @@ pub mod lines;
 pub mod walk;
 
 // The claims of all places of a row, sound or broken, into a chart that the caller lends as zeros.
-pub fn draw(s: &[u8], row: &[u8], chart: &mut [u32])
-    requires { ⌜ Open (now s) (now row) × Long (now chart) ⌝ }
-    ensures { λ _. ⌜ now (chart .exit) ≡ drawn (now (s .entry)) (now (row .entry)) (now (chart .entry)) ⌝ }
+pub fn draw(t: &[u64], row: &[u8], chart: &mut [u32])
+    requires { ⌜ Open (now t) (now row) × Long (now chart) ⌝ }
+    ensures { λ _. ⌜ now (chart .exit) ≡ drawn (schemaOf (now (t .entry))) (now (row .entry)) (now (chart .entry)) ⌝ }
 {
     let root = Path {
         steps: [0; 16],
         len: 0,
     };
-    walk::place(s, row, root, chart);
+    walk::place(t, row, root, chart);
 }
 
 // What stands at a line.

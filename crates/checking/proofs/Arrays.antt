@@ -90,11 +90,11 @@ module _ {b : List ℕ} {size : ℕ} (p : Parted b size) where
   values-short : length values ≤ 16384
   values-short = rw length-take (omega (arith, z .small, length-drop stop b))
 
-  pub keys-hold : {s : List ℕ} {k v d : ℕ} → Pair s k v d b → Holding s k d keys
-  keys-hold q = record { typed = q .keys; small = keys-short }
+  pub keys-hold : {t : List ℕ} {k v d : ℕ} → Pair t k v d b → Holding t k d keys
+  keys-hold q = record { stands = q .keys; small = keys-short }
 
-  pub values-hold : {s : List ℕ} {k v d : ℕ} → Pair s k v d b → Holding s v d values
-  values-hold q = record { typed = q .values; small = values-short }
+  pub values-hold : {t : List ℕ} {k v d : ℕ} → Pair t k v d b → Holding t v d values
+  values-hold q = record { stands = q .values; small = values-short }
 
   pub values-head : 8 ≤ length b - stop → stop + 8 ≤ length b
   values-head h = omega (arith, parted-end)

@@ -15,7 +15,7 @@ use Rattle.words.specs.Bytes.{Bytes, num, pad, bitmap, part, zerosAhead}
 use Rattle.words.specs.Bits.{bitOf, bit}
 use Rattle.words.proofs.Parts.{length-part, part-part, drop-take}
 use Rattle.words.proofs.BitLaws.{bit-num}
-use Rattle.layout.specs.Faults.{byte, Read, fault, got, _>>=_, _>>_, assertAt, cutAt, within}
+use Rattle.layout.specs.Faults.{byte, Read, got, _>>=_, _>>_, assertAt, cutAt, within}
 use Rattle.layout.specs.Tiles.{Range, range, total, Stands, stands?}
 use Rattle.layout.specs.Cells.{Cell, null}
 use Rattle.layout.specs.Layout.{Codec, Kid, inside, outside, kidGet, reads, front}

@@ -1,18 +1,17 @@
 -- Struct, list and map as code meets them: one law for each thing that it may find before, and in, their children. Assumes nothing.
 use mathlib.Core.Path.{_≡_, refl, ap, _∙_}
 use mathlib.Core.Bool.{true, false, cond}
-use mathlib.Core.Option.{none, some}
 use mathlib.Core.List.{List, [], _∷_}
 use Prim.Native.Nat.{ℕ, suc, _+_, _*_, _-_, _/_, _%_, _^_, _≤_, _<_}
 use native.Mathlib.Decide.{decLe, ℕ-discrete}
 use native.Mathlib.Omega.{arith}
 use lib.Dec.{eqb, ltb}
-use lib.ListN.{length, take, drop, replicate, length-drop, length-replicate}
+use lib.ListN.{length, take, drop, length-drop, length-replicate}
 use lib.Seq.{drop-drop}
 use Rattle.words.specs.Bytes.{num, pad, bitmap, part, pastByte}
 use Rattle.schema.specs.Types.{Ty, li, ma, ro, Tys}
 use Rattle.schema.proofs.Places.{Holding as HoldingType, list as isList, map as isMap, struct as isStruct}
-use Rattle.layout.specs.Faults.{Place, slot, byte, Read, fault, got, _>>=_, _>>_, assertAt, cutAt, within}
+use Rattle.layout.specs.Faults.{Place, slot, byte, Read, fault, got, _>>=_, _>>_, assertAt, cutAt}
 use Rattle.layout.specs.Cells.{Cell, node, parts}
 use Rattle.layout.specs.Layout.{Kid, kid, slotOf, reads, front, bodyGet, struct, array, pair, list, codec, kids}
 use Rattle.layout.proofs.Faults.{when-got, assert-yes}

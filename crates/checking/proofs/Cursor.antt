@@ -1,122 +1,219 @@
--- A loop over children whose values stand in field order, with what is known of those before: one law for each way through its body.
--- Assumes nothing.
-use mathlib.Core.Path.{_≡_, refl, sym, _∙_}
+-- A child that varies and is not null, as the loop over children meets it: one law for each way through the loop's body. Assumes nothing.
+use mathlib.Core.Path.{_≡_, refl, sym, ap, _∙_, subst}
 use mathlib.Core.Bool.{Bool, true, false, not}
-use mathlib.Core.Option.{none}
-use mathlib.Core.List.{List, [], _∷_}
-use Prim.Native.Nat.{ℕ, _+_, _-_, _/_, _%_, _^_, _≤_, _<_}
+use mathlib.Core.List.{List, _∷_}
+use Prim.Native.Nat.{ℕ, suc, _+_, _*_, _-_, _/_, _%_, _^_, _≤_, _<_}
+use native.Mathlib.Decide.{decLt, ℕ-discrete}
 use native.Mathlib.Omega.{arith}
 use mir.Val.{Fits}
 use mir.Syntax.{w64}
 use lib.Dec.{eqb}
 use lib.ListN.{length, length-take, length-drop}
-use borrow.Author.Tests.{eqb-true}
-use Rattle.words.specs.Bytes.{num, pad, part, zerosAhead}
+use borrow.Author.Tests.{eq-eqb, ne-eqb, eqb-true}
+use Rattle.words.specs.Bytes.{num, pad, bitmap, part, zerosAhead}
 use Rattle.words.specs.Bits.{bit}
 use Rattle.words.specs.Reads.{Reads}
 use Rattle.words.proofs.Parts.{length-part}
-use Rattle.schema.specs.Types.{Ty}
-use Rattle.layout.specs.Tiles.{range}
-use Rattle.layout.specs.Layout.{Kid, outside, codec}
-use Rattle.layout.proofs.Steps.{kidAt}
+use Rattle.words.proofs.NumLaws.{num-part, part-lt}
+use Rattle.layout.specs.Tiles.{Range, range, total, Stands}
+use Rattle.layout.specs.Layout.{front, codec, string}
+use Rattle.layout.proofs.Tiles.{stands-next}
+use Rattle.standing.specs.Standing.{varies, rangeAt}
 use Rattle.checking.specs.Sound.{faultOf, inChild, faultFrom}
-use Rattle.checking.specs.Room.{Known}
-use Rattle.checking.proofs.Tests.{passed, found-fits, no-bytes, ChildIs, child-bad, child-unpadded}
+use Rattle.checking.specs.Room.{Unfit, Asked}
+use Rattle.checking.proofs.Tests.{passed, found-fits, no-bytes, ChildIs, child-bad, child-unpadded, child-next}
 use Rattle.checking.proofs.Containers.{Eights, child-asks}
-use Rattle.checking.proofs.Loops.{Slots, At, at-start, at-done, at-over, slot-room, bit-room, at-null, at-long, at-child, at-next}
-use Rattle.checking.proofs.Knowing.{known-start, known-null, known-next}
+use Rattle.checking.proofs.Children.{good-off, good-outside}
+use Rattle.checking.proofs.Loops.{
+  Held,
+  headOf,
+  kidsOf,
+  typeIn,
+  varyIn,
+  faultIn,
+  held-count,
+  held-kid,
+  Slots,
+  before,
+  StandsHere,
+  At,
+  astray,
+  ranges-more,
+  slots-fit,
+  front-is,
+  slot-at,
+  loop-slot,
+  loop-slot-on,
+  loop-on,
+  loop-falls,
+}
 
--- before child i, of the type F i
-pub record AtCursor (h : ℕ) (F : ℕ → Ty) (ks : List Kid) (b : List ℕ) (n slots start i slot cur : ℕ) : Type 0 where
-  pub fixed : Slots h ks b n slots start
-  pub state : At h ks b n slots start i slot cur
-  pub known : Known h F b n i
+-- its slot says the offset o
+pub record Told {k : Held} {b : List ℕ} {n slots start i slot cur stop done since : ℕ}
+    (a : At k b n slots start i slot cur stop done since) (o : ℕ) : Type 0 where
+  pub less : i < stop
+  pub ranged : varyIn k i ≡ true
+  pub here : bit b (headOf k) i ≡ false
+  pub reads : Reads b (slot + 4) 4 o
 
--- child i is there and varies, and its slot says z bytes at the cursor, which end, padded, before next
-pub record Here {h : ℕ} {F : ℕ → Ty} {ks : List Kid} {b : List ℕ} {n slots start i slot cur : ℕ}
-    (a : AtCursor h F ks b n slots start i slot cur) (z next : ℕ) : Type 1 where
-  pub less : i < n
-  pub kid : kidAt ks i ≡ outside (codec (F i))
-  pub varies : codec (F i) .wide ≡ none
-  pub here : bit b h i ≡ false
-  pub number : ℕ
-  pub reads : Reads b slot 8 number
-  pub from : cur ≡ number / 2 ^ 32
-  pub size : z ≡ number % 2 ^ 32
+module _ {k : Held} {b : List ℕ} {n slots start i slot cur stop done since : ℕ}
+    {a : At k b n slots start i slot cur stop done since} {o : ℕ} (t : Told a o) where
+  abbrev word : ℕ
+  word = num (part b slot 8)
+
+  two-halves : word ≡ num (part b (slot + 4) 4) * 256 ^ 4 + num (part b slot 4)
+  two-halves = num-part b slot 4 4 (omega (arith, loop-slot a (t .less)))
+
+  low-half : num (part b slot 4) < 256 ^ 4
+  low-half = part-lt slot 4 (a .fixed .bytes) (omega (arith, loop-slot a (t .less)))
+
+  told-offset : o ≡ word / 2 ^ 32
+  told-offset = omega (arith, two-halves, low-half, t .reads .is)
+
+  told-size : {z : ℕ} → Reads b slot 4 z → z ≡ word % 2 ^ 32
+  told-size r = omega (arith, two-halves, low-half, r .is)
+
+  -- the cursor moves there
+  pub told-moves : {r : ℕ} → Asked (Unfit (headOf k) (varyIn k) b n) stop done r → At k b n slots start i slot o r (done + (cur - since)) o
+  told-moves {r} q = go (ℕ-discrete done 0)
+    where
+      moved : i ≤ r → Unfit (headOf k) (varyIn k) b n r → At k b n slots start i slot o r (done + (cur - since)) o
+      moved l u = record {
+        fixed = a .fixed;
+        most = l;
+        within = u .most;
+        slot-is = a .slot-is;
+        begun = omega arith;
+        near = omega (arith, t .reads .below);
+        sum = omega (arith, a .sum);
+        few = omega (arith, a .few);
+        same = a .same;
+        order = λ e. absurd (omega (arith, a .sum, a .fixed .data₀, t .less, a .within));
+        asked = λ _. u;
+      }
+
+      -- those before it stand
+      first : (e : done ≡ 0) → Dec (r < i) → i ≤ r
+      first e (yes l) = absurd (q .fresh e .fault (omega (arith, a .most, a .within)) (a .order e .stood r l))
+      first e (no l) = omega arith
+
+      go : Dec (done ≡ 0) → At k b n slots start i slot o r (done + (cur - since)) o
+      go (yes e) = moved (first e (decLt r i)) (q .fresh e)
+      go (no ne) = moved (omega (arith, q .kept ne, t .less)) (subst (Unfit (headOf k) (varyIn k) b n) (sym (q .kept ne)) (a .asked ne))
+
+  pub told-less : (o ≡ cur → ⊥) → 2 * (n - i) + astray b slot o < 2 * (n - i) + astray b slot cur
+  unfolding astray
+  told-less ne =
+      let e : num (part b slot 8) / 2 ^ 32 ≡ o = sym told-offset in
+      rw (e, eq-eqb o o refl, ne-eqb o cur ne) (omega arith)
+
+range-is : (x cur z : ℕ) → cur ≡ x / 2 ^ 32 → z ≡ x % 2 ^ 32 → range (x / 2 ^ 32) (pad (x % 2 ^ 32)) ≡ range cur (pad z)
+range-is x cur z f s = rw (f, s)
+
+-- and z bytes at the cursor, which end, padded, before next
+pub record Here {k : Held} {b : List ℕ} {n slots start i slot cur stop done since : ℕ}
+    (a : At k b n slots start i slot cur stop done since) (z next : ℕ) : Type 0 where
+  pub offset : ℕ
+  pub told : Told a offset
+  pub from : offset ≡ cur
+  pub size : Reads b slot 4 z
   pub to : next ≡ pad (cur + z)
 
-pub order-start : {h : ℕ} {F : ℕ → Ty} {ks : List Kid} {b : List ℕ} {n slots start : ℕ} → Slots h ks b n slots start
-    → AtCursor h F ks b n slots start 0 slots start
-order-start {h} {F} {ks} {b} {n} {slots} {start} d = record { fixed = d; state = at-start h ks b n slots start d; known = known-start h F b n }
+-- where the value stops
+pub stop-fits : {k : Held} {b : List ℕ} {n slots start i slot cur stop done since : ℕ} → At k b n slots start i slot cur stop done since
+    → {z : ℕ} → Reads b slot 4 z → Fits w64 (cur + z)
+stop-fits a r = omega (arith, a .near, r .below)
 
-module _ {h : ℕ} {F : ℕ → Ty} {ks : List Kid} {b : List ℕ} {n slots start i slot cur : ℕ} (a : AtCursor h F ks b n slots start i slot cur) where
-  -- the end, and another one
-  pub order-done : n ≤ i → cur ≡ length b → 0 ≡ faultFrom h 8 ks b 0 []
-  order-done l e = at-done h ks b n slots start (a .fixed) i slot cur (a .state) l e
+pub stop-small : {k : Held} {b : List ℕ} {n slots start i slot cur stop done since : ℕ} → At k b n slots start i slot cur stop done since
+    → {z : ℕ} → Reads b slot 4 z → cur + z < 2 ^ 40
+stop-small a r = omega (arith, a .near, r .below)
 
-  pub order-over : n ≤ i → (cur ≡ length b → ⊥) → 1 ≡ faultFrom h 8 ks b 0 []
-  order-over l e = at-over h ks b n slots start (a .fixed) i slot cur (a .state) l e
+module _ {k : Held} {b : List ℕ} {n slots start i slot cur stop done since : ℕ}
+    {a : At k b n slots start i slot cur stop done since} {z next : ℕ} (t : Here a z next) where
+  abbrev dd : Slots k b n slots start
+  dd = a .fixed
 
-  -- where the slot says that the value stops
-  pub order-stop : {x z : ℕ} → Reads b slot 8 x → z ≡ x % 2 ^ 32 → cur + z < 2 ^ 40
-  order-stop r e = omega (arith, a .state .high, a .fixed .small)
+  abbrev x : ℕ
+  x = num (part b slot 8)
 
-  pub order-fits : {x z : ℕ} → Reads b slot 8 x → z ≡ x % 2 ^ 32 → Fits w64 (cur + z)
-  order-fits r e = omega (arith, a .state .high, a .fixed .small)
+  x-offset : cur ≡ x / 2 ^ 32
+  x-offset = sym (t .from) ∙ told-offset (t .told)
 
-  module _ (l : i < n) where
-    pub order-bit : h + i / 8 < length b
-    order-bit = bit-room h ks b n slots start (a .fixed) i slot cur (a .state) l
+  x-size : z ≡ x % 2 ^ 32
+  x-size = told-size (t .told) (t .size)
 
-    pub order-slot : slot + 8 ≤ length b
-    order-slot = omega (arith, slot-room h ks b n slots start (a .fixed) i slot cur (a .state) l, a .fixed .room)
-
-    pub order-slot-on : Fits w64 (slot + 8)
-    order-slot-on = omega (arith, order-slot, a .fixed .small)
-
-    pub order-on : Fits w64 (i + 1)
-    order-on = omega (arith, a .fixed .data₀, a .fixed .room, a .fixed .small)
-
-    pub order-less : n - (i + 1) < n - i
-    order-less = omega arith
-
-    pub order-null : {r : Bool} → r ≡ bit b h i → r ≡ true → AtCursor h F ks b n slots start (i + 1) (slot + 8) cur
-    order-null e q = record {
-      fixed = a .fixed;
-      state = at-null h ks b n slots start (a .fixed) i slot cur (a .state) l (sym e ∙ q);
-      known = known-null h F b n i (a .known) (sym e ∙ q);
-    }
-
-module _ {h : ℕ} {F : ℕ → Ty} {ks : List Kid} {b : List ℕ} {n slots start i slot cur : ℕ}
-    {a : AtCursor h F ks b n slots start i slot cur} {z next : ℕ} (t : Here a z next) where
   abbrev contents : List ℕ
   contents = part b cur (cur + z - cur)
 
-  abbrev blank : Bool
-  blank = eqb (num (part b (cur + z) (next - (cur + z)))) 0
+  abbrev blank : List ℕ
+  blank = part b (cur + z) (next - (cur + z))
+
+  less : i < stop
+  less = t .told .less
+
+  ex : x ≡ num (part b (headOf k + bitmap n + 8 * i) 8)
+  ex = let p : slot ≡ headOf k + bitmap n + 8 * i = omega (arith, a .slot-is, dd .map) in ap (λ (q : ℕ). num (part b q 8)) p
+
+  own : rangeAt b (headOf k + bitmap n + 8 * i) ≡ range cur (pad z)
+  own = ap (λ (y : ℕ). range (y / 2 ^ 32) (pad (y % 2 ^ 32))) (sym ex) ∙ range-is x cur z x-offset x-size
+
+  front-slot : slot ≡ headOf k + bitmap (length (kidsOf k)) + i * 8
+  front-slot = omega (arith, a .slot-is, dd .map, slot-at dd i)
+
+  ex′ : x ≡ num (part b (headOf k + bitmap (length (kidsOf k)) + i * 8) 8)
+  ex′ = ex ∙ ap (λ (q : ℕ). num (part b q 8)) (sym (slot-at dd i))
+
+  abbrev There : ℕ → Range → Type 0
+  There q r = Stands q (length b) (before k b n i) r
 
   pub here-slot-on : Fits w64 (slot + 8)
-  here-slot-on = order-slot-on a (t .less)
+  here-slot-on = loop-slot-on a less
 
   pub here-on : Fits w64 (i + 1)
-  here-on = order-on a (t .less)
+  here-on = loop-on a less
 
-  pub here-less : n - (i + 1) < n - i
-  here-less = order-less a (t .less)
+  pub here-less : 2 * (n - (i + 1)) + astray b (slot + 8) next < 2 * (n - i) + astray b slot cur
+  here-less = loop-falls a less next
 
   -- the slot as the place of a fault
   pub here-told : Fits w64 (slot + 2)
-  here-told = omega (arith, order-slot a (t .less), a .fixed .small)
+  here-told = omega (arith, loop-slot a less, dd .small)
 
-  pub here-long : length b < next → slot + 2 ≡ faultFrom h 8 ks b 0 []
+  pub here-long : length b < next → slot + 2 ≡ faultIn k b
   here-long g =
-      at-long h ks b n slots start (a .fixed) i slot cur (a .state) (t .less) (codec (F i)) (t .kid) (t .here) (t .number)
-      (t .reads) cur (t .from) refl z (t .size) (cur + z) next refl (t .to) g
+      let p : slot + 2 ≡ suc (suc (headOf k + bitmap (length (kidsOf k)) + i * 8)) = omega (arith, front-slot) in
+      p ∙ sym (good-off (headOf k) 8 (kidsOf k) b (slots-fit dd) (dd .bytes) i (omega (arith, less, a .within, held-count k (dd .right))) (before k b n i)
+      (codec (typeIn k i))
+      (held-kid k (dd .right) i (omega (arith, less, a .within)) (t .told .ranged)) refl (t .told .here) x ex′ off)
+      ∙ a .same
+    where
+      off : There (front (headOf k) 8 (length (kidsOf k))) (range (x / 2 ^ 32) (pad (x % 2 ^ 32))) → ⊥
+      off s =
+          let hi : x / 2 ^ 32 + pad (x % 2 ^ 32) ≤ length b = s .high in
+          let ev : x / 2 ^ 32 % 8 ≡ 0 = s .eight in
+          omega (arith, x-offset, x-size, t .to)
 
   module _ (room : next ≤ length b) where
+    stands : There (headOf k + bitmap n + 8 * n) (range cur (pad z))
+    stands = go (ℕ-discrete done 0)
+      where
+        go : Dec (done ≡ 0) → There (headOf k + bitmap n + 8 * n) (range cur (pad z))
+        go (yes e) =
+            let o = a .order e in
+            let c : headOf k + bitmap n + 8 * n + total (before k b n i) ≡ cur = omega (arith, a .sum, o .fromZero, dd .map, dd .data₀) in
+            subst (λ (q : ℕ). There (headOf k + bitmap n + 8 * n) (range q (pad z))) c
+            (stands-next (headOf k + bitmap n + 8 * n) (length b) (before k b n i) (pad z) (o .packed) (rw c (o .eight))
+            (rw c (omega (arith, t .to, o .eight))))
+        go (no ne) = subst (There (headOf k + bitmap n + 8 * n)) own (a .asked ne .stand i less (t .told .ranged) (t .told .here))
+
+    eight : cur % 8 ≡ 0
+    eight = stands .eight
+
+    low : start ≤ cur
+    low = omega (arith, stands .low, dd .map, dd .data₀)
+
     pub here-pad : (8 ≤ next) × (next ≤ length b) × (cur + z < 2 ^ 40) × (next ≡ pad (cur + z))
-    here-pad =
-        (omega (arith, t .to, a .state .low, a .fixed .data₀, a .fixed .map, t .less), room, omega (arith, t .to, a .fixed .small), t .to)
+    here-pad = (omega (arith, t .to, low, dd .data₀, less, a .within), room, omega (arith, t .to, dd .small), t .to)
 
     pub here-part : cur ≤ cur + z
     here-part = omega arith
@@ -125,52 +222,74 @@ module _ {h : ℕ} {F : ℕ → Ty} {ks : List Kid} {b : List ℕ} {n slots star
     here-end = omega (arith, t .to)
 
     pub here-short : length contents ≤ 16384
-    here-short = rw length-take (omega (arith, a .fixed .small, length-drop cur b))
+    here-short = rw length-take (omega (arith, dd .small, length-drop cur b))
 
     -- its contents, then its padding
-    child : ChildIs b slot cur (faultOf (F i) contents) (cur + z) next (faultFrom h 8 ks b (i + 1) (range cur (pad z) ∷ a .state .ranges))
-        (faultFrom h 8 ks b 0 [])
+    child : ChildIs b slot cur (faultOf (typeIn k i) contents) (cur + z) next (faultFrom (headOf k) 8 (kidsOf k) b (i + 1) (range cur (pad z) ∷ before k b n i))
+        (faultIn k b)
     unfolding faultOf
     child =
-        at-child h ks b n slots start (a .fixed) i slot cur (a .state) (t .less) (codec (F i)) (t .kid) (t .here) (t .number)
-        (t .reads) cur (t .from) refl z (t .size) (cur + z) next refl (t .to) room
+        let g : cur + z - cur ≡ z = omega arith in
+        let c = good-outside (headOf k) 8 (kidsOf k) b (slots-fit dd) (dd .bytes) i (omega (arith, less, a .within, held-count k (dd .right)))
+        (before k b n i) (codec (typeIn k i))
+        (held-kid k (dd .right) i (omega (arith, less, a .within)) (t .told .ranged)) refl (t .told .here) x ex′ cur z next (sym x-offset) x-size
+        (omega (arith, t .to, eight)) (subst (λ (q : ℕ). There q (range cur (pad z))) (sym (front-is dd)) stands) in
+        record { is = sym (c ∙ rw (← front-slot, g)) ∙ a .same }
 
-    goes : faultOf (F i) contents ≡ 0 → num (part b (cur + z) (next - (cur + z))) ≡ 0 → AtCursor h F ks b n slots start (i + 1) (slot + 8) next
-    unfolding faultOf
-    goes g p = record {
-      fixed = a .fixed;
-      state =
-          at-next h ks b n slots start (a .fixed) i slot cur (a .state) (t .less) (codec (F i)) (t .kid) (t .here) (t .number)
-          (t .reads) cur (t .from) refl z (t .size) (cur + z) next refl (t .to) room g p;
-      known =
-          known-next h F b n i slot (omega (arith, a .state .slot-is, a .fixed .map)) (t .number) (t .reads) cur (t .from) z (t .size)
-          (cur + z) refl (a .known) (t .varies) g next (t .to) p;
-    }
+    goes : faultOf (typeIn k i) contents ≡ 0 → num blank ≡ 0 → At k b n slots start (i + 1) (slot + 8) next stop done since
+    unfolding total
+    goes g p =
+        let e : before k b n (i + 1) ≡ range cur (pad z) ∷ before k b n i =
+        ranges-more k b n i (t .told .ranged) (t .told .here) ∙ ap (λ (r : Range). r ∷ before k b n i) own in
+        record {
+          fixed = dd;
+          most = omega (arith, less);
+          within = a .within;
+          slot-is = omega (arith, a .slot-is);
+          begun = omega (arith, a .begun, t .to);
+          near = omega (arith, room, dd .small);
+          sum = rw e (omega (arith, a .sum, a .begun, t .to, eight));
+          few = omega (arith, a .few, a .begun, t .to, eight, room, dd .small);
+          same = rw e (child-next child g p);
+          order = λ q. let o = a .order q in record {
+            whole = o .whole;
+            fromZero = o .fromZero;
+            packed = rw e (omega (arith, a .sum, o .fromZero, dd .map, dd .data₀), o .packed);
+            eight = omega (arith, t .to);
+            high = room;
+            stood = λ j m. go q j m (decLt j i);
+          };
+          asked = a .asked;
+        }
+      where
+        go : done ≡ 0 → (j : ℕ) → j < i + 1 → Dec (j < i) → StandsHere k b n j
+        go q j m (yes m′) = a .order q .stood j m′
+        go q j m (no m′) = let e : i ≡ j = omega arith in subst (StandsHere k b n) e (λ _ _. subst (There (headOf k + bitmap n + 8 * n)) (sym own) stands)
 
-    module _ {r : ℕ} (er : r ≡ faultOf (F i) contents) where
+    module _ {r : ℕ} (er : r ≡ faultOf (typeIn k i) contents) where
       pub here-asks : (r ≡ 0 → ⊥) → (1 ≤ r) × (r ≤ 65536) × (slot ≤ 65536) × (cur ≤ 65536)
       here-asks ne =
-          child-asks (F i) contents er ne here-short (omega (arith, order-slot a (t .less), a .fixed .small)) (omega (arith, a .state .high, a .fixed .small))
+          child-asks (typeIn k i) contents er ne here-short (omega (arith, loop-slot a less, dd .small)) (omega (arith, here-end, dd .small))
 
-      pub here-bad : (r ≡ 0 → ⊥) → {y : ℕ} → y ≡ inChild slot cur r 0 → y ≡ faultFrom h 8 ks b 0 []
+      pub here-bad : (r ≡ 0 → ⊥) → {y : ℕ} → y ≡ inChild slot cur r 0 → y ≡ faultIn k b
       here-bad ne ey = child-bad child er ne ey
 
       -- behind a container there is no padding
-      pub here-whole : Eights (F i) → r ≡ 0 → AtCursor h F ks b n slots start (i + 1) (slot + 8) next
+      pub here-whole : Eights (typeIn k i) → r ≡ 0 → At k b n slots start (i + 1) (slot + 8) next stop done since
       here-whole w e =
-          let g : faultOf (F i) contents ≡ 0 = sym er ∙ e in
-          goes g (no-bytes b (cur + z) next (omega (arith, w contents g, length-part b cur (cur + z - cur) (omega (arith, here-end)), a .state .eight, t .to)))
+          let g : faultOf (typeIn k i) contents ≡ 0 = sym er ∙ e in
+          goes g (no-bytes b (cur + z) next (omega (arith, w contents g, length-part b cur (cur + z - cur) (omega (arith, here-end)), eight, t .to)))
 
     -- a string, which has no fault itself
-    module _ (g : faultOf (F i) contents ≡ 0) {v : Bool} (e : v ≡ blank) where
-      pub here-unpadded : not v ≡ true → {y : ℕ} → y ≡ cur + z + zerosAhead (part b (cur + z) (next - (cur + z))) → y + 2 ≡ faultFrom h 8 ks b 0 []
+    module _ (g : faultOf (typeIn k i) contents ≡ 0) {v : Bool} (e : v ≡ eqb (num blank) 0) where
+      pub here-unpadded : not v ≡ true → {y : ℕ} → y ≡ cur + z + zerosAhead blank → y + 2 ≡ faultIn k b
       here-unpadded q ey = child-unpadded child g e q ey
 
-      pub here-next : not v ≡ false → AtCursor h F ks b n slots start (i + 1) (slot + 8) next
+      pub here-next : not v ≡ false → At k b n slots start (i + 1) (slot + 8) next stop done since
       here-next q = goes g (eqb-true _ 0 (passed e q))
 
     pub here-search : (cur + z ≤ next) × (next ≤ length b)
     here-search = (omega (arith, t .to), room)
 
-    pub here-found : {y : ℕ} → y ≡ cur + z + zerosAhead (part b (cur + z) (next - (cur + z))) → Fits w64 (y + 2)
-    here-found e = found-fits b (cur + z) next e (here-search .0) room (a .fixed .small)
+    pub here-found : {y : ℕ} → y ≡ cur + z + zerosAhead blank → Fits w64 (y + 2)
+    here-found e = found-fits b (cur + z) next e (here-search .0) room (dd .small)

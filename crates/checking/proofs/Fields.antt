@@ -3,7 +3,7 @@ use mathlib.Core.Path.{_≡_, refl, sym, ap, _∙_}
 use mathlib.Core.Bool.{Bool, true, false, cond}
 use mathlib.Core.List.{List}
 use Prim.Native.Nat.{ℕ, zero, suc, _+_, _*_, _-_, _/_, _^_, _≤_, _<_}
-use native.Mathlib.Decide.{decLt}
+use native.Mathlib.Decide.{decLt, ℕ-discrete}
 use native.Mathlib.Omega.{arith}
 use mir.Val.{Fits}
 use mir.Syntax.{w64}
@@ -18,6 +18,7 @@ use Rattle.words.proofs.NumLaws.{part-lt, num-high, num-part, num-one, pow256}
 use Rattle.schema.specs.Marks.{types, line}
 use Rattle.schema.specs.Types.{Fixed, bo, i1, i2, i4, i8, f4, f8, width, fixedPlace, fixedAt}
 use Rattle.schema.proofs.Table.{width-8, place-fixed, line-width}
+use Rattle.table.specs.Words.{topBit, placeIn, topIn, widthIn}
 use Rattle.layout.specs.Layout.{number, limit}
 use Rattle.layout.proofs.Widths.{limit-free}
 use Rattle.checking.specs.Sound.{code, inChild}
@@ -39,17 +40,47 @@ bool-wide i8 e h = omega arith
 bool-wide f4 e h = omega arith
 bool-wide f8 e h = omega arith
 
--- only an int64 and a float64 have 8 bytes
-width-less : (k : ℕ) → k < 7 → (k ≡ 4 → ⊥) → (k ≡ 6 → ⊥) → line k .width < 8
+-- only an int64 and a float64 have 63 for their highest bit, and 8 bytes
+top-whole : (k : ℕ) → k < 7 → topBit k ≡ 63 → line k .width ≡ 8
 unfolding types
-width-less zero h a b = omega arith
-width-less (suc zero) h a b = omega arith
-width-less (suc (suc zero)) h a b = omega arith
-width-less (suc (suc (suc zero))) h a b = omega arith
-width-less (suc (suc (suc (suc zero)))) h a b = absurd (a refl)
-width-less (suc (suc (suc (suc (suc zero))))) h a b = omega arith
-width-less (suc (suc (suc (suc (suc (suc zero)))))) h a b = absurd (b refl)
-width-less (suc (suc (suc (suc (suc (suc (suc k))))))) h a b = absurd (omega arith)
+top-whole zero h e = absurd (omega arith)
+top-whole (suc zero) h e = absurd (omega arith)
+top-whole (suc (suc zero)) h e = absurd (omega arith)
+top-whole (suc (suc (suc zero))) h e = absurd (omega arith)
+top-whole (suc (suc (suc (suc zero)))) h e = refl
+top-whole (suc (suc (suc (suc (suc zero))))) h e = absurd (omega arith)
+top-whole (suc (suc (suc (suc (suc (suc zero)))))) h e = refl
+top-whole (suc (suc (suc (suc (suc (suc (suc k))))))) h e = absurd (omega arith)
+
+top-small : (k : ℕ) → k < 7 → topBit k < 64
+top-small zero h = omega arith
+top-small (suc zero) h = omega arith
+top-small (suc (suc zero)) h = omega arith
+top-small (suc (suc (suc zero))) h = omega arith
+top-small (suc (suc (suc (suc zero)))) h = omega arith
+top-small (suc (suc (suc (suc (suc zero))))) h = omega arith
+top-small (suc (suc (suc (suc (suc (suc zero)))))) h = omega arith
+top-small (suc (suc (suc (suc (suc (suc (suc k))))))) h = absurd (omega arith)
+
+-- what stands above the highest bit of a shorter number stands behind its bytes
+top-rest : (k x : ℕ) → k < 7 → (k ≡ 0 → ⊥) → (topBit k ≡ 63 → ⊥) → x / 2 / 2 ^ topBit k ≡ x / 2 ^ (8 * line k .width)
+unfolding types
+top-rest zero x h a b = absurd (a refl)
+top-rest (suc zero) x h a b = omega arith
+top-rest (suc (suc zero)) x h a b = omega arith
+top-rest (suc (suc (suc zero))) x h a b = omega arith
+top-rest (suc (suc (suc (suc zero)))) x h a b = absurd (b refl)
+top-rest (suc (suc (suc (suc (suc zero))))) x h a b = omega arith
+top-rest (suc (suc (suc (suc (suc (suc zero)))))) x h a b = absurd (b refl)
+top-rest (suc (suc (suc (suc (suc (suc (suc k))))))) x h a b = absurd (omega arith)
+
+-- and above a bool's, what is more than 1
+top-bool : (k x : ℕ) → k ≡ 0 → eqb (x / 2 / 2 ^ topBit k) 0 ≡ ltb x 2
+top-bool k x e = rw e (go (decLt x 2))
+  where
+    go : Dec (x < 2) → eqb (x / 2 / 1) 0 ≡ ltb x 2
+    go (yes p) = eq-eqb (x / 2 / 1) 0 (omega arith) ∙ sym (lt-ltb x 2 p)
+    go (no p) = ne-eqb (x / 2 / 1) 0 (λ e. omega arith) ∙ sym (le-ltb x 2 (omega arith))
 
 bool-one : (k : ℕ) → k ≡ 0 → width (fixedAt k) ≡ 1
 unfolding width types fixedPlace
@@ -103,7 +134,10 @@ tested : (t : Bool) (n : ℕ) → eqb (cond t 0 (suc n)) 0 ≡ t
 tested true n = eq-eqb 0 0 refl
 tested false n = ne-eqb (suc n) 0 (λ z. omega arith)
 
-module _ {b : List ℕ} {i slot k : ℕ} (r : FieldRoom b i slot k) (hb : Bytes b) where
+module _ {b : List ℕ} {i slot entry : ℕ} (r : FieldRoom b i slot entry) (hb : Bytes b) where
+  abbrev k : ℕ
+  k = placeIn entry
+
   abbrev f : Fixed
   f = fixedAt k
 
@@ -170,13 +204,8 @@ module _ {b : List ℕ} {i slot k : ℕ} (r : FieldRoom b i slot k) (hb : Bytes 
       go true = refl
       go false = refl
 
-  pub field-eight : k ≡ 4 → true ≡ fieldGood f b i slot
-  unfolding types
-  field-eight e = field-wide (line k .width) refl (ap (λ (j : ℕ). line j .width) e)
-
-  pub field-double : k ≡ 6 → true ≡ fieldGood f b i slot
-  unfolding types
-  field-double e = field-wide (line k .width) refl (ap (λ (j : ℕ). line j .width) e)
+  pub field-whole : {v : ℕ} → v ≡ topIn entry → v ≡ 63 → true ≡ fieldGood f b i slot
+  field-whole e q = field-wide (line k .width) refl (top-whole k (r .fixed) (sym (r .lined .top) ∙ sym e ∙ q))
 
   null-good : bit b 0 i ≡ true → true ≡ fieldGood f b i slot
   unfolding fieldThen
@@ -197,7 +226,7 @@ module _ {b : List ℕ} {i slot k : ℕ} (r : FieldRoom b i slot k) (hb : Bytes 
         ap (λ (y : ℕ). y / 256 ^ w) (rx .is ∙ ap (λ (n : ℕ). num (part b slot n)) (sym whole))
         ∙ num-high slot w (slot + 8 - (slot + w)) hb (omega (arith, r .slot-room, small-w))
 
-    pub field-number : (k ≡ 0 → ⊥) → {u : ℕ} → u ≡ line k .width → eqb (x / 2 ^ (8 * u)) 0 ≡ fieldGood f b i slot
+    field-number : (k ≡ 0 → ⊥) → {u : ℕ} → u ≡ line k .width → eqb (x / 2 ^ (8 * u)) 0 ≡ fieldGood f b i slot
     field-number h {u} q =
         let vw : u ≡ w = q ∙ line-width k (r .fixed) in
         let over : x / 2 ^ (8 * u) ≡ num rest = rw (vw, ← (pow256 w)) high in
@@ -209,7 +238,7 @@ module _ {b : List ℕ} {i slot k : ℕ} (r : FieldRoom b i slot k) (hb : Bytes 
         rx .is ∙ ap (λ (n : ℕ). num (part b slot n)) (sym whole)
         ∙ num-part b slot w (slot + 8 - (slot + w)) (omega (arith, r .slot-room, small-w)) ∙ ap (λ (n : ℕ). num rest * 256 ^ n + num own) (bool-one k h)
 
-    pub field-bool : k ≡ 0 → ltb x 2 ≡ fieldGood f b i slot
+    field-bool : k ≡ 0 → ltb x 2 ≡ fieldGood f b i slot
     field-bool h = go (decLt x 2) (decLt (num own) 2)
       where
         go : Dec (x < 2) → Dec (num own < 2) → ltb x 2 ≡ fieldGood f b i slot
@@ -220,6 +249,17 @@ module _ {b : List ℕ} {i slot k : ℕ} (r : FieldRoom b i slot k) (hb : Bytes 
         go (no l) (no o) =
             let y = bool-own e h (omega arith) in
             le-ltb x 2 (omega arith) ∙ sym (ne-eqb (fieldThen f b i slot 0) 0 (λ z. omega (arith, y)))
+
+    -- no bit above its highest
+    pub field-above : {u : ℕ} → u ≡ topIn entry → (u ≡ 63 → ⊥) → eqb (x / 2 / 2 ^ u) 0 ≡ fieldGood f b i slot
+    field-above {u} eu ne = ap (λ (y : ℕ). eqb (x / 2 / 2 ^ y) 0) top ∙ go (ℕ-discrete k 0)
+      where
+        top : u ≡ topBit k
+        top = eu ∙ r .lined .top
+
+        go : Dec (k ≡ 0) → eqb (x / 2 / 2 ^ topBit k) 0 ≡ fieldGood f b i slot
+        go (yes h) = top-bool k x h ∙ field-bool h
+        go (no h) = ap (λ (y : ℕ). eqb y 0) (top-rest k x (r .fixed) h (λ q. ne (top ∙ q))) ∙ field-number h refl
 
   -- ---- where the fault is, if it is not
 
@@ -234,10 +274,10 @@ module _ {b : List ℕ} {i slot k : ℕ} (r : FieldRoom b i slot k) (hb : Bytes 
         go true q = absurd (wrong (eqb-true (fieldThen f b i slot 0) 0 (sym (null-good q))))
         go false q = refl
 
-    pub field-rest : (k ≡ 0 → ⊥) → {v : ℕ} → v ≡ line k .width → {y : ℕ} → y ≡ slot + v + zerosAhead (part b (slot + v) (slot + 8 - (slot + v)))
+    pub field-rest : (k ≡ 0 → ⊥) → {v : ℕ} → v ≡ widthIn entry → {y : ℕ} → y ≡ slot + v + zerosAhead (part b (slot + v) (slot + 8 - (slot + v)))
         → y + 2 ≡ fieldThen f b i slot 0
     field-rest h {v} q {y} ey =
-        let vw : v ≡ w = q ∙ line-width k (r .fixed) in
+        let vw : v ≡ w = q ∙ r .lined .width ∙ line-width k (r .fixed) in
         let ey′ : y ≡ slot + w + zerosAhead rest = rw vw at ey in
         let g : y + 2 ≡ suc (suc (slot + w + zerosAhead rest)) = omega arith in
         let n = number-is present h in
@@ -259,10 +299,10 @@ module _ {b : List ℕ} {i slot k : ℕ} (r : FieldRoom b i slot k) (hb : Bytes 
 
 -- ---- room
 
-module _ {b : List ℕ} {i slot k : ℕ} (r : FieldRoom b i slot k) where
-  module _ {v : ℕ} (e : v ≡ line k .width) where
+module _ {b : List ℕ} {i slot entry : ℕ} (r : FieldRoom b i slot entry) where
+  module _ {v : ℕ} (e : v ≡ widthIn entry) where
     eight : v ≤ 8
-    eight = omega (arith, line-width k (r .fixed), width-8 (fixedAt k))
+    eight = omega (arith, r .lined .width, line-width (placeIn entry) (r .fixed), width-8 (fixedAt (placeIn entry)))
 
     -- the bytes behind a field's own
     pub rest-search : (slot + v ≤ slot + 8) × (slot + 8 ≤ length b)
@@ -274,13 +314,9 @@ module _ {b : List ℕ} {i slot k : ℕ} (r : FieldRoom b i slot k) where
     pub rest-found : {y : ℕ} → y ≡ slot + v + zerosAhead (part b (slot + v) (slot + 8 - (slot + v))) → Fits w64 (y + 2)
     rest-found ey = found-fits b (slot + v) (slot + 8) ey (rest-search .0) (r .slot-room) (r .small)
 
-    -- the bits of a number of less than 8 bytes
-    module _ (x : k ≡ 4 → ⊥) (y : k ≡ 6 → ⊥) where
-      pub bits-fit : Fits w64 (8 * v)
-      bits-fit = omega (arith, width-less k (r .fixed) x y)
-
-      pub bits-less : 8 * v < 64
-      bits-less = omega (arith, width-less k (r .fixed) x y)
+  -- a shift by the highest bit
+  pub above-shift : {u : ℕ} → u ≡ topIn entry → u < 64
+  above-shift e = omega (arith, r .lined .top, top-small (placeIn entry) (r .fixed))
 
   pub behind-found : {y : ℕ} → y ≡ slot + 1 + zerosAhead (part b (slot + 1) (slot + 8 - (slot + 1))) → Fits w64 (y + 2)
   behind-found ey = found-fits b (slot + 1) (slot + 8) ey (omega arith) (r .slot-room) (r .small)

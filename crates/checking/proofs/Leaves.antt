@@ -1,7 +1,6 @@
 -- Lists of strings, of bools and of numbers. Assumes nothing.
 use mathlib.Core.Path.{_≡_, refl, sym, ap, _∙_}
 use mathlib.Core.Bool.{Bool, true, false, not, cond}
-use mathlib.Core.Option.{none}
 use mathlib.Core.List.{List, []}
 use Prim.Native.Nat.{ℕ, zero, suc, _+_, _*_, _-_, _/_, _%_, _^_, _≤_, _<_}
 use native.Mathlib.Nat.{zero-div, mul-le-mul-right}
@@ -19,50 +18,48 @@ use Rattle.words.proofs.Parts.{length-part, bytes-part}
 use Rattle.words.proofs.NumLaws.{num-one}
 use Rattle.words.proofs.BitLaws.{bit-num}
 use Rattle.schema.specs.Types.{text, st}
-use Rattle.layout.specs.Layout.{Codec, Kid, number, string, inside, outside, front, codec}
+use Rattle.layout.specs.Layout.{Codec, Kid, number, string, inside, front, codec}
 use Rattle.layout.specs.Cells.{leaf}
 use Rattle.layout.specs.Faults.{byte, got, assertAt, _>>_}
-use Rattle.layout.proofs.Steps.{nobody, kidAt}
+use Rattle.layout.proofs.Steps.{nobody}
 use Rattle.layout.specs.Tiles.{total}
+use Rattle.standing.specs.Standing.{varies}
 use Rattle.checking.specs.Sound.{code, faultOf, inChild, zerosThen, faultFrom}
-use Rattle.checking.specs.Room.{ListRoom, NoNulls, texts, bools}
-use Rattle.checking.proofs.Tests.{passed, failed, code-equal, code-less, code-got, child-sound, found-fits}
+use Rattle.checking.specs.Room.{ListRoom, ListEnd, NoNulls, NoNullsIf, NullAsk, bools}
+use Rattle.checking.proofs.Tests.{clash, passed, failed, code-equal, code-less, code-got, child-sound, found-fits}
 use Rattle.checking.proofs.Children.{good-end, good-null, good-inside}
-use Rattle.checking.proofs.Loops.{Slots}
+use Rattle.checking.proofs.Loops.{items, Slots}
 
 -- ---- strings
 
-pub texts-slots : (b : List ℕ) (n slots start : ℕ) → ListRoom b 8 n slots start → Bytes b → Slots 8 (texts n) b n slots start
-texts-slots b n slots start r hb =
-    record {
-      count = length-replicate n (outside string);
-      head = refl;
-      map = r .map;
-      data₀ = omega (arith, r .elements);
-      room = r .room;
-      small = r .small;
-      bytes = hb;
-    }
-
-pub text-kid : (n i : ℕ) → i < n → kidAt (texts n) i ≡ outside string
-text-kid n i h = getD-replicate n i (outside string) nobody h
-
-pub text-fine : (u : List ℕ) → 0 ≡ code (string .get u)
+pub text-fine : (u : List ℕ) → code (string .get u) ≡ 0
 unfolding string
-text-fine u = sym (code-got (leaf u))
+text-fine u = code-got (leaf u)
 
 -- the same by the type of a string
-pub text-outside : (n i : ℕ) → i < n → kidAt (texts n) i ≡ outside (codec (text st))
-unfolding codec
-text-outside n i h = text-kid n i h
-
-pub text-varies : codec (text st) .wide ≡ none
-unfolding codec string
-text-varies = refl
-
 pub text-sound : (u : List ℕ) → faultOf (text st) u ≡ 0
 unfolding faultOf codec
-text-sound u = sym (text-fine u)
+text-sound u = text-fine u
+
+pub texts-slots : {b : List ℕ} {n slots start : ℕ} → ListRoom b 8 n slots start → Bytes b → Slots (items (text st) n) b n slots start
+unfolding varies
+texts-slots r hb = record {
+  right = (refl, refl);
+  map = r .map;
+  data₀ = omega (arith, r .elements);
+  room = r .room;
+  small = r .small;
+  bytes = hb;
+}
+
+-- whether one of them is null
+pub null-ask : {b : List ℕ} {n i : ℕ} (full : Bool) → NoNullsIf b n full → i < n → 8 + i / 8 < length b → NullAsk b i full
+null-ask {i = i} true h l r = record { room = r; none = λ _. h .none i l }
+null-ask false h l r = record { room = r; none = λ e. absurd (clash e refl) }
+
+-- the bitmap that is looked at for one
+pub nulls-room : {b : List ℕ} {n slots start : ℕ} → ListRoom b 8 n slots start → (length b ≤ 16384) × (8 + (n + 63) / 64 * 8 ≤ length b)
+nulls-room r = (r .small, omega (arith, r .map, r .elements, r .room))
 
 -- ---- a bitmap word for 64 elements
 
@@ -106,18 +103,31 @@ no-zeros b p q x e = rw e
 
 -- ---- the end of a list: the zeros from stop to start behind its elements, and nothing behind them
 
-module _ (b : List ℕ) (stop start all : ℕ) (is : zerosThen b stop start (cond (eqb start (length b)) 0 1) ≡ all)
-    {v : Bool} (ev : v ≡ eqb (num (part b stop (start - stop))) 0) where
-  pub end-gap : not v ≡ true → {y : ℕ} → y ≡ stop + zerosAhead (part b stop (start - stop)) → y + 2 ≡ all
-  end-gap e {y} ey =
-      let g : y + 2 ≡ suc (suc (stop + zerosAhead (part b stop (start - stop)))) = omega arith in
-      g ∙ rw (failed ev e) at is
+module _ {b : List ℕ} {stop start : ℕ} (e : ListEnd b stop start) where
+  abbrev blank : List ℕ
+  blank = part b stop (start - stop)
 
-  pub end-done : not v ≡ false → start ≡ length b → 0 ≡ all
-  end-done e h = rw (passed ev e, eq-eqb start (length b) h) at is
+  abbrev all : ℕ
+  all = zerosThen b stop start (cond (eqb start (length b)) 0 1)
 
-  pub end-over : not v ≡ false → (start ≡ length b → ⊥) → 1 ≡ all
-  end-over e h = rw (passed ev e, ne-eqb start (length b) h) at is
+  pub end-pad : (8 ≤ start) × (start ≤ length b) × (stop < 2 ^ 40) × (start ≡ pad stop)
+  end-pad = (e .low, e .room, omega (arith, e .padded, e .room, e .small), e .padded)
+
+  pub end-search : (stop ≤ start) × (start ≤ length b)
+  end-search = (omega (arith, e .padded), e .room)
+
+  pub end-found : {y : ℕ} → y ≡ stop + zerosAhead blank → Fits w64 (y + 2)
+  end-found ey = found-fits b stop start ey (end-search .0) (e .room) (e .small)
+
+  module _ {v : Bool} (ev : v ≡ eqb (num blank) 0) where
+    pub end-gap : not v ≡ true → {y : ℕ} → y ≡ stop + zerosAhead blank → y + 2 ≡ all
+    end-gap q {y} ey = let g : y + 2 ≡ suc (suc (stop + zerosAhead blank)) = omega arith in g ∙ rw (failed ev q)
+
+    pub end-done : not v ≡ false → start ≡ length b → 0 ≡ all
+    end-done q h = rw (passed ev q, eq-eqb start (length b) h)
+
+    pub end-over : not v ≡ false → (start ≡ length b → ⊥) → 1 ≡ all
+    end-over q h = rw (passed ev q, ne-eqb start (length b) h)
 
 -- ---- bools
 
@@ -148,20 +158,21 @@ module _ {b : List ℕ} {n slots start i : ℕ} (a : BoolsAt b n slots start i) 
   pub bools-stop : Fits w64 (slots + n)
   bools-stop = omega (arith, r .elements, r .room, r .small)
 
-  pub bools-pad : (8 ≤ start) × (start ≤ length b) × (slots + n < 2 ^ 40) × (start ≡ pad (slots + n))
-  bools-pad = (omega (arith, r .map, r .elements), r .room, omega (arith, r .elements, r .room, r .small), omega (arith, r .map, r .elements))
+  pub bools-behind : ListEnd b (slots + n) start
+  bools-behind = record {
+    small = r .small;
+    low = omega (arith, r .map, r .elements);
+    padded = omega (arith, r .map, r .elements);
+    room = r .room;
+  }
 
-  pub bools-search : (slots + n ≤ start) × (start ≤ length b)
-  bools-search = (omega (arith, r .elements), r .room)
-
-  pub bools-found : {y : ℕ} → y ≡ slots + n + zerosAhead (part b (slots + n) (start - (slots + n))) → Fits w64 (y + 2)
-  bools-found e = found-fits b (slots + n) start e (bools-search .0) (r .room) (r .small)
-
-  pub bools-end : n ≤ i → zerosThen b (slots + n) start (cond (eqb start (length b)) 0 1) ≡ faultFrom 8 1 (bools n) b 0 []
+  pub bools-end : n ≤ i → {y : ℕ} → y ≡ zerosThen b (slots + n) start (cond (eqb start (length b)) 0 1) → y ≡ faultFrom 8 1 (bools n) b 0 []
   unfolding total
-  bools-end l =
+  bools-end l ey =
       let e : 8 + bitmap (length (bools n)) + length (bools n) * 1 ≡ slots + n = rw count (omega (arith, r .map)) in
-      sym (good-end 8 1 (bools n) b fits (a .bytes) i [] start (omega (arith, count, a .most)) (omega (arith, front-is)) ∙ rw (e, front-is)) ∙ a .same
+      ey
+      ∙ sym (good-end 8 1 (bools n) b fits (a .bytes) i [] start (omega (arith, count, a .most)) (omega (arith, front-is)) ∙ rw (e, front-is))
+      ∙ a .same
 
   module _ (l : i < n) where
     l′ : i < length (bools n)

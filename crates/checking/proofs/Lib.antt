@@ -1,15 +1,11 @@
 pub mod Tests
-pub mod Marks
-pub mod Shows
 pub mod Children
 pub mod Containers
 pub mod Loops
-pub mod Anywhere
 pub mod Cursor
 pub mod Leaves
 pub mod Fields
 pub mod Elements
-pub mod Knowing
 pub mod Values
 pub mod StructLoops
 pub mod Arrays

@@ -1,21 +1,21 @@
--- The root of an accepted schema: a struct whose fields stand from the fourth byte on. Assumes nothing.
-use mathlib.Core.Path.{_≡_, refl, sym, ap, _∙_}
+-- The root of a table: a struct whose fields stand from its second entry on. Assumes nothing.
+use mathlib.Core.Path.{_≡_, refl, sym, ap, _∙_, subst}
 use mathlib.Core.Option.{Option, none, some}
 use mathlib.Core.List.{List}
-use Prim.Native.Nat.{ℕ, zero, suc, _-_, _≤_, _<_}
+use Prim.Native.Nat.{ℕ, zero, suc, _-_, _≤_}
 use native.Mathlib.Omega.{arith}
-use lib.ListN.{length, getD}
-use Rattle.schema.specs.Types.{Ty, ro}
-use Rattle.schema.specs.Reading.{judged}
-use Rattle.schema.specs.Walk.{typesAt, fieldsOf, StructAt}
-use Rattle.schema.specs.declared.Judged.the-variants.{Accepted}
-use Rattle.schema.proofs.Laws.{byte-room}
-use Rattle.schema.proofs.Typing.{typed-ro}
+use lib.ListN.{length}
+use Rattle.schema.specs.Types.{Ty, Tys, ro, place}
+use Rattle.schema.specs.Kinds.{placeAt}
+use Rattle.schema.specs.Walk.{Typed, typeAt, fieldsOf}
+use Rattle.schema.proofs.Places.{typed-place}
 use Rattle.schema.proofs.Judging.{accepted-root}
 use Rattle.layout.specs.Faults.{slot, byte, Read, fault, got, inRow, faultIn}
 use Rattle.layout.specs.Layout.{codec, faultAt}
+use Rattle.table.specs.Words.{placeIn}
+use Rattle.table.specs.Tables.{Table, Stands, EntryAt, schemaOf, posOf}
 use Rattle.checking.specs.Sound.{code, faultOf}
-use Rattle.checking.specs.Room.{Fields}
+use Rattle.checking.specs.Room.{typeOf, Container}
 
 -- the place that a number stands for
 abbrev placeOf : ℕ → Option ℕ
@@ -43,29 +43,42 @@ place-byte zero h g = absurd (h refl)
 place-byte (suc zero) h g = absurd (g refl)
 place-byte (suc (suc r)) h g = let e : suc (suc r) - 2 ≡ r = omega arith in ap some e
 
-module _ (s : List ℕ) (e : judged s ≡ Accepted) where
-  pub root-struct : (n : ℕ) → n ≡ getD s 2 0 → StructAt s 0 8 3 n
-  root-struct n en = let r = accepted-root s e in typed-ro s 0 8 (r .typed) (r .kind) n en
+-- a table's first entry stands at the schema's first byte
+first-pos : (t : List ℕ) → posOf t 0 ≡ 0
+unfolding posOf schemaOf
+first-pos t = refl
 
-  pub root-count : 2 < length s
-  root-count = byte-room s 2 (root-struct (getD s 2 0) refl .low)
+module _ {t : List ℕ} (h : Table t) where
+  abbrev s : List ℕ
+  s = schemaOf t
 
-  pub root-fields : (b : List ℕ) (n : ℕ) → n ≡ getD s 2 0 → length b ≤ 16384 → Fields s 3 n 7 b
-  root-fields b n en h = let q = root-struct n en in record { typed = q .fields; high = q .high; small = h }
+  pub root-stands : Stands t 0 8
+  root-stands = record { table = h; typed = subst (λ (x : ℕ). Typed s x 8) (sym (first-pos t)) (accepted-root s (h .accepted) .typed) }
+
+  pub root-value : {w : ℕ} → EntryAt t 0 8 w → {b : List ℕ} → length b ≤ 16384 → Container t 0 8 w b
+  root-value {w} e l = record { stands = root-stands; entry = e; holds = omega (arith, eleven); small = l }
+    where
+      ro-place : (ts : Tys) → place (ro ts) ≡ 11
+      ro-place ts = unfold place in refl
+
+      eleven : placeIn w ≡ 11
+      eleven =
+          e .place ∙ ap (placeAt s) (first-pos t) ∙ typed-place s 0 8 (accepted-root s (h .accepted) .typed)
+          ∙ ap place (accepted-root s (h .accepted) .whole) ∙ ro-place (fieldsOf s)
 
   -- the number as the place of a fault
-  module _ (b : List ℕ) {n : ℕ} (en : n ≡ getD s 2 0) {r : ℕ} (er : r ≡ faultOf (ro (typesAt s 3 7 n)) b) where
+  module _ (b : List ℕ) {r : ℕ} (er : r ≡ faultOf (typeOf t 0 8) b) where
     is : placeOf r ≡ faultAt (ro (fieldsOf s)) b
     unfolding faultOf
     is =
-        ap placeOf (er ∙ ap (λ (t : Ty). faultOf t b) (sym (root-struct n en .whole) ∙ accepted-root s e .whole))
+        ap placeOf (er ∙ ap (λ (x : Ty). faultOf x b) (ap (λ (q : ℕ). typeAt s q 8) (first-pos t) ∙ accepted-root s (h .accepted) .whole))
         ∙ place-code (codec (ro (fieldsOf s)) .get b)
 
     pub root-none : r ≡ 0 → none ≡ faultAt (ro (fieldsOf s)) b
-    root-none h = place-none r h ∙ is
+    root-none q = place-none r q ∙ is
 
     pub root-slot : r ≡ 1 → some 0 ≡ faultAt (ro (fieldsOf s)) b
-    root-slot h = place-slot r h ∙ is
+    root-slot q = place-slot r q ∙ is
 
     pub root-byte : (r ≡ 0 → ⊥) → (r ≡ 1 → ⊥) → some (r - 2) ≡ faultAt (ro (fieldsOf s)) b
-    root-byte h g = place-byte r h g ∙ is
+    root-byte q g = place-byte r q g ∙ is

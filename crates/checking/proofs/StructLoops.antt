@@ -1,231 +1,254 @@
--- The two loops over a struct's fields, in field order and in any order: what they know, and one law for each way through their bodies.
--- Assumes nothing.
-use mathlib.Core.Path.{_≡_, sym, _∙_}
-use mathlib.Core.Bool.{Bool, true, false, not}
-use mathlib.Core.Option.{none}
-use mathlib.Core.List.{List, []}
-use Prim.Native.Nat.{ℕ, _+_, _*_, _-_, _%_, _^_, _≤_, _<_}
+-- A struct: its size and bitmap, and the loop over its fields: what it knows, and one law for each way through its body. Assumes nothing.
+use mathlib.Core.Path.{_≡_, refl, sym, ap, _∙_, subst}
+use mathlib.Core.Bool.{Bool, true, false, not, cond}
+use mathlib.Core.List.{List}
+use Prim.Native.Nat.{ℕ, suc, _+_, _*_, _-_, _%_, _^_, _≤_, _<_}
+use native.Mathlib.Numerals.{add-one}
 use native.Mathlib.Omega.{arith}
+use mir.Val.{Fits}
+use mir.Syntax.{w64}
 use lib.Dec.{ltb}
 use lib.ListN.{length}
-use Rattle.words.specs.Bytes.{Bytes, num, zeros, bitmap, part}
-use Rattle.schema.specs.Types.{Tys, ro, fixedAt, field}
-use Rattle.schema.specs.Kinds.{placeAt, Marked}
-use Rattle.schema.specs.Walk.{Typed, typeAt, typesAt, nextAt, fieldAt}
-use Rattle.schema.proofs.Places.{leaf-next}
+use Rattle.words.specs.Bytes.{Bytes, num, bitmap, part, pastByte}
+use Rattle.words.specs.Bits.{bit}
+use Rattle.schema.specs.Types.{Ty, Tys, ro, fixedAt, width, place, field}
+use Rattle.schema.specs.Walk.{Typed, typeAt, nextAt, fieldAt}
+use Rattle.schema.proofs.Table.{width-8}
+use Rattle.schema.proofs.Typing.{FieldLaw, field-typed, typed-count, field-here}
+use Rattle.schema.proofs.Places.{typed-place, fixed-of, text-of, holding-of}
 use Rattle.layout.specs.Tiles.{Range}
-use Rattle.layout.specs.Layout.{outside, codec, kids}
+use Rattle.layout.specs.Layout.{number, inside, kidOf, kid, codec, kids, limit, front}
+use Rattle.layout.proofs.Containers.{kids-count}
 use Rattle.layout.proofs.Steps.{kidAt}
-use Rattle.checking.specs.Sound.{faultOf, faultFrom}
-use Rattle.checking.specs.Room.{Container, Fields, FieldsKnown, FieldRoom, fieldThen, fieldGood, Known}
-use Rattle.checking.proofs.Tests.{passed, failed}
-use Rattle.checking.proofs.Containers.{Eights}
+use Rattle.layout.proofs.Walked.{kids-at}
+use Rattle.table.specs.Words.{placeIn, afterIn}
+use Rattle.table.specs.Tables.{Stands, EntryAt, schemaOf, posOf}
+use Rattle.standing.specs.Standing.{varies, FieldsFrom}
+use Rattle.standing.proofs.Tabled.{kind-varies, kind-fixed, field-next}
+use Rattle.checking.specs.Sound.{code, faultOf, inChild, zerosThen, faultFrom}
+use Rattle.checking.specs.Room.{typeOf, typesOf, Container, FieldRoom, fieldThen, fieldGood}
+use Rattle.checking.proofs.Tests.{clash, passed, failed, MapRoom}
+use Rattle.checking.proofs.Children.{good-null, good-inside}
+use Rattle.checking.proofs.Containers.{struct-odd, struct-short, struct-past, struct-good, Eights, container-eights}
+use Rattle.checking.proofs.Leaves.{text-fine}
 use Rattle.checking.proofs.Fields.{field-passes, field-hides}
-use Rattle.checking.proofs.Knowing.{known-fixed, known-good}
-use Rattle.checking.proofs.Loops.{Slots, At, at-same, at-wrong}
-use Rattle.checking.proofs.Anywhere.{AnyAt, any-start, any-bit, any-slot, any-same, any-wrong}
-use Rattle.checking.proofs.Cursor.{AtCursor, order-start, order-bit, order-slot}
-use Rattle.checking.proofs.Values.{
-  as-type,
-  field-first,
-  fields-good,
-  fields-slots,
-  field-here,
-  field-type,
-  field-marked,
-  field-on,
-  field-judged,
-  field-fix,
-  field-none,
-  field-fine,
-  field-eights,
-  field-kid,
-}
+use Rattle.checking.proofs.Loops.{fields, faultIn, Slots, At, loop-start, loop-bit, loop-slot, loop-pass, loop-wrong}
+use Rattle.checking.proofs.Values.{Fields, as-type}
 
--- ---- a field that a loop has come to
+-- ---- size and bitmap
 
-pub record Reached (s : List ℕ) (first d n : ℕ) (b : List ℕ) (at i : ℕ) : Type 0 where
-  pub fields : Fields s first n d b
-  pub bytes : Bytes b
-  pub type : at ≡ fieldAt s first d i
-  pub less : i < n
+pub struct-asks : {t : List ℕ} {first n d : ℕ} {b : List ℕ} → Fields t first n d b → n < 2 ^ 32
+struct-asks f = omega (arith, f .high)
 
-module _ {s : List ℕ} {first d n : ℕ} {b : List ℕ} {at i : ℕ} (r : Reached s first d n b at i) where
+pub struct-mul : {t : List ℕ} {first n d : ℕ} {b : List ℕ} → Fields t first n d b → Fits w64 (8 * n)
+struct-mul f = omega (arith, f .high)
+
+module _ {t : List ℕ} {first n d : ℕ} {b : List ℕ} (f : Fields t first n d b) {slots : ℕ} (es : slots ≡ bitmap n) where
+  abbrev all : Tys
+  all = typesOf t first d n
+
+  kids-n : length (kids all) ≡ n
+  kids-n = kids-count all ∙ typed-count (schemaOf t) (posOf t first) d n (f .typed)
+
+  pub struct-end : Fits w64 (slots + 8 * n)
+  struct-end = omega (arith, f .high)
+
+  pub fields-odd : (length b % 8 ≡ 0 → ⊥) → 1 ≡ faultOf (ro all) b
+  fields-odd h = sym (struct-odd all n b kids-n h)
+
+  module _ (e8 : length b % 8 ≡ 0) where
+    pub fields-short : length b < slots + 8 * n → 1 ≡ faultOf (ro all) b
+    fields-short h = sym (struct-short all n b kids-n e8 (omega arith))
+
+    module _ (room : slots + 8 * n ≤ length b) where
+      pub fields-map : Bytes b → MapRoom b n slots
+      fields-map hb = record { small = f .small; bytes = hb; low = omega arith; high = omega arith; few = omega (arith, f .high) }
+
+      pub fields-from : FieldsFrom t first d n b
+      fields-from = record { table = f .table; typed = f .typed; high = f .high; slots = record { small = f .small; room = omega arith } }
+
+      from : slots - bitmap n ≡ 0
+      from = omega arith
+
+      module _ {p : Bool} (ep : p ≡ ltb (num (part b (slots - bitmap n) (bitmap n))) (2 ^ n)) where
+        past : p ≡ ltb (num (part b 0 (bitmap n))) (2 ^ n)
+        past = ep ∙ ap (λ (j : ℕ). ltb (num (part b j (bitmap n))) (2 ^ n)) from
+
+        pub fields-bits : not p ≡ true → {y : ℕ} → y ≡ slots - bitmap n + pastByte n (part b (slots - bitmap n) (bitmap n)) → y + 2 ≡ faultOf (ro all) b
+        fields-bits e {y} ey =
+            let q : y ≡ 0 + pastByte n (part b 0 (bitmap n)) = rw from at ey in
+            let g : y + 2 ≡ suc (suc (0 + pastByte n (part b 0 (bitmap n)))) = omega arith in
+            g ∙ sym (struct-past all n b kids-n e8 (omega arith) (failed past e))
+
+        pub fields-whole : not p ≡ false → {y : ℕ} → y ≡ faultIn (fields all) b → y ≡ faultOf (ro all) b
+        fields-whole e ey = ey ∙ sym (struct-good all n b kids-n e8 (omega arith) (passed past e))
+
+-- ---- the loop
+
+-- before field i: the entry of its type stands at the place c
+pub record FieldAt (t : List ℕ) (first d n : ℕ) (b : List ℕ) (slots start c i slot cur stop done since : ℕ) : Type 0 where
+  pub given : FieldsFrom t first d n b
+  pub type : posOf t c ≡ fieldAt (schemaOf t) (posOf t first) d i
+  pub state : At (fields (typesOf t first d n)) b n slots start i slot cur stop done since
+
+module _ {t : List ℕ} {first d n : ℕ} {b : List ℕ} (f : FieldsFrom t first d n b) where
+  -- the positions of the loop
+  pub fields-asks : n < 2 ^ 32
+  fields-asks = omega (arith, f .high)
+
+  pub fields-mul : Fits w64 (8 * n)
+  fields-mul = omega (arith, f .high)
+
+  module _ {r : ℕ} (e : r ≡ bitmap n) where
+    pub fields-first : Fits w64 (r + 8 * n)
+    fields-first = omega (arith, f .high)
+
+    pub fields-start : Bytes b → FieldAt t first d n b r (r + 8 * n) first 0 r (r + 8 * n) n 0 0
+    fields-start hb = record {
+      given = f;
+      type = sym (field-here (schemaOf t) (posOf t first) d 0 refl);
+      state = loop-start (record {
+        right = typed-count (schemaOf t) (posOf t first) d n (f .typed);
+        map = omega arith;
+        data₀ = refl;
+        room = omega (arith, f .slots .room);
+        small = f .slots .small;
+        bytes = hb;
+      });
+    }
+
+module _ {t : List ℕ} {first d n : ℕ} {b : List ℕ} {slots start c i slot cur stop done since : ℕ}
+    (a : FieldAt t first d n b slots start c i slot cur stop done since) where
+  -- the cursor moves
+  pub field-moves : {cur′ stop′ done′ since′ : ℕ} → At (fields (typesOf t first d n)) b n slots start i slot cur′ stop′ done′ since′
+      → FieldAt t first d n b slots start c i slot cur′ stop′ done′ since′
+  field-moves s = record { given = a .given; type = a .type; state = s }
+
+  module _ (l : i < stop) where
+    law : FieldLaw (schemaOf t) i (posOf t first) d n
+    law = field-typed (schemaOf t) i (posOf t first) d n (a .given .typed) (omega (arith, a .state .within))
+
+    -- where its entry is looked up
+    pub field-stands : Stands t c d
+    field-stands = record {
+      table = a .given .table;
+      typed = subst (λ (x : ℕ). Typed (schemaOf t) x d) (sym (a .type)) (law .typed);
+    }
+
+    type-is : typeOf t c d ≡ field (typesOf t first d n) i
+    type-is = ap (λ (x : ℕ). typeAt (schemaOf t) x d) (a .type) ∙ law .same
+
+-- the field's entry is w, and its kind k
+pub record Reached {t : List ℕ} {first d n : ℕ} {b : List ℕ} {slots start c i slot cur stop done since : ℕ}
+    (a : FieldAt t first d n b slots start c i slot cur stop done since) (w k : ℕ) : Type 0 where
+  pub less : i < stop
+  pub entry : EntryAt t c d w
+  pub kind : k ≡ placeIn w
+
+module _ {t : List ℕ} {first d n : ℕ} {b : List ℕ} {slots start c i slot cur stop done since : ℕ}
+    {a : FieldAt t first d n b slots start c i slot cur stop done since} {w k : ℕ} (r : Reached a w k) where
   abbrev ts : Tys
-  ts = typesAt s first d n
+  ts = typesOf t first d n
 
-  pub reached-typed : Typed s at d
-  reached-typed = field-here s first n d b (r .fields) (r .bytes) at i (r .type) (r .less)
+  abbrev own : Ty
+  own = field ts i
 
-  pub reached-marked : Marked s at
-  reached-marked = field-marked s first n d b (r .fields) (r .bytes) at i (r .type) (r .less)
+  stands : Stands t c d
+  stands = field-stands a (r .less)
 
-  next-type : {x : ℕ} → x ≡ nextAt s at d → x ≡ fieldAt s first d (i + 1)
-  next-type e = field-on s first n d b (r .fields) (r .bytes) at i (r .type) (r .less) _ e
+  same : typeOf t c d ≡ own
+  same = type-is a (r .less)
 
-  -- a container is judged by its type
-  pub reached-fault : (p : List ℕ) {r : ℕ} → r ≡ faultOf (typeAt s at d) p → r ≡ faultOf (field ts i) p
-  reached-fault p e = as-type _ _ _ _ (sym (field-type s first n d b (r .fields) (r .bytes) at i (r .type) (r .less))) e
+  kind-is : k ≡ place own
+  kind-is = r .kind ∙ r .entry .place ∙ typed-place (schemaOf t) (posOf t c) d (stands .typed) ∙ ap place same
 
-  module _ {k : ℕ} (ek : k ≡ placeAt s at) where
-    pub reached-kid : 7 ≤ k → kidAt (kids ts) i ≡ outside (codec (field ts i))
-    reached-kid lo = field-kid s first n d b (r .fields) (r .bytes) at i (r .type) (r .less) k ek lo
+  pub reached-vary : 7 ≤ k → varies own ≡ true
+  reached-vary lo = kind-varies own (omega (arith, kind-is))
 
-    pub reached-varies : 7 ≤ k → codec (field ts i) .wide ≡ none
-    reached-varies lo = field-none s first n d b (r .fields) (r .bytes) at i (r .type) (r .less) k ek lo
+  -- a string has no fault whatever it is
+  pub reached-text : 7 ≤ k → k < 9 → (u : List ℕ) → faultOf own u ≡ 0
+  unfolding faultOf codec
+  reached-text lo hi u = ap (λ (x : Ty). faultOf x u) (text-of own k kind-is lo hi) ∙ text-fine u
 
-    pub reached-text : 7 ≤ k → k < 9 → (p : List ℕ) → faultOf (field ts i) p ≡ 0
-    reached-text lo hi p = field-fine s first n d b (r .fields) (r .bytes) at i (r .type) (r .less) k ek lo hi p
+  -- a container that has none is a multiple of 8 in size, and is judged by its type
+  module _ (lo : 9 ≤ k) where
+    pub reached-eights : Eights own
+    reached-eights = container-eights own k (holding-of own k kind-is lo)
 
-    pub reached-eights : 9 ≤ k → Eights (field ts i)
-    reached-eights lo = field-eights s first n d b (r .fields) (r .bytes) at i (r .type) (r .less) k ek lo
+    pub reached-part : {p : List ℕ} → length p ≤ 16384 → Container t c d w p
+    reached-part small = record { stands = stands; entry = r .entry; holds = omega (arith, r .kind); small = small }
 
-    pub reached-part : 9 ≤ k → {p : List ℕ} → length p ≤ 16384 → Container s at d k p
-    reached-part lo small = record { typed = reached-typed; place = ek; holds = lo; small = small }
-
-    module _ (h : k < 7) {slots start slot : ℕ} (z : Slots 0 (kids ts) b n slots start) (es : slot ≡ slots + 8 * i) where
-      judged : (rs : List Range) → faultFrom 0 8 (kids ts) b i rs ≡ fieldThen (fixedAt k) b i slot (faultFrom 0 8 (kids ts) b (i + 1) rs)
-      judged rs = field-judged s first n d b (r .fields) (r .bytes) at i (r .type) (r .less) k ek slots start slot z es rs h
-
-      judged-good : fieldGood (fixedAt k) b i slot ≡ true → (rs : List Range) → faultFrom 0 8 (kids ts) b i rs ≡ faultFrom 0 8 (kids ts) b (i + 1) rs
-      judged-good g rs = judged rs ∙ field-passes (fixedAt k) b i slot _ g
-
-      judged-bad : fieldGood (fixedAt k) b i slot ≡ false → (rs : List Range) → faultFrom 0 8 (kids ts) b i rs ≡ fieldThen (fixedAt k) b i slot 0
-      judged-bad g rs = judged rs ∙ field-hides (fixedAt k) b i slot _ g
-
-      past-leaf : at + 2 ≡ fieldAt s first d (i + 1)
-      past-leaf = next-type (leaf-next s at d k reached-typed ek (omega arith))
-
-      good-known : {known : ℕ} → Known 0 (field ts) b n known → i < known → fieldGood (fixedAt k) b i slot ≡ true
-      good-known {known} j g =
-          known-good (field ts) b n i known j g (fixedAt k) (field-fix s first n d b (r .fields) (r .bytes) at i (r .type) (r .less) k ek h) slot
-          (omega (arith, z .map))
-
-      known-leaf : Known 0 (field ts) b n i → fieldGood (fixedAt k) b i slot ≡ true → Known 0 (field ts) b n (i + 1)
-      known-leaf j g =
-          known-fixed 0 (field ts) b n i j (fixedAt k) (field-fix s first n d b (r .fields) (r .bytes) at i (r .type) (r .less) k ek h) slot
-          (omega (arith, z .map)) g
-
--- ---- in field order
-
--- before field i: where its type stands, and what is left
-pub record FieldAt (s : List ℕ) (first d n : ℕ) (b : List ℕ) (slots start at i slot cur : ℕ) : Type 0 where
-  pub fields : Fields s first n d b
-  pub type : at ≡ fieldAt s first d i
-  pub fixed : Slots 0 (kids (typesAt s first d n)) b n slots start
-  pub state : At 0 (kids (typesAt s first d n)) b n slots start i slot cur
-  pub known : Known 0 (field (typesAt s first d n)) b n i
-  pub whole : faultFrom 0 8 (kids (typesAt s first d n)) b 0 [] ≡ faultOf (ro (typesAt s first d n)) b
-
-pub order-fields : {s : List ℕ} {first n d : ℕ} {b : List ℕ} {r : ℕ} → Fields s first n d b → Bytes b → r ≡ bitmap n → length b % 8 ≡ 0
-    → r + 8 * n ≤ length b → {p : Bool} → p ≡ ltb (num (part b (r - bitmap n) (bitmap n))) (2 ^ n) → not p ≡ false
-    → FieldAt s first d n b r (r + 8 * n) first 0 r (r + 8 * n)
-order-fields {s} {first} {n} {d} {b} {r} f hb e e8 room ep q =
-    let z = fields-slots s first n d b f hb e room in
-    let o = order-start {F = field (typesAt s first d n)} z in
-    record {
-      fields = f;
-      type = sym (field-first s first d);
-      fixed = z;
-      state = o .state;
-      known = o .known;
-      whole = fields-good s first n d b f hb e room ep e8 q;
-    }
-
-module _ {s : List ℕ} {first d n : ℕ} {b : List ℕ} {slots start at i slot cur : ℕ} (a : FieldAt s first d n b slots start at i slot cur) where
-  pub in-order : AtCursor 0 (field (typesAt s first d n)) (kids (typesAt s first d n)) b n slots start i slot cur
-  in-order = record { fixed = a .fixed; state = a .state; known = a .known }
-
-  -- what the loop in any order is told
-  pub order-known : FieldsKnown s first n d b i
-  order-known = record { room = omega (arith, a .fixed .map, a .fixed .data₀, a .fixed .room); known = a .known }
-
-  module _ (l : i < n) where
-    pub order-reached : Reached s first d n b at i
-    order-reached = record { fields = a .fields; bytes = a .fixed .bytes; type = a .type; less = l }
-
-    -- the next field
-    pub order-field : {x cur′ : ℕ} → x ≡ nextAt s at d
-        → AtCursor 0 (field (typesAt s first d n)) (kids (typesAt s first d n)) b n slots start (i + 1) (slot + 8) cur′
-        → FieldAt s first d n b slots start x (i + 1) (slot + 8) cur′
-    order-field e o = record {
-      fields = a .fields;
-      type = next-type order-reached e;
-      fixed = o .fixed;
-      state = o .state;
-      known = o .known;
-      whole = a .whole;
-    }
-
-    -- a field of a fixed width
-    module _ {k : ℕ} (ek : k ≡ placeAt s at) (h : k < 7) where
-      pub order-leaf-room : FieldRoom b i slot k
-      order-leaf-room = record { small = a .fields .small; fixed = h; bit-room = order-bit in-order l; slot-room = order-slot in-order l }
-
-      module _ {v : Bool} (e : v ≡ fieldGood (fixedAt k) b i slot) where
-        pub order-leaf-wrong : not v ≡ true → {y : ℕ} → y ≡ fieldThen (fixedAt k) b i slot 0 → y ≡ faultFrom 0 8 (kids (typesAt s first d n)) b 0 []
-        order-leaf-wrong q ey =
-            ey ∙ at-wrong 0 (kids (typesAt s first d n)) b n slots start (a .fixed) i slot cur (a .state) l _
-            (judged-bad order-reached ek h (a .fixed) (a .state .slot-is) (failed e q) (a .state .ranges))
-
-        pub order-leaf : not v ≡ false → FieldAt s first d n b slots start (at + 2) (i + 1) (slot + 8) cur
-        order-leaf q = record {
-          fields = a .fields;
-          type = past-leaf order-reached ek h (a .fixed) (a .state .slot-is);
-          fixed = a .fixed;
-          state =
-              at-same 0 (kids (typesAt s first d n)) b n slots start (a .fixed) i slot cur (a .state) l
-              (judged-good order-reached ek h (a .fixed) (a .state .slot-is) (passed e q) (a .state .ranges));
-          known = known-leaf order-reached ek h (a .fixed) (a .state .slot-is) (a .known) (passed e q);
-          whole = a .whole;
-        }
-
--- ---- in any order
-
--- before field i; the fields before number known were judged before
-pub record AnyField (s : List ℕ) (first d n : ℕ) (b : List ℕ) (known slots start at i slot sum : ℕ) (m : List ℕ) : Type 0 where
-  pub fields : Fields s first n d b
-  pub type : at ≡ fieldAt s first d i
-  pub state : AnyAt 0 (field (typesAt s first d n)) (kids (typesAt s first d n)) b n known slots start i slot sum m
-
-pub any-fields : {s : List ℕ} {first n d : ℕ} {b : List ℕ} {known r : ℕ} → Fields s first n d b → FieldsKnown s first n d b known → Bytes b
-    → r ≡ bitmap n → AnyField s first d n b known r (r + 8 * n) first 0 r (r + 8 * n) (zeros 792)
-any-fields {s} {first} {n} {d} {b} {known} {r} f k hb e = record {
-  fields = f;
-  type = sym (field-first s first d);
-  state = any-start (fields-slots s first n d b f hb e (omega (arith, k .room))) (k .known);
-}
-
-module _ {s : List ℕ} {first d n : ℕ} {b : List ℕ} {known slots start at i slot sum : ℕ} {m : List ℕ}
-    (a : AnyField s first d n b known slots start at i slot sum m) (l : i < n) where
-  pub any-reached : Reached s first d n b at i
-  any-reached = record { fields = a .fields; bytes = a .state .fixed .bytes; type = a .type; less = l }
+  pub reached-fault : (p : List ℕ) {y : ℕ} → y ≡ faultOf (typeOf t c d) p → y ≡ faultOf own p
+  reached-fault p e = as-type _ _ p _ (sym same) e
 
   -- the next field
-  pub any-field : {x sum′ : ℕ} {m′ : List ℕ} → x ≡ nextAt s at d
-      → AnyAt 0 (field (typesAt s first d n)) (kids (typesAt s first d n)) b n known slots start (i + 1) (slot + 8) sum′ m′
-      → AnyField s first d n b known slots start x (i + 1) (slot + 8) sum′ m′
-  any-field e u = record { fields = a .fields; type = next-type any-reached e; state = u }
+  pub reached-next : {c′ cur′ : ℕ} → c′ ≡ afterIn w → At (fields ts) b n slots start (i + 1) (slot + 8) cur′ stop done since
+      → FieldAt t first d n b slots start c′ (i + 1) (slot + 8) cur′ stop done since
+  reached-next e s = record {
+    given = a .given;
+    type =
+        ap (posOf t) e ∙ r .entry .next ∙ ap (λ (x : ℕ). nextAt (schemaOf t) x d) (a .type) ∙ field-next (schemaOf t) d i (posOf t first)
+        ∙ ap (fieldAt (schemaOf t) (posOf t first) d) (sym (add-one i));
+    state = s;
+  }
 
   -- a field of a fixed width
-  module _ {k : ℕ} (ek : k ≡ placeAt s at) (h : k < 7) where
-    pub any-leaf-room : FieldRoom b i slot k
-    any-leaf-room = record { small = a .fields .small; fixed = h; bit-room = any-bit (a .state) l; slot-room = any-slot (a .state) l }
+  module _ (h : k < 7) where
+    abbrev leaf : ℕ
+    leaf = width (fixedAt (placeIn w))
 
-    past : fieldGood (fixedAt k) b i slot ≡ true → AnyField s first d n b known slots start (at + 2) (i + 1) (slot + 8) sum m
-    past g = record {
-      fields = a .fields;
-      type = past-leaf any-reached ek h (a .state .fixed) (a .state .slot-is);
-      state = any-same (a .state) l (judged-good any-reached ek h (a .state .fixed) (a .state .slot-is) g (a .state .ranges));
+    pub leaf-room : FieldRoom b i slot w
+    leaf-room = record {
+      small = a .given .slots .small;
+      lined = r .entry .lined;
+      fixed = omega (arith, r .kind);
+      bit-room = loop-bit (a .state) (r .less);
+      slot-room = loop-slot (a .state) (r .less);
     }
 
-    module _ {v : Bool} (e : v ≡ fieldGood (fixedAt k) b i slot) where
-      pub any-leaf-wrong : not v ≡ true → {y : ℕ} → y ≡ fieldThen (fixedAt k) b i slot 0 → y ≡ faultFrom 0 8 (kids (typesAt s first d n)) b 0 []
-      any-leaf-wrong q ey =
-          ey ∙ any-wrong (a .state) l (judged-bad any-reached ek h (a .state .fixed) (a .state .slot-is) (failed e q) (a .state .ranges))
+    kids-n′ : length (kids ts) ≡ n
+    kids-n′ = kids-count ts ∙ a .state .fixed .right
 
-      pub any-leaf : not v ≡ false → AnyField s first d n b known slots start (at + 2) (i + 1) (slot + 8) sum m
-      any-leaf q = past (passed e q)
+    is-inside : kidAt (kids ts) i ≡ inside 8 leaf (number leaf (limit (fixedAt (placeIn w))))
+    unfolding codec kidOf number
+    is-inside =
+        kids-at ts i (omega (arith, kids-n′, r .less, a .state .within))
+        ∙ ap (λ (x : Ty). kid 8 (codec x)) (fixed-of own (placeIn w) (sym (r .kind) ∙ kind-is) (omega (arith, r .kind)))
 
-    pub any-leaf-known : i < known → AnyField s first d n b known slots start (at + 2) (i + 1) (slot + 8) sum m
-    any-leaf-known g = past (good-known any-reached ek h (a .state .fixed) (a .state .slot-is) (a .state .judged) g)
+    judged : (rs : List Range) → faultFrom 0 8 (kids ts) b i rs ≡ fieldThen (fixedAt (placeIn w)) b i slot (faultFrom 0 8 (kids ts) b (i + 1) rs)
+    unfolding fieldThen
+    judged rs = go (bit b 0 i) refl
+      where
+        z : Slots (fields ts) b n slots start
+        z = a .state .fixed
+
+        fits : front 0 8 (length (kids ts)) ≤ length b
+        fits = rw kids-n′ (omega (arith, z .map, z .data₀, z .room))
+
+        p : 0 + bitmap (length (kids ts)) + i * 8 ≡ slot
+        p = rw kids-n′ (omega (arith, z .map, a .state .slot-is))
+
+        less : i < length (kids ts)
+        less = omega (arith, kids-n′, r .less, a .state .within)
+
+        later : ℕ
+        later = faultFrom 0 8 (kids ts) b (i + 1) rs
+
+        go : (v : Bool) → bit b 0 i ≡ v → faultFrom 0 8 (kids ts) b i rs ≡ cond v later
+            (inChild slot slot (code (number leaf (limit (fixedAt (placeIn w))) .get (part b slot leaf))) (zerosThen b (slot + leaf) (slot + 8) later))
+        go true e = good-null 0 8 (kids ts) b fits (z .bytes) i less rs e
+        go false e =
+            good-inside 0 8 (kids ts) b fits (z .bytes) i less rs leaf (number leaf (limit (fixedAt (placeIn w)))) is-inside
+            (width-8 (fixedAt (placeIn w))) e
+            ∙ rw p
+
+    module _ {v : Bool} (e : v ≡ fieldGood (fixedAt (placeIn w)) b i slot) where
+      pub leaf-wrong : not v ≡ true → {y : ℕ} → y ≡ fieldThen (fixedAt (placeIn w)) b i slot 0 → y ≡ faultIn (fields ts) b
+      leaf-wrong q ey =
+          ey ∙ loop-wrong (a .state) (r .less) (λ rs. judged rs ∙ field-hides (fixedAt (placeIn w)) b i slot _ (failed e q))
+
+      pub leaf-good : not v ≡ false → {c′ : ℕ} → c′ ≡ afterIn w
+          → FieldAt t first d n b slots start c′ (i + 1) (slot + 8) cur stop done since
+      leaf-good q ec =
+          reached-next ec (loop-pass (a .state) (r .less) (λ vary _. clash vary (kind-fixed own (omega (arith, kind-is))))
+          (λ rs. judged rs ∙ field-passes (fixedAt (placeIn w)) b i slot _ (passed e q)))

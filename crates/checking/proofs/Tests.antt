@@ -28,6 +28,9 @@ passed e q = sym e ∙ not-false _ q
 pub failed : {r t : Bool} → r ≡ t → not r ≡ true → t ≡ false
 failed e q = sym e ∙ not-true _ q
 
+pub clash : {t : Bool} → t ≡ true → t ≡ false → ⊥
+clash e q = let z : _≡_ {A = ℕ} 0 1 = cc in omega arith
+
 -- ---- assertions and cuts
 
 code-test : {P A : Type 0} (p : Place) (d : Dec P) (t : Bool) (m : Read A) → (P → t ≡ true) → (¬ P → t ≡ false)
@@ -184,18 +187,11 @@ module _ {b : List ℕ} {n slots : ℕ} (r : MapRoom b n slots) where
 
 -- ---- the measure of a call is below that of the caller, d deep
 
--- a value's, from a loop over children in any order and from one in field order
-pub falls-any : (d : ℕ) {m : ℕ} → d * 8 + 1 ≡ m → d * 8 < m
-falls-any d e = omega arith
-
+-- a value's from the loop over its container's children
 pub falls-order : (d : ℕ) {m : ℕ} → d * 8 + 2 ≡ m → d * 8 < m
 falls-order d e = omega arith
 
--- the loop's in any order, from the one in field order
-pub falls-aside : (d : ℕ) {m : ℕ} → d * 8 + 2 ≡ m → d * 8 + 1 < m
-falls-aside d e = omega arith
-
--- the loop's in field order from a list, and a list's from a map
+-- the loop's from a list or a struct, and a list's from a map
 pub falls-list : (d : ℕ) {m : ℕ} → d * 8 + 3 ≡ m → d * 8 + 2 < m
 falls-list d e = omega arith
 

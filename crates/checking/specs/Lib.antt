@@ -1,4 +1,3 @@
 -- What the contracts of `checking` cite.
 pub mod Sound
-pub mod Maps
 pub mod Room

@@ -1,24 +1,27 @@
-// Checking a row against the layout: a cycle over value, struct, list and map, with remaining depth falling along the calls, and
-// loops over the children. Each answers a number: 0 where there is no fault, 1 for one in the value's slot, i + 2 for one at the
-// value's byte i. The exact byte is looked for only where there is a fault. The size of a sound container is a multiple of 8: there is
-// no padding to look at behind it.
+// Checking a row against the layout by its schema's table: a cycle over value, struct, list and map, with remaining depth falling along
+// the calls, and loops over the children. Each answers a number: 0 where there is no fault, 1 for one in the value's slot, i + 2 for one
+// at the value's byte i. The exact byte is looked for only where there is a fault. The size of a sound container is a multiple of 8: there
+// is no padding to look at behind it.
+//
+// Values may stand in any order, and mostly stand in the order of their slots. A loop over children holds its cursor where the next value
+// in order would stand. Where a slot says another place, the cursor moves there, and at the first such move the slots are asked, once,
+// which child is the first that can't stand where its slot says: the loop stops before that one.
 ghost use mathlib.Core.Path.{_≡_};
-ghost use mathlib.Core.Bool.{false};
+ghost use mathlib.Core.Bool.{true, false};
 ghost use mathlib.Core.List.{[]};
-ghost use Prim.Native.Nat.{_+_, _*_, _-_, _≤_, _<_};
+ghost use Prim.Native.Nat.{_+_, _≤_, _<_};
 ghost use lib.ListN.{length};
 ghost use Rattle.schema.specs.Types.{ro, li, ma, fixedAt};
-ghost use Rattle.schema.specs.Walk.{typeAt, typesAt};
-ghost use Rattle.layout.specs.Layout.{kids, faultAt};
-ghost use Rattle.checking.specs.Sound.{faultOf, inChild, faultFrom, checkedMeans};
-ghost use Rattle.checking.specs.Room.{FieldRoom, fieldGood, fieldThen, Holding, Container, Items, StructItems};
-ghost use Rattle.checking.specs.Room.{Pair, Fields, elements, Known, FieldsKnown};
-ghost use Rattle.schema.specs.Reading.{judged};
 ghost use Rattle.schema.specs.Walk.{fieldsOf};
-ghost use Rattle.schema.specs.declared.Judged.the-variants.{Accepted};
+ghost use Rattle.layout.specs.Layout.{kids, faultAt};
+ghost use Rattle.table.specs.Words.{placeIn};
+ghost use Rattle.table.specs.Tables.{Table, schemaOf};
+ghost use Rattle.standing.specs.Standing.{FieldsFrom};
+ghost use Rattle.checking.specs.Sound.{faultOf, inChild, faultFrom, checkedMeans};
+ghost use Rattle.checking.specs.Room.{FieldRoom, fieldGood, fieldThen, Holding, Container, Items, Pair};
+ghost use Rattle.checking.specs.Room.{typeOf, typesOf, elements, Asked, Unfit, variesIn};
 
 pub mod lists;
-pub mod maps;
 
 // What checking a row comes to: the place of the first fault counts from the row's first byte.
 pub enum Checked {
@@ -37,61 +40,88 @@ fn in_child(r: usize, slot: usize, cur: usize) -> usize
     cur + r
 }
 
-// A field of a fixed width in its slot of 8 bytes. An int64 and a float64 fill it, whatever they are: there is no look at them.
-fn check_field(b: &[u8], i: usize, slot: usize, k: usize) -> bool
-    requires { ⌜ FieldRoom (now b) i slot k ⌝ }
-    ensures { λ r. ⌜ r ≡ fieldGood (fixedAt k) (now (b .entry)) i slot ⌝ }
+// A field of a fixed width in its slot of 8 bytes: no bit is set above its highest. An int64 and a float64 fill the slot, whatever they
+// are: there is no look at them.
+fn check_field(b: &[u8], i: usize, slot: usize, w: u64) -> bool
+    requires { ⌜ FieldRoom (now b) i slot w ⌝ }
+    ensures { λ r. ⌜ r ≡ fieldGood (fixedAt (placeIn w)) (now (b .entry)) i slot ⌝ }
 {
-    if k == 4 {
-        return true;
-    }
-    if k == 6 {
+    let top = table::top(w);
+    if top == 63 {
         return true;
     }
     if words::nulls::is_null(b, 0, i) {
         return true;
     }
-    let x = words::nums::get8(b, slot);
-    if k == 0 {
-        return x < 2;
-    }
-    x >> (8 * schema::width_of(k)) == 0
+    words::nums::get8(b, slot) >> 1 >> top == 0
 }
 
 // The first wrong byte of a field that is not good.
-fn field_fault(b: &[u8], i: usize, slot: usize, k: usize) -> usize
-    requires { ⌜ FieldRoom (now b) i slot k ⌝ }
-    requires { ⌜ fieldGood (fixedAt k) (now b) i slot ≡ false ⌝ }
-    ensures { λ r. ⌜ r ≡ fieldThen (fixedAt k) (now (b .entry)) i slot 0 ⌝ }
+fn field_fault(b: &[u8], i: usize, slot: usize, w: u64) -> usize
+    requires { ⌜ FieldRoom (now b) i slot w ⌝ }
+    requires { ⌜ fieldGood (fixedAt (placeIn w)) (now b) i slot ≡ false ⌝ }
+    ensures { λ r. ⌜ r ≡ fieldThen (fixedAt (placeIn w)) (now (b .entry)) i slot 0 ⌝ }
 {
-    if k == 0 {
+    if table::place(w) == table::BOOL {
         if 1 < b[slot] {
             return slot + 2;
         }
         return words::finds::first_set(b, slot + 1, slot + 8) + 2;
     }
-    words::finds::first_set(b, slot + schema::width_of(k), slot + 8) + 2
+    words::finds::first_set(b, slot + table::width(w), slot + 8) + 2
 }
 
-// Bytes that should stand for contents of a container type, whose place in the table is k.
-fn check_value(s: &[u8], at: usize, depth: usize, k: usize, b: &[u8]) -> usize
-    requires { ⌜ Container (now s) at depth k (now b) ⌝ }
-    ensures { λ r. ⌜ r ≡ faultOf (typeAt (now (s .entry)) at depth) (now (b .entry)) ⌝ }
+// Before which of a struct's fields the values stand where their slots say: asked once, as long as nothing is done.
+fn fields_stand(
+    t: &[u64],
+    first: usize,
+    n: usize,
+    depth: usize,
+    b: &[u8],
+    stop: usize,
+    done: usize,
+) -> usize
+    requires { ⌜ FieldsFrom (now t) first depth n (now b) ⌝ }
+    ensures { λ r. ⌜ Asked (Unfit 0 (variesIn (typesOf (now (t .entry)) first depth n)) (now (b .entry)) n) stop done r ⌝ }
+{
+    if done == 0 {
+        return standing::unfit_field(t, first, n, depth, b);
+    }
+    stop
+}
+
+// Bytes that should stand for contents of a container type, whose entry is w. Of a struct, which most are, the size and the bitmap, then
+// the fields.
+fn check_value(t: &[u64], c: usize, depth: usize, w: u64, b: &[u8]) -> usize
+    requires { ⌜ Container (now t) c depth w (now b) ⌝ }
+    ensures { λ r. ⌜ r ≡ faultOf (typeOf (now (t .entry)) c depth) (now (b .entry)) ⌝ }
 {
     let d = depth - 1;
-    if k == 9 {
-        return check_list(s, at + 2, d, b);
+    let k = table::place(w);
+    if k == table::LIST {
+        return check_list(t, c + 1, d, b);
     }
-    if k == 10 {
-        return check_map(s, at + 2, schema::next(s, at + 2, d), d, b);
+    if k == table::MAP {
+        return check_map(t, c + 1, table::after(table::entry_at(t, c + 1, d)), d, b);
     }
-    check_struct(s, at + 3, schema::wide(s[at + 2]), d, b)
+    let n = table::count(w);
+    let slots = words::sizes::bitmap_size(n);
+    if b.len() % 8 != 0 {
+        return 1;
+    }
+    if b.len() < slots + 8 * n {
+        return 1;
+    }
+    if !words::nulls::past_clear(b, n, slots) {
+        return words::finds::past_byte(b, n, slots) + 2;
+    }
+    check_fields(t, c + 1, n, d, b)
 }
 
-// A list of the type at a position: its size, header and bitmap, then its elements by their kind. Numbers need no look.
-fn check_list(s: &[u8], at: usize, depth: usize, b: &[u8]) -> usize
-    requires { ⌜ Holding (now s) at depth (now b) ⌝ }
-    ensures { λ r. ⌜ r ≡ faultOf (li (typeAt (now (s .entry)) at depth)) (now (b .entry)) ⌝ }
+// A list of the type at a place: its size, header and bitmap, then its elements by their kind.
+fn check_list(t: &[u64], c: usize, depth: usize, b: &[u8]) -> usize
+    requires { ⌜ Holding (now t) c depth (now b) ⌝ }
+    ensures { λ r. ⌜ r ≡ faultOf (li (typeOf (now (t .entry)) c depth)) (now (b .entry)) ⌝ }
 {
     if b.len() % 8 != 0 {
         return 1;
@@ -103,10 +133,9 @@ fn check_list(s: &[u8], at: usize, depth: usize, b: &[u8]) -> usize
     if b.len() < n {
         return 2;
     }
-    let k = schema::marks::place_at(s, at);
-    let w = schema::element_width(k);
+    let w = table::entry_at(t, c, depth);
     let slots = 8 + words::sizes::bitmap_size(n);
-    let end = slots + n * w;
+    let end = slots + n * table::element_width(w);
     let start = words::sizes::pad_size(end);
     if b.len() < start {
         return 2;
@@ -114,55 +143,51 @@ fn check_list(s: &[u8], at: usize, depth: usize, b: &[u8]) -> usize
     if !words::nulls::past_clear(b, n, slots) {
         return words::finds::past_byte(b, n, slots) + 2;
     }
-    if k == 0 {
+    let k = table::place(w);
+    if k == table::BOOL {
         return lists::check_bools(b, n, slots, start);
     }
-    if k < 7 {
-        if !words::sizes::pad_clear(b, end, start) {
-            return words::finds::first_set(b, end, start) + 2;
-        }
-        if start != b.len() {
-            return 1;
-        }
-        return 0;
+    if k < table::STRING {
+        return lists::check_end(b, end, start);
     }
-    if k < 9 {
+    if k < table::LIST {
         return lists::check_texts(b, n, slots, start);
     }
-    if k == 11 {
-        return check_structs(s, at, schema::wide(s[at + 2]), depth, b, n);
-    }
-    check_items(s, at, depth, k, b, n)
+    check_items(t, c, depth, w, b, n)
 }
 
-// Elements that are structs of the type at a position: they have a loop of their own, with one call an element.
-fn check_structs(s: &[u8], at: usize, fields: usize, depth: usize, b: &[u8], n: usize) -> usize
-    requires { ⌜ StructItems (now s) at fields depth (now b) n ⌝ }
-    ensures { λ r. ⌜ r ≡ faultFrom 8 8 (elements (typeAt (now (s .entry)) at depth) n) (now (b .entry)) 0 [] ⌝ }
+// Elements that are containers.
+fn check_items(t: &[u64], c: usize, depth: usize, w: u64, b: &[u8], n: usize) -> usize
+    requires { ⌜ Items (now t) c depth w (now b) n ⌝ }
+    ensures { λ r. ⌜ r ≡ faultFrom 8 8 (elements (typeOf (now (t .entry)) c depth) n) (now (b .entry)) 0 [] ⌝ }
 {
-    let first = at + 3;
-    let d = depth - 1;
     let slots = 8 + words::sizes::bitmap_size(n);
-    let start = slots + 8 * n;
-    let mut i: usize = 0;
     let mut slot = slots;
-    let mut cur = start;
-    while i < n {
+    let mut cur = slots + 8 * n;
+    let mut i: usize = 0;
+    let mut stop = n;
+    let mut done: usize = 0;
+    let mut since: usize = 0;
+    while i < stop {
         if words::nulls::is_null(b, 8, i) {
             slot += 8;
             i += 1;
             continue;
         }
-        let x = words::nums::get8(b, slot);
-        if words::slots::slot_offset(x) as usize != cur {
-            return any_items(s, at, depth, 11, b, n, i);
+        let from = words::nums::get4(b, slot + 4);
+        if from != cur {
+            stop = lists::items_stand(b, n, stop, done);
+            done += cur - since;
+            since = from;
+            cur = from;
+            continue;
         }
-        let end = cur + words::slots::slot_size(x) as usize;
+        let end = cur + words::nums::get4(b, slot);
         let next = words::sizes::pad_size(end);
         if b.len() < next {
             return slot + 2;
         }
-        let r = check_struct(s, first, fields, d, &b[cur..end]);
+        let r = check_value(t, c, depth, w, &b[cur..end]);
         if r != 0 {
             return in_child(r, slot, cur);
         }
@@ -170,101 +195,19 @@ fn check_structs(s: &[u8], at: usize, fields: usize, depth: usize, b: &[u8], n: 
         slot += 8;
         i += 1;
     }
-    if cur != b.len() {
-        return 1;
+    if stop < n {
+        return slot + 2;
     }
-    0
-}
-
-// Elements that are lists or maps.
-fn check_items(s: &[u8], at: usize, depth: usize, k: usize, b: &[u8], n: usize) -> usize
-    requires { ⌜ Items (now s) at depth k (now b) n ⌝ }
-    ensures { λ r. ⌜ r ≡ faultFrom 8 8 (elements (typeAt (now (s .entry)) at depth) n) (now (b .entry)) 0 [] ⌝ }
-{
-    let slots = 8 + words::sizes::bitmap_size(n);
-    let start = slots + 8 * n;
-    let mut i: usize = 0;
-    let mut slot = slots;
-    let mut cur = start;
-    while i < n {
-        if words::nulls::is_null(b, 8, i) {
-            slot += 8;
-            i += 1;
-            continue;
-        }
-        let x = words::nums::get8(b, slot);
-        if words::slots::slot_offset(x) as usize != cur {
-            return any_items(s, at, depth, k, b, n, i);
-        }
-        let end = cur + words::slots::slot_size(x) as usize;
-        let next = words::sizes::pad_size(end);
-        if b.len() < next {
-            return slot + 2;
-        }
-        let r = check_value(s, at, depth, k, &b[cur..end]);
-        if r != 0 {
-            return in_child(r, slot, cur);
-        }
-        cur = next;
-        slot += 8;
-        i += 1;
-    }
-    if cur != b.len() {
-        return 1;
-    }
-    0
-}
-
-// The elements of a list that holds containers, in any order: each apart from those before it, and no byte left over. Those before number
-// known were judged before.
-fn any_items(s: &[u8], at: usize, depth: usize, k: usize, b: &[u8], n: usize, known: usize) -> usize
-    requires { ⌜ Items (now s) at depth k (now b) n ⌝ }
-    requires { ⌜ Known 8 (λ _. typeAt (now s) at depth) (now b) n known ⌝ }
-    ensures { λ r. ⌜ r ≡ faultFrom 8 8 (elements (typeAt (now (s .entry)) at depth) n) (now (b .entry)) 0 [] ⌝ }
-{
-    let slots = 8 + words::sizes::bitmap_size(n);
-    let start = slots + 8 * n;
-    let mut map = [0u8; 792];
-    let mut i: usize = 0;
-    let mut slot = slots;
-    let mut sum = start;
-    while i < n {
-        if words::nulls::is_null(b, 8, i) {
-            slot += 8;
-            i += 1;
-            continue;
-        }
-        let x = words::nums::get8(b, slot);
-        let from = words::slots::slot_offset(x) as usize;
-        let end = from + words::slots::slot_size(x) as usize;
-        let next = words::sizes::pad_size(end);
-        if !maps::place(&mut map, start, b.len(), from, next) {
-            return slot + 2;
-        }
-        if i < known {
-            sum += next - from;
-            slot += 8;
-            i += 1;
-            continue;
-        }
-        let r = check_value(s, at, depth, k, &b[from..end]);
-        if r != 0 {
-            return in_child(r, slot, from);
-        }
-        sum += next - from;
-        slot += 8;
-        i += 1;
-    }
-    if sum != b.len() {
+    if done + (cur - since) != b.len() {
         return 1;
     }
     0
 }
 
 // A map: K, the two arrays, and equal counts.
-fn check_map(s: &[u8], k: usize, v: usize, depth: usize, b: &[u8]) -> usize
-    requires { ⌜ Pair (now s) k v depth (now b) ⌝ }
-    ensures { λ r. ⌜ r ≡ faultOf (ma (typeAt (now (s .entry)) k depth) (typeAt (now (s .entry)) v depth)) (now (b .entry)) ⌝ }
+fn check_map(t: &[u64], k: usize, v: usize, depth: usize, b: &[u8]) -> usize
+    requires { ⌜ Pair (now t) k v depth (now b) ⌝ }
+    ensures { λ r. ⌜ r ≡ faultOf (ma (typeOf (now (t .entry)) k depth) (typeOf (now (t .entry)) v depth)) (now (b .entry)) ⌝ }
 {
     if b.len() % 8 != 0 {
         return 1;
@@ -280,7 +223,7 @@ fn check_map(s: &[u8], k: usize, v: usize, depth: usize, b: &[u8]) -> usize
         return 2;
     }
     let end = 8 + size;
-    let r = check_list(s, k, depth, &b[8..end]);
+    let r = check_list(t, k, depth, &b[8..end]);
     if r != 0 {
         return in_child(r, 8, 8);
     }
@@ -290,162 +233,92 @@ fn check_map(s: &[u8], k: usize, v: usize, depth: usize, b: &[u8]) -> usize
     if words::nums::get8(b, 8) != words::nums::get8(b, end) {
         return end + 2;
     }
-    let q = check_list(s, v, depth, &b[end..]);
+    let q = check_list(t, v, depth, &b[end..]);
     if q != 0 {
         return in_child(q, end, end);
     }
     0
 }
 
-// A struct of n fields, whose types stand from a position on: leaves are judged in the loop, only containers by a call.
-fn check_struct(s: &[u8], first: usize, n: usize, depth: usize, b: &[u8]) -> usize
-    requires { ⌜ Fields (now s) first n depth (now b) ⌝ }
-    ensures { λ r. ⌜ r ≡ faultOf (ro (typesAt (now (s .entry)) first depth n)) (now (b .entry)) ⌝ }
+// The n fields of a struct, whose types stand from a place on: leaves are judged in the loop, only containers by a call.
+fn check_fields(t: &[u64], first: usize, n: usize, depth: usize, b: &[u8]) -> usize
+    requires { ⌜ FieldsFrom (now t) first depth n (now b) ⌝ }
+    ensures { λ r. ⌜ r ≡ faultFrom 0 8 (kids (typesOf (now (t .entry)) first depth n)) (now (b .entry)) 0 [] ⌝ }
 {
     let slots = words::sizes::bitmap_size(n);
-    let start = slots + 8 * n;
-    if b.len() % 8 != 0 {
-        return 1;
-    }
-    if b.len() < start {
-        return 1;
-    }
-    if !words::nulls::past_clear(b, n, slots) {
-        return words::finds::past_byte(b, n, slots) + 2;
-    }
-    let mut at = first;
-    let mut i: usize = 0;
     let mut slot = slots;
-    let mut cur = start;
-    while i < n {
-        let k = schema::marks::place_at(s, at);
-        if k < 7 {
-            if !check_field(b, i, slot, k) {
-                return field_fault(b, i, slot, k);
+    let mut cur = slots + 8 * n;
+    let mut c = first;
+    let mut i: usize = 0;
+    let mut stop = n;
+    let mut done: usize = 0;
+    let mut since: usize = 0;
+    while i < stop {
+        let w = table::entry_at(t, c, depth);
+        let k = table::place(w);
+        if k < table::STRING {
+            if !check_field(b, i, slot, w) {
+                return field_fault(b, i, slot, w);
             }
-            at += 2;
+            c = table::after(w);
             slot += 8;
             i += 1;
             continue;
         }
-        let here = at;
-        at = schema::next_type(s, here, depth, k);
         if words::nulls::is_null(b, 0, i) {
+            c = table::after(w);
             slot += 8;
             i += 1;
             continue;
         }
-        let x = words::nums::get8(b, slot);
-        if words::slots::slot_offset(x) as usize != cur {
-            return any_struct(s, first, n, depth, b, i);
+        let from = words::nums::get4(b, slot + 4);
+        if from != cur {
+            stop = fields_stand(t, first, n, depth, b, stop, done);
+            done += cur - since;
+            since = from;
+            cur = from;
+            continue;
         }
-        let end = cur + words::slots::slot_size(x) as usize;
+        let end = cur + words::nums::get4(b, slot);
         let next = words::sizes::pad_size(end);
         if b.len() < next {
             return slot + 2;
         }
-        if k < 9 {
+        if k < table::LIST {
             if !words::sizes::pad_clear(b, end, next) {
                 return words::finds::first_set(b, end, next) + 2;
             }
+            c = table::after(w);
             cur = next;
             slot += 8;
             i += 1;
             continue;
         }
-        let r = check_value(s, here, depth, k, &b[cur..end]);
+        let r = check_value(t, c, depth, w, &b[cur..end]);
         if r != 0 {
             return in_child(r, slot, cur);
         }
+        c = table::after(w);
         cur = next;
         slot += 8;
         i += 1;
     }
-    if cur != b.len() {
+    if stop < n {
+        return slot + 2;
+    }
+    if done + (cur - since) != b.len() {
         return 1;
     }
     0
 }
 
-// The fields of a struct, in any order, whose size and bitmap were judged before, and so were the fields before number known.
-fn any_struct(s: &[u8], first: usize, n: usize, depth: usize, b: &[u8], known: usize) -> usize
-    requires { ⌜ Fields (now s) first n depth (now b) ⌝ }
-    requires { ⌜ FieldsKnown (now s) first n depth (now b) known ⌝ }
-    ensures { λ r. ⌜ r ≡ faultFrom 0 8 (kids (typesAt (now (s .entry)) first depth n)) (now (b .entry)) 0 [] ⌝ }
+// Whether the row stands for contents of the schema whose table this is, and where it is broken if not: the root has its first byte for a
+// slot.
+pub fn check_row(t: &[u64], row: &[u8]) -> Checked
+    requires { ⌜ Table (now t) × (length (now row) ≤ 16384) ⌝ }
+    ensures { λ r. ⌜ checkedMeans r ≡ faultAt (ro (fieldsOf (schemaOf (now (t .entry))))) (now (row .entry)) ⌝ }
 {
-    let slots = words::sizes::bitmap_size(n);
-    let start = slots + 8 * n;
-    let mut map = [0u8; 792];
-    let mut at = first;
-    let mut i: usize = 0;
-    let mut slot = slots;
-    let mut sum = start;
-    while i < n {
-        let k = schema::marks::place_at(s, at);
-        if k < 7 {
-            if i < known {
-                at += 2;
-                slot += 8;
-                i += 1;
-                continue;
-            }
-            if !check_field(b, i, slot, k) {
-                return field_fault(b, i, slot, k);
-            }
-            at += 2;
-            slot += 8;
-            i += 1;
-            continue;
-        }
-        let here = at;
-        at = schema::next_type(s, here, depth, k);
-        if words::nulls::is_null(b, 0, i) {
-            slot += 8;
-            i += 1;
-            continue;
-        }
-        let x = words::nums::get8(b, slot);
-        let from = words::slots::slot_offset(x) as usize;
-        let end = from + words::slots::slot_size(x) as usize;
-        let next = words::sizes::pad_size(end);
-        if !maps::place(&mut map, start, b.len(), from, next) {
-            return slot + 2;
-        }
-        if i < known {
-            sum += next - from;
-            slot += 8;
-            i += 1;
-            continue;
-        }
-        if k < 9 {
-            if !words::sizes::pad_clear(b, end, next) {
-                return words::finds::first_set(b, end, next) + 2;
-            }
-            sum += next - from;
-            slot += 8;
-            i += 1;
-            continue;
-        }
-        let r = check_value(s, here, depth, k, &b[from..end]);
-        if r != 0 {
-            return in_child(r, slot, from);
-        }
-        sum += next - from;
-        slot += 8;
-        i += 1;
-    }
-    if sum != b.len() {
-        return 1;
-    }
-    0
-}
-
-// Whether the row stands for contents of an accepted schema, and where it is broken if not: the root has its first byte for a slot.
-pub fn check_row(schema: &[u8], row: &[u8]) -> Checked
-    requires { ⌜ (judged (now schema) ≡ Accepted) × (length (now row) ≤ 16384) ⌝ }
-    ensures { λ r. ⌜ checkedMeans r ≡ faultAt (ro (fieldsOf (now (schema .entry)))) (now (row .entry)) ⌝ }
-{
-    let r = check_struct(schema, 3, schema::wide(schema[2]), 7, row);
+    let r = check_value(t, 0, 8, table::entry_at(t, 0, 8), row);
     if r == 0 {
         return Checked::Sound;
     }

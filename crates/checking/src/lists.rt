@@ -1,13 +1,27 @@
-// Lists whose elements are leaves, each kind in a loop of its own. Each answers a number: 0 where there is no fault, 1 for one in the
-// list's slot, i + 2 for one at its byte i.
+// Lists whose elements are leaves. Each function that judges one answers a number: 0 where there is no fault, 1 for one in the list's
+// slot, i + 2 for one at its byte i.
 ghost use mathlib.Core.Path.{_≡_};
-ghost use mathlib.Core.Bool.{true};
+ghost use mathlib.Core.Bool.{true, cond};
 ghost use mathlib.Core.List.{[]};
 ghost use Prim.Native.Nat.{_+_, _*_, _/_, _≤_, _<_};
+ghost use lib.Dec.{eqb};
 ghost use lib.ListN.{length};
-ghost use Rattle.checking.specs.Sound.{faultFrom};
-ghost use Rattle.checking.specs.Room.{ListRoom, NoNulls, NoNullsIf, texts, bools, Known};
+ghost use Rattle.words.specs.Bits.{bit};
 ghost use Rattle.schema.specs.Types.{text, st};
+ghost use Rattle.standing.specs.Standing.{SlotsIn};
+ghost use Rattle.checking.specs.Sound.{faultFrom, zerosThen};
+ghost use Rattle.checking.specs.Room.{ListRoom, ListEnd, NoNullsIf, NullAsk, elements, bools, Asked, Unfit, allVary};
+
+// Before which of a list's elements the values stand where their slots say: asked once, as long as nothing is done.
+pub fn items_stand(b: &[u8], n: usize, stop: usize, done: usize) -> usize
+    requires { ⌜ SlotsIn 8 (now b) n ⌝ }
+    ensures { λ r. ⌜ Asked (Unfit 8 allVary (now (b .entry)) n) stop done r ⌝ }
+{
+    if done == 0 {
+        return standing::unfit_item(b, n);
+    }
+    stop
+}
 
 // Whether no bitmap word of n elements has a bit: one load for 64 elements.
 fn no_nulls(b: &[u8], n: usize) -> bool
@@ -24,125 +38,76 @@ fn no_nulls(b: &[u8], n: usize) -> bool
     true
 }
 
-// Strings in any order: each apart from those before it, and no byte left over. Those before number known were judged before.
-fn any_texts(b: &[u8], n: usize, slots: usize, start: usize, known: usize) -> usize
-    requires { ⌜ ListRoom (now b) 8 n slots start ⌝ }
-    requires { ⌜ Known 8 (λ _. text st) (now b) n known ⌝ }
-    ensures { λ r. ⌜ r ≡ faultFrom 8 8 (texts n) (now (b .entry)) 0 [] ⌝ }
+// Whether element i is null: no look where none is.
+fn null_at(b: &[u8], i: usize, full: bool) -> bool
+    requires { ⌜ NullAsk (now b) i full ⌝ }
+    ensures { λ r. ⌜ r ≡ bit (now (b .entry)) 8 i ⌝ }
 {
-    let mut map = [0u8; 792];
-    let mut i: usize = 0;
-    let mut slot = slots;
-    let mut sum = start;
-    while i < n {
-        if words::nulls::is_null(b, 8, i) {
-            slot += 8;
-            i += 1;
-            continue;
-        }
-        let x = words::nums::get8(b, slot);
-        let from = words::slots::slot_offset(x) as usize;
-        let end = from + words::slots::slot_size(x) as usize;
-        let next = words::sizes::pad_size(end);
-        if !crate::maps::place(&mut map, start, b.len(), from, next) {
-            return slot + 2;
-        }
-        if i < known {
-            sum += next - from;
-            slot += 8;
-            i += 1;
-            continue;
-        }
-        if !words::sizes::pad_clear(b, end, next) {
-            return words::finds::first_set(b, end, next) + 2;
-        }
-        sum += next - from;
-        slot += 8;
-        i += 1;
+    if full {
+        return false;
     }
-    if sum != b.len() {
-        return 1;
-    }
-    0
+    words::nulls::is_null(b, 8, i)
 }
 
-// Strings of which none is null.
-fn full_texts(b: &[u8], n: usize, slots: usize, start: usize) -> usize
-    requires { ⌜ ListRoom (now b) 8 n slots start ⌝ }
-    requires { ⌜ NoNulls (now b) n ⌝ }
-    ensures { λ r. ⌜ r ≡ faultFrom 8 8 (texts n) (now (b .entry)) 0 [] ⌝ }
-{
-    let mut i: usize = 0;
-    let mut slot = slots;
-    let mut cur = start;
-    while i < n {
-        let x = words::nums::get8(b, slot);
-        if words::slots::slot_offset(x) as usize != cur {
-            return any_texts(b, n, slots, start, i);
-        }
-        let end = cur + words::slots::slot_size(x) as usize;
-        let next = words::sizes::pad_size(end);
-        if b.len() < next {
-            return slot + 2;
-        }
-        if !words::sizes::pad_clear(b, end, next) {
-            return words::finds::first_set(b, end, next) + 2;
-        }
-        cur = next;
-        slot += 8;
-        i += 1;
-    }
-    if cur != b.len() {
-        return 1;
-    }
-    0
-}
-
-// Strings of which some may be null.
-fn some_texts(b: &[u8], n: usize, slots: usize, start: usize) -> usize
-    requires { ⌜ ListRoom (now b) 8 n slots start ⌝ }
-    ensures { λ r. ⌜ r ≡ faultFrom 8 8 (texts n) (now (b .entry)) 0 [] ⌝ }
-{
-    let mut i: usize = 0;
-    let mut slot = slots;
-    let mut cur = start;
-    while i < n {
-        if words::nulls::is_null(b, 8, i) {
-            slot += 8;
-            i += 1;
-            continue;
-        }
-        let x = words::nums::get8(b, slot);
-        if words::slots::slot_offset(x) as usize != cur {
-            return any_texts(b, n, slots, start, i);
-        }
-        let end = cur + words::slots::slot_size(x) as usize;
-        let next = words::sizes::pad_size(end);
-        if b.len() < next {
-            return slot + 2;
-        }
-        if !words::sizes::pad_clear(b, end, next) {
-            return words::finds::first_set(b, end, next) + 2;
-        }
-        cur = next;
-        slot += 8;
-        i += 1;
-    }
-    if cur != b.len() {
-        return 1;
-    }
-    0
-}
-
-// A list's strings: the tight loop where none is null.
+// A list's strings or binaries.
 pub fn check_texts(b: &[u8], n: usize, slots: usize, start: usize) -> usize
     requires { ⌜ ListRoom (now b) 8 n slots start ⌝ }
-    ensures { λ r. ⌜ r ≡ faultFrom 8 8 (texts n) (now (b .entry)) 0 [] ⌝ }
+    ensures { λ r. ⌜ r ≡ faultFrom 8 8 (elements (text st) n) (now (b .entry)) 0 [] ⌝ }
 {
-    if no_nulls(b, n) {
-        return full_texts(b, n, slots, start);
+    let full = no_nulls(b, n);
+    let mut slot = slots;
+    let mut cur = start;
+    let mut i: usize = 0;
+    let mut stop = n;
+    let mut done: usize = 0;
+    let mut since: usize = 0;
+    while i < stop {
+        if null_at(b, i, full) {
+            slot += 8;
+            i += 1;
+            continue;
+        }
+        let from = words::nums::get4(b, slot + 4);
+        if from != cur {
+            stop = items_stand(b, n, stop, done);
+            done += cur - since;
+            since = from;
+            cur = from;
+            continue;
+        }
+        let end = cur + words::nums::get4(b, slot);
+        let next = words::sizes::pad_size(end);
+        if b.len() < next {
+            return slot + 2;
+        }
+        if !words::sizes::pad_clear(b, end, next) {
+            return words::finds::first_set(b, end, next) + 2;
+        }
+        cur = next;
+        slot += 8;
+        i += 1;
     }
-    some_texts(b, n, slots, start)
+    if stop < n {
+        return slot + 2;
+    }
+    if done + (cur - since) != b.len() {
+        return 1;
+    }
+    0
+}
+
+// Behind a list's elements of a fixed width, which end at `end`: zeros up to `start`, and nothing after them. Numbers need no other look.
+pub fn check_end(b: &[u8], end: usize, start: usize) -> usize
+    requires { ⌜ ListEnd (now b) end start ⌝ }
+    ensures { λ r. ⌜ r ≡ zerosThen (now (b .entry)) end start (cond (eqb start (length (now (b .entry)))) 0 1) ⌝ }
+{
+    if !words::sizes::pad_clear(b, end, start) {
+        return words::finds::first_set(b, end, start) + 2;
+    }
+    if start != b.len() {
+        return 1;
+    }
+    0
 }
 
 // A list's bools: each that is not null is 0 or 1.
@@ -161,11 +126,5 @@ pub fn check_bools(b: &[u8], n: usize, slots: usize, start: usize) -> usize
         }
         i += 1;
     }
-    if !words::sizes::pad_clear(b, slots + n, start) {
-        return words::finds::first_set(b, slots + n, start) + 2;
-    }
-    if start != b.len() {
-        return 1;
-    }
-    0
+    check_end(b, slots + n, start)
 }

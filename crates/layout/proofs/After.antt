@@ -20,7 +20,8 @@ use Rattle.layout.specs.Walk.{Seat, Seen, bad, nullAt, seen, rootSeat, w
 use Rattle.layout.specs.Places.{starts}
 use Rattle.layout.specs.Reading.{Answer, typeAt, placed, answerOf, found, readIn}
 use Rattle.layout.specs.Setting as S
-use Rattle.layout.specs.Setting.{Setting, isNull, inBytes, orEmpty, textOf, writeFixed, suits, keeps, unless, _or_, refusalIn, judgeAt, write, refuses, becomes, writeAt, outcome, setIn}
+use Rattle.layout.specs.Setting.{Setting, isNull, inBytes, orEmpty, textOf, writeFixed, suits, keeps, unless, _or_, refusalIn, judgeAt, write}
+use Rattle.layout.specs.Setting.{refuses, becomes, writeAt, outcome, setIn}
 use Rattle.layout.specs.Demand.{Proper, Accepted}
 use Rattle.layout.proofs.Containers.{decode-lays, lays-decode}
 use Rattle.layout.proofs.Cells.{leaf-bytes}
@@ -91,7 +92,8 @@ written-by m T x w row e = rw e
 abbrev pub after : Tys → List ℕ → Ty → Setting → Cell → Cell
 after ts p T x c = update p (cellOf (slotAt 0 p (ro ts)) T x) c
 
-changed-at : (ts : Tys) (x : Setting) (T : Ty) (p : List ℕ) (c : Cell) (b : List ℕ) → typeAt p (ro ts) ≡ some T → Lays (ro ts) c b → length b < 2 ^ 32 → Granted x T p c
+changed-at : (ts : Tys) (x : Setting) (T : Ty) (p : List ℕ) (c : Cell) (b : List ℕ) → typeAt p (ro ts) ≡ some T → Lays (ro ts) c b → length b < 2 ^ 32
+    → Granted x T p c
     → Changed x T p (ro ts) c b (write T x (walk p (ro ts) rootSeat 0 b) b)
 changed-at ts x T [] c b e y lim g = absurd (subst Leafy (sym (type-end (ro ts) T e)) (fine-leaf (g .fine)))
 changed-at ts x T (i ∷ p) c b e y lim g = set-at x T i p (ro ts) c b e y lim g
@@ -178,14 +180,22 @@ module _ (ts : Tys) (row : List ℕ) (a : Accepted ts row) where
   written p x T b e j =
       let g = granted-by row T p (a .tree) (walk p (ro ts) rootSeat 0 row) x b (row-lands p T e) (j .present) (j .suits) (j .keeps) in
       let d = changed-at ts x T p (a .tree) row (placed-type p (ro ts) T e) row-lays row-short g in
-      record { granted = g; lays = d .lays; size = d .size; bytes = bytes-write T x (walk p (ro ts) rootSeat 0 row) row b (a .bytes); others = d .others; there = d .there }
+      record {
+        granted = g;
+        lays = d .lays;
+        size = d .size;
+        bytes = bytes-write T x (walk p (ro ts) rootSeat 0 row) row b (a .bytes);
+        others = d .others;
+        there = d .there;
+      }
 
   pub done : (p : List ℕ) (x : Setting) (row′ : List ℕ) → Proper x → setIn ts row p x ≡ becomes row′ → Done ts p x (a .tree) row row′
   unfolding setIn readIn
   done p x row′ b e =
       let o = outcome-done _ _ row′ (rw row-sound at e) in
       let f = found-by (placed p (ro ts)) (walk p (ro ts) rootSeat 0 row) x (o .0) in
-      let s : write (f .type) x (walk p (ro ts) rootSeat 0 row) row ≡ row′ = written-by (placed p (ro ts)) (f .type) x (walk p (ro ts) rootSeat 0 row) row (f .place) ∙ o .1 in
+      let s : write (f .type) x (walk p (ro ts) rootSeat 0 row) row ≡ row′ = written-by (placed p (ro ts)) (f .type) x (walk p (ro ts) rootSeat 0 row) row
+      (f .place) ∙ o .1 in
       record {
         type = f .type;
         place = f .place;

@@ -46,7 +46,8 @@ module _ (h w n : ℕ) (t : Ty) (j : ℕ) (b b′ : List ℕ) where
     pub value : num (part b h (bitmap n)) / 2 ^ j % 2 ≡ 0 → codec t .wide ≡ none
         → part b′ (num (part b p 8) / 2 ^ 32) (num (part b p 8) % 2 ^ 32) ≡ part b (num (part b p 8) / 2 ^ 32) (num (part b p 8) % 2 ^ 32)
 
-  slot-same : Agree → (s : Seat) (f o : ℕ) → Holds w (codec t .wide) → num (part b h (bitmap n)) / 2 ^ j % 2 ≡ 0 → (wd : Option ℕ) → codec t .wide ≡ wd → bySlot wd t s f o p b′ ≡ bySlot wd t s f o p b
+  slot-same : Agree → (s : Seat) (f o : ℕ) → Holds w (codec t .wide) → num (part b h (bitmap n)) / 2 ^ j % 2 ≡ 0 → (wd : Option ℕ) → codec t .wide ≡ wd
+      → bySlot wd t s f o p b′ ≡ bySlot wd t s f o p b
   unfolding bySlot
   slot-same a s f o hw z (some v) q =
       let l : v ≤ w = subst (Holds w) q hw in

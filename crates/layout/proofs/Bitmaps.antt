@@ -78,7 +78,17 @@ byte-far w cs x j h =
     let o : suc (j / 8) * 8 ≡ 8 + j / 8 * 8 = omega arith in
     record {
       here = rw (le-flags w cs, e, o, ← (drop-drop (j / 8 * 8) 8 cs)) (h .here);
-      put = rw (le-flags w (set cs (8 + j) x), le-flags w cs, take-set-le 8 cs (8 + j) x (omega arith), e, o, ← (drop-drop (j / 8 * 8) 8 (set cs (8 + j) x)), drop-set-add 8 cs j x, h .put);
+      put = rw (
+        le-flags w (set cs (8 + j) x),
+        le-flags w cs,
+        take-set-le 8 cs (8 + j) x (omega arith),
+        e,
+        o,
+        ←
+            (drop-drop (j / 8 * 8) 8 (set cs (8 + j) x)),
+        drop-set-add 8 cs j x,
+        h .put,
+      );
     }
 
 byte-step : (w : ℕ) (cs : List Cell) (x : Cell) (i : ℕ) → Dec (i < 8) → (8 ≤ i → Byte w (drop 8 cs) x (i - 8)) → Byte (suc w) cs x i
@@ -135,7 +145,8 @@ flag-digit (leaf u) = refl
 flag-digit (nodes u) = refl
 
 -- with x for child i the bitmap has that bit as x says, and is else the same
-pub bits-set : (w : ℕ) (cs : List Cell) (x : Cell) (i : ℕ) → i < length cs → length cs ≤ 8 * w → le w (flags (set cs i x)) ≡ putBit (le w (flags cs)) 0 i (nulled x)
+pub bits-set : (w : ℕ) (cs : List Cell) (x : Cell) (i : ℕ) → i < length cs → length cs ≤ 8 * w
+    → le w (flags (set cs i x)) ≡ putBit (le w (flags cs)) 0 i (nulled x)
 bits-set w cs x i h n =
     let b = byte-is w cs x i h n in
     let z : 0 + i / 8 ≡ i / 8 = omega arith in

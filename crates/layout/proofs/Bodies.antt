@@ -36,7 +36,8 @@ put-behind xs ys at i v =
 
 drop-sets : (n : ℕ) (l : List ℕ) (i : ℕ) (v : List ℕ) → drop n (sets l (n + i) v) ≡ sets (drop n l) i v
 drop-sets n l i [] = refl
-drop-sets n l i (a ∷ v) = ap (λ (k : ℕ). drop n (sets (set l (n + i) a) k v)) (sym (add-suc n i)) ∙ drop-sets n (set l (n + i) a) (suc i) v ∙ ap (λ (t : List ℕ). sets t (suc i) v) (drop-set-add n l i a)
+drop-sets n l i (a ∷ v) = ap (λ (k : ℕ). drop n (sets (set l (n + i) a) k v)) (sym (add-suc n i)) ∙ drop-sets n (set l (n + i) a) (suc i) v
+    ∙ ap (λ (t : List ℕ). sets t (suc i) v) (drop-set-add n l i a)
 
 padded-sets : (u : List ℕ) (i : ℕ) (v : List ℕ) → i + length v ≤ length u → padded (sets u i v) ≡ sets (padded u) i v
 unfolding fill
@@ -58,7 +59,8 @@ sets-third xs ys zs j v =
 
 -- ---- a value put over another of the same size, in its range
 
-module _ (c : Codec) (at : ℕ) (d : List ℕ) (before after : List Range) (x₀ : Cell) (s : List ℕ) (y : Placed (c .Lays) at d before x₀ s after) (g : Standing at (at + length d) before) where
+module _ (c : Codec) (at : ℕ) (d : List ℕ) (before after : List Range) (x₀ : Cell) (s : List ℕ) (y : Placed (c .Lays) at d before x₀ s after)
+    (g : Standing at (at + length d) before) where
   abbrev changed : List ℕ → List ℕ
   changed u = sets d (y .place - at) u
 
@@ -69,7 +71,8 @@ module _ (c : Codec) (at : ℕ) (d : List ℕ) (before after : List Range) (x₀
       let j = o - at in
       let z = zeros (pad (length (y .own)) - length (y .own)) in
       let a : drop j (changed u) ≡ u ++ (z ++ y .behind) =
-      ap (λ (k : ℕ). drop j (sets d k u)) (sym (add-zero j)) ∙ drop-sets j d 0 u ∙ ap (λ (t : List ℕ). sets t 0 u) (sym (y .there) ∙ append-assoc (y .own) z (y .behind)) ∙ sets-over (y .own) u (z ++ y .behind) n in
+      ap (λ (k : ℕ). drop j (sets d k u)) (sym (add-zero j)) ∙ drop-sets j d 0 u
+      ∙ ap (λ (t : List ℕ). sets t 0 u) (sym (y .there) ∙ append-assoc (y .own) z (y .behind)) ∙ sets-over (y .own) u (z ++ y .behind) n in
       record {
         place = o;
         own = u;
@@ -86,11 +89,13 @@ module _ (c : Codec) (at : ℕ) (d : List ℕ) (before after : List Range) (x₀
 
   module _ (u : List ℕ) (n : length u ≡ length (y .own)) where
     pub outside-kept : (q : Range) → Among q before → Kept at d (changed u) q
-    outside-kept q m = kept-apart at d own-range q (y .place - at) u (stands-within (y .stands)) (omega arith) (omega arith) (among-within m at (at + length d) g) (apart-turn own-range q (stands-apart (y .stands) g m))
+    outside-kept q m = kept-apart at d own-range q (y .place - at) u (stands-within (y .stands)) (omega arith) (omega arith)
+        (among-within m at (at + length d) g) (apart-turn own-range q (stands-apart (y .stands) g m))
 
     pub outside-safe : Safe at d (changed u) after
     outside-safe q qs i gs st =
-        kept-apart at d own-range q (y .place - at) u (stands-within (y .stands)) (omega arith) (omega arith) (stands-within st) (stands-apart st gs (i own-range (added own-range before after (y .more))))
+        kept-apart at d own-range q (y .place - at) u (stands-within (y .stands)) (omega arith) (omega arith) (stands-within st)
+        (stands-apart st gs (i own-range (added own-range before after (y .more))))
 
 -- ---- a body
 
@@ -119,7 +124,8 @@ module _ (h w : ℕ) (ks : List Kid) (cs : List Cell) (r : List ℕ) (l : AllLaw
       let n = length ks in
       let s = y .slots in
       let m = le (bitmap n) (flags cs) in
-      rw (← (y .whole)) (rw (length-le (bitmap n) (flags cs)) at (in-middle m s (zeros (pad (length s) - length s)) (y .variable) (i * w) w (omega (arith, fit-in, slots-in)))) ∙ spotIn .found
+      rw (← (y .whole)) (rw (length-le (bitmap n) (flags cs)) at
+      (in-middle m s (zeros (pad (length s) - length s)) (y .variable) (i * w) w (omega (arith, fit-in, slots-in)))) ∙ spotIn .found
 
   pub flag-in : num (part r 0 (bitmap (length ks))) / 2 ^ i % 2 ≡ flag (cellAt cs i)
   flag-in =
@@ -130,19 +136,23 @@ module _ (h w : ℕ) (ks : List Kid) (cs : List Cell) (r : List ℕ) (l : AllLaw
 
   -- what stands at j in the variable data
   pub variable-in : (j : ℕ) → drop (bitmap (length ks) + pad (length ks * w) + j) r ≡ drop j (y .variable)
-  variable-in j = rw (length-le (bitmap (length ks)) (flags cs), padded-in, y .whole) at (in-last (le (bitmap (length ks)) (flags cs)) (padded (y .slots)) (y .variable) j)
+  variable-in j = rw (length-le (bitmap (length ks)) (flags cs), padded-in, y .whole) at
+      (in-last (le (bitmap (length ks)) (flags cs)) (padded (y .slots)) (y .variable) j)
 
   -- the child's slot changes, in the same data
-  module _ (x : Cell) (v : List ℕ) (n : length v ≡ w) (z : kidLays w (kidAt ks i) (front h w (length ks)) (y .variable) (spotIn .before) x v (spotIn .after)) where
+  module _ (x : Cell) (v : List ℕ) (n : length v ≡ w) (z : kidLays w (kidAt ks i) (front h w (length ks)) (y .variable) (spotIn .before) x v
+      (spotIn .after)) where
     children-slot : AllLay w (front h w (length ks)) (y .variable) ks (set cs i x) (sets (y .slots) (i * w) v) [] (y .ranges)
     children-slot = spotIn .put (y .variable) x v refl (λ q m u t e f. (t, f)) (λ q qs j g st u t e f. (t, f)) n z
 
-    slots-put : (m : List ℕ) → length m ≡ bitmap (length ks) → sets (m ++ (padded (y .slots) ++ y .variable)) (bitmap (length ks) + i * w) v ≡ m ++ (padded (sets (y .slots) (i * w) v) ++ y .variable)
+    slots-put : (m : List ℕ) → length m ≡ bitmap (length ks) → sets (m ++ (padded (y .slots) ++ y .variable)) (bitmap (length ks) + i * w) v ≡ m ++
+        (padded (sets (y .slots) (i * w) v) ++ y .variable)
     slots-put m e =
         let s = y .slots in
         let a : i * w + length v ≤ length s = omega (arith, fit-in, slots-in) in
         let b : i * w + length v ≤ length (padded s) = omega (arith, fit-in, padded-in) in
-        rw (← e) (sets-behind m (padded s ++ y .variable) (i * w) v ∙ ap (λ (t : List ℕ). m ++ t) (sets-ahead (padded s) (y .variable) (i * w) v b ∙ rw (padded-sets s (i * w) v a)))
+        rw (← e) (sets-behind m (padded s ++ y .variable) (i * w) v ∙ ap (λ (t : List ℕ). m ++ t)
+        (sets-ahead (padded s) (y .variable) (i * w) v b ∙ rw (padded-sets s (i * w) v a)))
 
     pub body-slot : BodyLays h w ks (set cs i x) (sets (putBit r 0 i (nulled x)) (bitmap (length ks) + i * w) v)
     body-slot =
@@ -175,7 +185,8 @@ module _ (h w : ℕ) (ks : List Kid) (cs : List Cell) (r : List ℕ) (l : AllLaw
         }
 
   -- the child's data changes in its range, and its slot and flag stay
-  pub body-data : (x : Cell) (j : ℕ) (u : List ℕ) → flag x ≡ flag (cellAt cs i) → ((q : Range) → Among q (spotIn .before) → Kept (front h w (length ks)) (y .variable) (sets (y .variable) j u) q)
+  pub body-data : (x : Cell) (j : ℕ) (u : List ℕ) → flag x ≡ flag (cellAt cs i)
+      → ((q : Range) → Among q (spotIn .before) → Kept (front h w (length ks)) (y .variable) (sets (y .variable) j u) q)
       → Safe (front h w (length ks)) (y .variable) (sets (y .variable) j u) (spotIn .after) → length (spotIn .slot) ≡ w
       → kidLays w (kidAt ks i) (front h w (length ks)) (sets (y .variable) j u) (spotIn .before) x (spotIn .slot) (spotIn .after)
       → BodyLays h w ks (set cs i x) (sets r (bitmap (length ks) + pad (length ks * w) + j) u)
@@ -183,8 +194,10 @@ module _ (h w : ℕ) (ks : List Kid) (cs : List Cell) (r : List ℕ) (l : AllLaw
       let b = bitmap (length ks) in
       let m = le b (flags cs) in
       let d = y .variable in
-      let o : sets (y .slots) (i * w) (spotIn .slot) ≡ y .slots = ap (sets (y .slots) (i * w)) (sym (spotIn .found)) ∙ sets-same (y .slots) (i * w) w (omega (arith, fit-in, slots-in)) in
-      let e : sets r (b + pad (length ks * w) + j) u ≡ m ++ (padded (y .slots) ++ sets d j u) = rw (length-le b (flags cs), padded-in, y .whole) at (sets-third m (padded (y .slots)) d j u) in
+      let o : sets (y .slots) (i * w) (spotIn .slot) ≡ y .slots = ap (sets (y .slots) (i * w)) (sym (spotIn .found))
+      ∙ sets-same (y .slots) (i * w) w (omega (arith, fit-in, slots-in)) in
+      let e : sets r (b + pad (length ks * w) + j) u ≡ m ++ (padded (y .slots) ++ sets d j u) = rw (length-le b (flags cs), padded-in, y .whole) at
+      (sets-third m (padded (y .slots)) d j u) in
       record {
         slots = y .slots;
         variable = sets d j u;

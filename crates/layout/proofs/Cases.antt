@@ -16,13 +16,15 @@ use Rattle.layout.specs.Tiles.{total, both?, either?, change?, aparts?, 
 use Rattle.layout.specs.Cells.{Cell, null, leaf, node, fromCells, toCells, onNull, bytes, parts, clean}
 use Rattle.layout.specs.Layout.{number, string, inside, outside, kidOf, slotOf, kidGet, flags, slots, tails, reads, front, bodyPut, bodyGet, struct}
 use Rattle.layout.specs.Layout.{array, pair, limit, codec, content, decode, faultAt}
-use Rattle.layout.specs.Listing.{numberScript, textScript, marked, nullOr, item, runPut, runGet, structScript, listScript, mapScript, script, listing, parse}
+use Rattle.layout.specs.Listing.{numberScript, textScript, marked, nullOr, item, runPut, runGet, structScript, listScript, mapScript, script}
+use Rattle.layout.specs.Listing.{listing, parse}
 use Rattle.layout.specs.Refusals.{numbered, brokenAt}
 use Rattle.layout.specs.Walk.{must, mustStep, own, bySlot, byFlag, child, stepIn, goOn, walk}
 use Rattle.layout.specs.Reading as R
 use Rattle.layout.specs.Reading.{typeAt, placed, valueOf, answerOf, found, readIn}
 use Rattle.layout.specs.Setting as S
-use Rattle.layout.specs.Setting.{boolBytes, signedBytes, float32Bytes, float64Bytes, inBytes, suits, keepsText, keeps, refusalIn, judgeAt, writeFixed, write, writeAt, refuses, becomes, outcome, setIn}
+use Rattle.layout.specs.Setting.{boolBytes, signedBytes, float32Bytes, float64Bytes, inBytes, suits, keepsText, keeps, refusalIn, judgeAt}
+use Rattle.layout.specs.Setting.{writeFixed, write, writeAt, refuses, becomes, outcome, setIn}
 
 -- to unfold this is to unfold the definitions
 computes : Unit {0}
@@ -31,7 +33,8 @@ unfolding le num fill types markAt fixedPlace textPlace place width mark count f
     number string inside outside kidOf slotOf kidGet flags slots tails reads bodyPut bodyGet struct array pair limit codec
     numberScript textScript marked nullOr item runPut runGet structScript listScript mapScript script listing parse
     must mustStep own bySlot byFlag child stepIn goOn walk typeAt placed valueOf answerOf found readIn
-    boolBytes signedBytes float32Bytes float64Bytes inBytes suits keepsText keeps refusalIn judgeAt writeFixed write writeAt outcome setIn decLe decLt ℕ-discrete
+    boolBytes signedBytes float32Bytes float64Bytes inBytes suits keepsText keeps refusalIn judgeAt writeFixed write writeAt outcome setIn
+    decLe decLt ℕ-discrete
 computes = tt
 
 -- ---- schemas
@@ -142,11 +145,13 @@ pub record Cases : Type 0 where
   b-reads : (readIn two B (0 ∷ []) ≡ R.signed (negsuc 1)) × (readIn two B (1 ∷ []) ≡ R.null) × (readIn two B [] ≡ R.container 0 24 2)
   c : (content (ro one) (node (leaf STK ∷ [])) ≡ C) × (decode (ro one) C ≡ some (node (leaf STK ∷ []))) × (readIn one C (0 ∷ []) ≡ R.bytes 16 3)
   d : (content (ro one) (node (leaf [] ∷ [])) ≡ D) × (decode (ro one) D ≡ some (node (leaf [] ∷ []))) × (readIn one D (0 ∷ []) ≡ R.bytes 16 0)
-  e : (length (content (ro lists) ten) ≡ 48) × (slot0 (content (ro lists) ten) ≡ 32 ∷ 0 ∷ 0 ∷ 0 ∷ 16 ∷ 0 ∷ 0 ∷ 0 ∷ []) × (decode (ro lists) (content (ro lists) ten) ≡ some ten)
+  e : (length (content (ro lists) ten) ≡ 48) × (slot0 (content (ro lists) ten) ≡ 32 ∷ 0 ∷ 0 ∷ 0 ∷ 16 ∷ 0 ∷ 0 ∷ 0 ∷ []) ×
+      (decode (ro lists) (content (ro lists) ten) ≡ some ten)
   e-reads : (readIn lists (content (ro lists) ten) (0 ∷ []) ≡ R.container 16 32 10) × (readIn lists (content (ro lists) ten) (0 ∷ 9 ∷ []) ≡ R.signed (pos 7))
       × (readIn lists (content (ro lists) ten) (0 ∷ 10 ∷ []) ≡ R.refused (numbered 5))
   f : (length F ≡ 104) × (slot0 F ≡ 88 ∷ 0 ∷ 0 ∷ 0 ∷ 16 ∷ 0 ∷ 0 ∷ 0 ∷ []) × (part F 16 8 ≡ 40 ∷ zeros 7) × (decode (ro maps) F ≡ some three)
-  f-reads : (readIn maps F (0 ∷ []) ≡ R.container 16 88 2) × (readIn maps F (0 ∷ 0 ∷ []) ≡ R.container 24 40 3) × (readIn maps F (0 ∷ 1 ∷ []) ≡ R.container 64 40 3)
+  f-reads : (readIn maps F (0 ∷ []) ≡ R.container 16 88 2) × (readIn maps F (0 ∷ 0 ∷ []) ≡ R.container 24 40 3) ×
+      (readIn maps F (0 ∷ 1 ∷ []) ≡ R.container 64 40 3)
       × (readIn maps F (0 ∷ 1 ∷ 2 ∷ []) ≡ R.signed (pos 9)) × (readIn maps F (0 ∷ 1 ∷ 1 ∷ []) ≡ R.null)
       × (readIn maps F (0 ∷ 1 ∷ 3 ∷ []) ≡ R.refused (numbered 5))
   g : length (content (ro inner) (node (node (nine ∷ nine ∷ []) ∷ []))) ≡ 40
@@ -169,10 +174,13 @@ pub record Cases : Type 0 where
   turns : (decode (ro texts) turned ≡ some (node (leaf STK ∷ leaf PWR ∷ []))) × (readIn texts turned (0 ∷ []) ≡ R.bytes 32 3)
       × (setIn texts turned (0 ∷ []) (S.bytes TPH) ≡ becomes (row 32 3 24 3 ((PWR ++ zeros 5) ++ (TPH ++ zeros 5))))
   -- not with 8 bytes over at the end or between, and none before the fixed part's end
-  gaps : (decode (ro texts) (turned ++ zeros 8) ≡ none) × (decode (ro texts) (row 40 3 24 3 ((PWR ++ zeros 5) ++ zeros 8 ++ (STK ++ zeros 5))) ≡ none) × (decode (ro texts) (row 16 0 24 3 (STK ++ zeros 5)) ≡ none)
+  gaps : (decode (ro texts) (turned ++ zeros 8) ≡ none) × (decode (ro texts) (row 40 3 24 3 ((PWR ++ zeros 5) ++ zeros 8 ++ (STK ++ zeros 5))) ≡ none) ×
+      (decode (ro texts) (row 16 0 24 3 (STK ++ zeros 5)) ≡ none)
   -- an empty value stands where another starts or ends, not inside it, nor past the end
-  empties : (decode (ro texts) (row 24 0 24 3 (STK ++ zeros 5)) ≡ some (node (leaf [] ∷ leaf STK ∷ []))) × (decode (ro texts) (row 32 0 24 3 (STK ++ zeros 5)) ≡ some (node (leaf [] ∷ leaf STK ∷ [])))
-      × (decode (ro texts) (row 32 0 24 16 (zeros 16)) ≡ none) × (decode (ro texts) (row 24 16 32 0 (zeros 16)) ≡ none) × (decode (ro texts) (row 40 0 24 3 (STK ++ zeros 5)) ≡ none)
+  empties : (decode (ro texts) (row 24 0 24 3 (STK ++ zeros 5)) ≡ some (node (leaf [] ∷ leaf STK ∷ []))) ×
+      (decode (ro texts) (row 32 0 24 3 (STK ++ zeros 5)) ≡ some (node (leaf [] ∷ leaf STK ∷ [])))
+      × (decode (ro texts) (row 32 0 24 16 (zeros 16)) ≡ none) × (decode (ro texts) (row 24 16 32 0 (zeros 16)) ≡ none) ×
+      (decode (ro texts) (row 40 0 24 3 (STK ++ zeros 5)) ≡ none)
   -- 5 by the schema alone comes before 7, and a path of 17 steps is 5
   order : (readIn two [] (2 ∷ []) ≡ R.refused (numbered 5)) × (readIn two [] (0 ∷ []) ≡ R.refused (brokenAt 0))
       × (readIn two [] (replicate 17 0) ≡ R.refused (numbered 5)) × (readIn one C (0 ∷ 0 ∷ []) ≡ R.refused (numbered 5))
@@ -202,13 +210,16 @@ pub record Cases : Type 0 where
       × (readIn maps (set F 8 0) (0 ∷ []) ≡ R.refused (brokenAt 8)) × (readIn strokes (stroke 1) (1 ∷ 0 ∷ []) ≡ R.bool true)
       × (readIn strokes (stroke 2) (1 ∷ 0 ∷ []) ≡ R.refused (brokenAt 32)) × (readIn inner odd (0 ∷ []) ≡ R.container 16 25 2)
   lists-a : parse (ro two) (listing (ro two) ofA) ≡ some ofA
-  lists-b : (listing (ro two) ofB ≡ 0x72 ∷ 0x6f ∷ 0x69 ∷ 0x34 ∷ 0xfe ∷ 0xff ∷ 0xff ∷ 0xff ∷ 0x6e ∷ 0x75 ∷ []) × (parse (ro two) (listing (ro two) ofB) ≡ some ofB)
-  lists-c : (listing (ro one) (node (leaf STK ∷ [])) ≡ 0x72 ∷ 0x6f ∷ 0x73 ∷ 0x74 ∷ 3 ∷ 0 ∷ 0 ∷ 0 ∷ STK) × (parse (ro one) (listing (ro one) (node (leaf STK ∷ []))) ≡ some (node (leaf STK ∷ [])))
+  lists-b : (listing (ro two) ofB ≡ 0x72 ∷ 0x6f ∷ 0x69 ∷ 0x34 ∷ 0xfe ∷ 0xff ∷ 0xff ∷ 0xff ∷ 0x6e ∷ 0x75 ∷ []) ×
+      (parse (ro two) (listing (ro two) ofB) ≡ some ofB)
+  lists-c : (listing (ro one) (node (leaf STK ∷ [])) ≡ 0x72 ∷ 0x6f ∷ 0x73 ∷ 0x74 ∷ 3 ∷ 0 ∷ 0 ∷ 0 ∷ STK) ×
+      (parse (ro one) (listing (ro one) (node (leaf STK ∷ []))) ≡ some (node (leaf STK ∷ [])))
   lists-d : listing (ro one) (node (leaf [] ∷ [])) ≡ 0x72 ∷ 0x6f ∷ 0x73 ∷ 0x74 ∷ 0 ∷ 0 ∷ 0 ∷ 0 ∷ []
   lists-e : parse (ro lists) (listing (ro lists) ten) ≡ some ten
   lists-f : parse (ro maps) (listing (ro maps) three) ≡ some three
   lists-g : parse (ro inner) (listing (ro inner) (node (node (nine ∷ nine ∷ []) ∷ []))) ≡ some (node (node (nine ∷ nine ∷ []) ∷ []))
-  lists-n : (listing (ro lists) (node (node [] ∷ [])) ≡ 0x72 ∷ 0x6f ∷ 0x6c ∷ 0x69 ∷ 0 ∷ 0 ∷ 0 ∷ 0 ∷ []) × (parse (ro lists) (listing (ro lists) (node (node [] ∷ []))) ≡ some (node (node [] ∷ [])))
+  lists-n : (listing (ro lists) (node (node [] ∷ [])) ≡ 0x72 ∷ 0x6f ∷ 0x6c ∷ 0x69 ∷ 0 ∷ 0 ∷ 0 ∷ 0 ∷ []) ×
+      (parse (ro lists) (listing (ro lists) (node (node [] ∷ []))) ≡ some (node (node [] ∷ [])))
 
 pub cases : Cases
 unfolding computes

@@ -57,7 +57,8 @@ module _ (w : ℕ) (k : Kid) (l : LawfulKid w k) where
   kid-fits at d rs (leaf u) s rs′ y = l .fits at d rs (leaf u) s rs′ y
   kid-fits at d rs (nodes u) s rs′ y = l .fits at d rs (nodes u) s rs′ y
 
-  pub kid-size : (at : ℕ) (d : List ℕ) (rs : List Range) (c : Cell) (s : List ℕ) (rs′ : List Range) → kidLays w k at d rs c s rs′ → Takes w rs s rs′ (length (kidTail k c))
+  pub kid-size : (at : ℕ) (d : List ℕ) (rs : List Range) (c : Cell) (s : List ℕ) (rs′ : List Range) → kidLays w k at d rs c s rs′
+      → Takes w rs s rs′ (length (kidTail k c))
   unfolding onNull
   kid-size at d rs (null u) s rs′ y = record { slot = rw (← (y .is)) (y .fits .wide); adds = rw (y .same) (omega arith) }
   kid-size at d rs (leaf u) s rs′ y = l .size at d rs (leaf u) s rs′ y
@@ -70,13 +71,15 @@ module _ (w : ℕ) (k : Kid) (l : LawfulKid w k) where
   kid-laid at d e rs (leaf u) f p n o = l .laid at d e rs (leaf u) f p n o
   kid-laid at d e rs (nodes u) f p n o = l .laid at d e rs (nodes u) f p n o
 
-  pub kid-adds : (at : ℕ) (d : List ℕ) (rs : List Range) (c : Cell) (s : List ℕ) (rs′ : List Range) → kidLays w k at d rs c s rs′ → Adds at (at + length d) rs rs′
+  pub kid-adds : (at : ℕ) (d : List ℕ) (rs : List Range) (c : Cell) (s : List ℕ) (rs′ : List Range) → kidLays w k at d rs c s rs′
+      → Adds at (at + length d) rs rs′
   unfolding onNull
   kid-adds at d rs (null u) s rs′ y = rw (← (y .same)) same
   kid-adds at d rs (leaf u) s rs′ y = l .adds at d rs (leaf u) s rs′ y
   kid-adds at d rs (nodes u) s rs′ y = l .adds at d rs (nodes u) s rs′ y
 
-  pub kid-keep : (at : ℕ) (d e : List ℕ) (rs : List Range) (c : Cell) (s : List ℕ) (rs′ : List Range) → length e ≡ length d → ((q : Range) → q ∷ rs ≡ rs′ → Kept at d e q)
+  pub kid-keep : (at : ℕ) (d e : List ℕ) (rs : List Range) (c : Cell) (s : List ℕ) (rs′ : List Range) → length e ≡ length d
+      → ((q : Range) → q ∷ rs ≡ rs′ → Kept at d e q)
       → kidLays w k at d rs c s rs′ → kidLays w k at e rs c s rs′
   unfolding onNull
   kid-keep at d e rs (null u) s rs′ n g y = y
@@ -118,7 +121,11 @@ module _ (w at : ℕ) (d : List ℕ) where
   pub all-fit : (ks : List Kid) (cs : List Cell) (s : List ℕ) (rs rs′ : List Range) → AllLawful w ks → AllLay w at d ks cs s rs rs′ → AllFit w ks cs
   unfolding AllFit AllLay
   all-fit [] [] s rs rs′ l y = tt
-  all-fit (k ∷ ks) (c ∷ cs) s rs rs′ l y = (kid-fits w k (l .0) at d rs c (y .slot) (y .ranges) (y .one), all-fit ks cs (y .left) (y .ranges) rs′ (l .1) (y .others))
+  all-fit (k ∷ ks) (c ∷ cs) s rs rs′ l y = (
+    kid-fits w k (l .0) at d rs c (y .slot) (y .ranges) (y .one),
+    all-fit ks cs (y .left) (y .ranges) rs′ (l .1)
+        (y .others),
+  )
 
   pub all-take : (ks : List Kid) (cs : List Cell) (s : List ℕ) (rs rs′ : List Range) → AllLawful w ks → AllLay w at d ks cs s rs rs′ → AllTake w ks cs s rs rs′
   unfolding AllLay tails
@@ -182,11 +189,20 @@ all-laid w at d (k ∷ ks) (c ∷ cs) rs l f p n o =
     let t = kidTail k c in
     let a = kid-laid w k (l .0) at d (tails ks cs) rs c (f .0) p n o in
     let e : at + total (a .ranges) ≡ at + total rs + length t = omega (arith, a .takes) in
-    let y = all-laid w at (d ++ t) ks cs (a .ranges) (l .1) (f .1) (a .packed) (rw length-append (omega (arith, a .takes))) (rw e (omega (arith, kid-eight w k (l .0) c))) in
+    let y = all-laid w at (d ++ t) ks cs (a .ranges) (l .1) (f .1) (a .packed) (rw length-append (omega (arith, a .takes)))
+    (rw e (omega (arith, kid-eight w k (l .0) c))) in
     let z = rw (e, append-assoc) at y in
     record {
       ranges = z .ranges;
-      children = record { slot = kidSlot k (at + total rs) c; left = slots (at + total rs + length t) ks cs; ranges = a .ranges; whole = refl; one = a .lays; others = z .children };
+      children = record {
+        slot = kidSlot k (at + total rs) c;
+        left = slots (at + total rs + length t) ks cs;
+        ranges = a .ranges;
+        whole = refl;
+        one =
+            a .lays;
+        others = z .children;
+      };
       ends = z .ends;
     }
 

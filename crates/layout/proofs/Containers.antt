@@ -172,7 +172,8 @@ unfolding array
 array-lawful w k l = record {
   here = λ x f. node-here x (parts x) (f .plain);
   sized = tt;
-  proper = λ x f. bytes-append (bytes-le 8 (length (parts x))) (body-proper 8 w (replicate (length (parts x)) k) (repeat w (length (parts x)) k l) (parts x) (f .children));
+  proper = λ x f. bytes-append (bytes-le 8 (length (parts x)))
+      (body-proper 8 w (replicate (length (parts x)) k) (repeat w (length (parts x)) k l) (parts x) (f .children));
   cleaned = λ x f.
       let n = length (parts x) in
       let a = body-cleaned 8 w (replicate n k) (repeat w n k l) (parts x) (f .children) in
@@ -180,9 +181,26 @@ array-lawful w k l = record {
         fits = record { plain = node-clean x (f .plain); children = rw (parts-clean, length-map) (a .0) };
         size = rw (parts-clean, length-map, length-append, length-append, a .1, length-le);
       };
-  fits = λ x b y. record { plain = y .plain; children = body-fit 8 w (replicate (length (parts x)) k) (repeat w (length (parts x)) k l) (parts x) (y .rest) (y .body) };
-  size = λ x b y. rw (← (y .whole), length-append, length-append, length-le, body-size 8 w (replicate (length (parts x)) k) (repeat w (length (parts x)) k l) (parts x) (y .rest) (y .body));
-  laid = λ x f. record { rest = _; plain = f .plain; whole = refl; body = body-laid 8 w (replicate (length (parts x)) k) (repeat w (length (parts x)) k l) (parts x) refl (f .children) };
+  fits = λ x b y. record {
+    plain = y .plain;
+    children = body-fit 8 w (replicate (length (parts x)) k) (repeat w (length (parts x)) k l) (parts x) (y .rest)
+        (y .body);
+  };
+  size = λ x b y. rw (
+    ← (y .whole),
+    length-append,
+    length-append,
+    length-le,
+    body-size 8 w (replicate (length (parts x)) k)
+        (repeat w (length (parts x)) k l) (parts x) (y .rest) (y .body),
+  );
+  laid = λ x f. record {
+    rest = _;
+    plain = f .plain;
+    whole = refl;
+    body = body-laid 8 w (replicate (length (parts x)) k) (repeat w (length (parts x)) k l)
+        (parts x) refl (f .children);
+  };
   back = λ x b y m.
       let n = length (parts x) in
       let e = repeat w n k l in
@@ -199,7 +217,8 @@ array-lawful w k l = record {
       when-then (when-assert slot (ℕ-discrete (length b % 8) 0)) λ _ _.
       when-bind (cut-forth slot 8 hb) λ (h, r) p.
       when-bind (body-forth 8 w (replicate (num h) k) (repeat w (num h) k l) (byte 0) r (p .rest)) λ cs y.
-      let e : length cs ≡ num h = all-length w (replicate (num h) k) cs (body-fit 8 w (replicate (num h) k) (repeat w (num h) k l) cs r y) ∙ length-replicate (num h) k in
+      let e : length cs ≡ num h = all-length w (replicate (num h) k) cs (body-fit 8 w (replicate (num h) k) (repeat w (num h) k l) cs r y)
+      ∙ length-replicate (num h) k in
       let g : le 8 (num h) ≡ h = rw (p .size) at (le-num (p .front)) in
       yields {a = node cs} (record { rest = r; plain = rw parts-node; whole = rw (parts-node, e, g) (p .whole); body = rw (parts-node, e) y });
 }
@@ -215,10 +234,22 @@ pair-lawful k v lk lv ck cv = record {
       let b = lv .cleaned (part 1 x) (f .values) in
       let e : clean x ≡ node (clean (part 0 x) ∷ clean (part 1 x) ∷ []) = ap clean (f .plain) ∙ clean-node (part 0 x ∷ part 1 x ∷ []) in
       record {
-        fits = record { plain = simp part-clean e; keys = simp part-clean (a .fits); values = simp part-clean (b .fits); counts = simp (part-clean, count-clean) (f .counts) };
+        fits = record {
+          plain = simp part-clean e;
+          keys = simp part-clean (a .fits);
+          values = simp part-clean (b .fits);
+          counts = simp
+              (part-clean, count-clean) (f .counts);
+        };
         size = simp (part-clean, length-append, length-le) (omega (arith, a .size, b .size));
       };
-  fits = λ x b y. record { plain = y .plain; keys = lk .fits (part 0 x) (y .keysArray) (y .keys); values = lv .fits (part 1 x) (y .valuesArray) (y .values); counts = y .counts };
+  fits = λ x b y. record {
+    plain = y .plain;
+    keys = lk .fits (part 0 x) (y .keysArray) (y .keys);
+    values = lv .fits (part 1 x) (y .valuesArray)
+        (y .values);
+    counts = y .counts;
+  };
   size = λ x b y.
       let a = lk .size (part 0 x) (y .keysArray) (y .keys) in
       let c = lv .size (part 1 x) (y .valuesArray) (y .values) in

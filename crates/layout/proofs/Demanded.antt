@@ -49,7 +49,8 @@ path? (i ∷ p) (j ∷ q) = go (ℕ-discrete i j) (path? p q)
     go (no n) e = no λ m. n cc
 
 -- after a setting every value starts where it did
-made-starts : {ts : Tys} {p : List ℕ} {x : Setting} {T : Ty} {c : Cell} {row row′ : List ℕ} → typeAt p (ro ts) ≡ some T → Made ts p x T c row row′ → Starting (ro ts) rootSeat 0 row′ row
+made-starts : {ts : Tys} {p : List ℕ} {x : Setting} {T : Ty} {c : Cell} {row row′ : List ℕ} → typeAt p (ro ts) ≡ some T → Made ts p x T c row row′
+    → Starting (ro ts) rootSeat 0 row′ row
 made-starts {ts = ts} {p = p} {T = T} {row = row} {row′ = row′} e m q U h = go (path? p q)
   where
     go : Dec (p ≡ q) → starts U (walk q (ro ts) rootSeat 0 row′) ≡ starts U (walk q (ro ts) rootSeat 0 row)
@@ -83,12 +84,15 @@ module _ (ts : Tys) (row : List ℕ) (a : Accepted ts row) where
     reads-as-set : told row′ (readIn ts row′ p) ≡ some x
     reads-as-set =
         ap (told row′) (read-at ts row′ still p (d .type) (d .place))
-        ∙ told-set row′ (d .type) p c′ (walk p (ro ts) rootSeat 0 row′) x _ (look p (a .tree)) b (d .made .granted .fine) (row-lands ts row′ still p (d .type) (d .place)) valid′ look′
+        ∙ told-set row′ (d .type) p c′ (walk p (ro ts) rootSeat 0 row′) x _ (look p (a .tree)) b (d .made .granted .fine)
+        (row-lands ts row′ still p (d .type) (d .place)) valid′ look′
 
     -- the same is judged of another setting there
-    again : (y : Setting) → judgeAt (some (d .type)) (answerOf (d .type) (walk p (ro ts) rootSeat 0 row′)) y ≡ judgeAt (some (d .type)) (answerOf (d .type) (seenAt p)) y
+    again : (y : Setting) → judgeAt (some (d .type)) (answerOf (d .type) (walk p (ro ts) rootSeat 0 row′)) y ≡ judgeAt (some (d .type))
+        (answerOf (d .type) (seenAt p)) y
     again y =
-        judge-again row row′ (d .type) p (a .tree) c′ (seenAt p) (walk p (ro ts) rootSeat 0 row′) x y _ (d .made .granted .valid) valid′ (d .made .granted .fine) look′ (row-lands ts row a p (d .type) (d .place)) (row-lands ts row′ still p (d .type) (d .place))
+        judge-again row row′ (d .type) p (a .tree) c′ (seenAt p) (walk p (ro ts) rootSeat 0 row′) x y _ (d .made .granted .valid) valid′
+        (d .made .granted .fine) look′ (row-lands ts row a p (d .type) (d .place)) (row-lands ts row′ still p (d .type) (d .place))
 
     last-by : (y : Setting) → Proper y → (r : Option Refusal) → judgeAt (some (d .type)) (answerOf (d .type) (seenAt p)) y ≡ r
         → setIn ts row′ p y ≡ setIn ts row p y
@@ -99,13 +103,17 @@ module _ (ts : Tys) (row : List ℕ) (a : Accepted ts row) where
         let w = written ts row a p y T by q (judged T (answerOf T (seenAt p)) y j) in
         let w′ = written ts row′ still p y T by q (judged T (answerOf T (walk p (ro ts) rootSeat 0 row′)) y j′) in
         allowed ts row′ still p y T q j′
-        ∙ ap becomes (same-bytes (ro ts) (after ts p T y c′) (after ts p T y (a .tree)) (write T y (walk p (ro ts) rootSeat 0 row′) row′) (write T y (seenAt p) row) (w′ .lays) (w .lays) (omega (arith, w′ .size, d .made .size, a .size)) (update-last p _ _ (a .tree) (d .made .granted .valid))
-        (λ i U h. made-starts (placed-type p (ro ts) T q) w′ i U h ∙ made-starts (placed-type p (ro ts) T q) (d .made) i U h ∙ sym (made-starts (placed-type p (ro ts) T q) w i U h)))
+        ∙ ap becomes (same-bytes (ro ts) (after ts p T y c′) (after ts p T y (a .tree)) (write T y (walk p (ro ts) rootSeat 0 row′) row′)
+        (write T y (seenAt p) row) (w′ .lays) (w .lays) (omega (arith, w′ .size, d .made .size, a .size))
+        (update-last p _ _ (a .tree) (d .made .granted .valid))
+        (λ i U h. made-starts (placed-type p (ro ts) T q) w′ i U h ∙ made-starts (placed-type p (ro ts) T q) (d .made) i U h
+        ∙ sym (made-starts (placed-type p (ro ts) T q) w i U h)))
         ∙ sym (allowed ts row a p y T q j)
     last-by y by (some n) j =
         turned-down ts row′ still p y n (down row′ still (again y ∙ j)) ∙ sym (turned-down ts row a p y n (down row a j))
       where
-        down : (row : List ℕ) → Accepted ts row → judgeAt (some (d .type)) (answerOf (d .type) (walk p (ro ts) rootSeat 0 row)) y ≡ some n → judgeAt (placed p (ro ts)) (readIn ts row p) y ≡ some n
+        down : (row : List ℕ) → Accepted ts row → judgeAt (some (d .type)) (answerOf (d .type) (walk p (ro ts) rootSeat 0 row)) y ≡ some n
+            → judgeAt (placed p (ro ts)) (readIn ts row p) y ≡ some n
         down row a j = rw (read-at ts row a p (d .type) (d .place), d .place) j
 
     last-alone : (y : Setting) → Proper y → setIn ts row′ p y ≡ setIn ts row p y
@@ -139,10 +147,12 @@ module _ (ts : Tys) (row : List ℕ) (a : Accepted ts row) where
 
     -- the other setting, made after this one
     then-other : (q : List ℕ) (y : Setting) (row₂ : List ℕ) → Proper y → p ≢ q → (f : Done ts q y (a .tree) row row₂)
-        → (setIn ts row′ q y ≡ becomes (write (f .type) y (walk q (ro ts) rootSeat 0 row′) row′)) × Made ts q y (f .type) c′ row′ (write (f .type) y (walk q (ro ts) rootSeat 0 row′) row′)
+        → (setIn ts row′ q y ≡ becomes (write (f .type) y (walk q (ro ts) rootSeat 0 row′) row′)) × Made ts q y (f .type) c′ row′
+        (write (f .type) y (walk q (ro ts) rootSeat 0 row′) row′)
     then-other q y row₂ by n f =
         let U = f .type in
-        let j : judgeAt (some U) (answerOf U (walk q (ro ts) rootSeat 0 row′)) y ≡ none = ap (λ (z : Answer). judgeAt (some U) z y) (like q U (f .place) n .answers) ∙ f .judged in
+        let j : judgeAt (some U) (answerOf U (walk q (ro ts) rootSeat 0 row′)) y ≡ none = ap (λ (z : Answer). judgeAt (some U) z y)
+        (like q U (f .place) n .answers) ∙ f .judged in
         (allowed ts row′ still q y U (f .place) j, written ts row′ still q y U by (f .place) (judged U (answerOf U (walk q (ro ts) rootSeat 0 row′)) y j))
 
   -- ---- a leaf set to what it reads
@@ -158,7 +168,9 @@ module _ (ts : Tys) (row : List ℕ) (a : Accepted ts row) where
       let j : Judged T (answerOf T (seenAt p)) x = record { present = s .1 .present; suits = s .1 .suits; keeps = s .1 .keeps } in
       let w = written ts row a p x T (s .1 .proper) q j in
       let t : after ts p T x (a .tree) ≡ a .tree = ap (λ (z : Cell). update p z (a .tree)) (s .1 .is _) ∙ update-look p (a .tree) (s .0) in
-      allowed ts row a p x T q (judged-fine T (answerOf T (seenAt p)) x j) ∙ ap becomes (same-bytes (ro ts) _ (a .tree) (write T x (seenAt p) row) row (w .lays) (row-lays ts row a) (omega (arith, w .size, a .size)) t (made-starts (placed-type p (ro ts) T q) w))
+      allowed ts row a p x T q (judged-fine T (answerOf T (seenAt p)) x j)
+      ∙ ap becomes (same-bytes (ro ts) _ (a .tree) (write T x (seenAt p) row) row (w .lays) (row-lays ts row a) (omega (arith, w .size, a .size)) t
+      (made-starts (placed-type p (ro ts) T q) w))
 
   no-change : (p : List ℕ) (x : Setting) → told row (readIn ts row p) ≡ some x → x ≢ S.null → setIn ts row p x ≡ becomes row
   unfolding readIn
@@ -169,9 +181,11 @@ module _ (ts : Tys) (row : List ℕ) (a : Accepted ts row) where
   -- two different paths at which settings are done are two leaves
   pub two-places : (p q : List ℕ) (x y : Setting) (row₁ row₂ : List ℕ) → Done ts p x (a .tree) row row₁ → Done ts q y (a .tree) row row₂ → p ≢ q → Parted p q
   two-places p q x y row₁ row₂ d₁ d₂ n =
-      two-leaves p q (ro ts) (d₁ .type) (d₂ .type) (placed-type p (ro ts) (d₁ .type) (d₁ .place)) (fine-leaf (d₁ .made .granted .fine)) (placed-type q (ro ts) (d₂ .type) (d₂ .place)) (fine-leaf (d₂ .made .granted .fine)) n
+      two-leaves p q (ro ts) (d₁ .type) (d₂ .type) (placed-type p (ro ts) (d₁ .type) (d₁ .place)) (fine-leaf (d₁ .made .granted .fine))
+      (placed-type q (ro ts) (d₂ .type) (d₂ .place)) (fine-leaf (d₂ .made .granted .fine)) n
 
-  either-order : (p q : List ℕ) (x y : Setting) (row₁ row₂ : List ℕ) → Proper x → Proper y → p ≢ q → setIn ts row p x ≡ becomes row₁ → setIn ts row q y ≡ becomes row₂ → Meet ts row₁ row₂ p q x y
+  either-order : (p q : List ℕ) (x y : Setting) (row₁ row₂ : List ℕ) → Proper x → Proper y → p ≢ q → setIn ts row p x ≡ becomes row₁
+      → setIn ts row q y ≡ becomes row₂ → Meet ts row₁ row₂ p q x y
   either-order p q x y row₁ row₂ bx by n e₁ e₂ =
       let d₁ = done ts row a p x row₁ bx e₁ in
       let d₂ = done ts row a q y row₂ by e₂ in
@@ -183,7 +197,8 @@ module _ (ts : Tys) (row : List ℕ) (a : Accepted ts row) where
       record {
         end = write U y (walk q (ro ts) rootSeat 0 row₁) row₁;
         p-first = o₁ .0;
-        q-first = o₂ .0 ∙ ap becomes (sym (same-bytes (ro ts) _ _ _ _ (o₁ .1 .lays) (o₂ .1 .lays) (omega (arith, o₁ .1 .size, d₁ .made .size, a .size)) (update-comm p q _ _ (a .tree) part (d₁ .made .granted .valid))
+        q-first = o₂ .0 ∙ ap becomes (sym (same-bytes (ro ts) _ _ _ _ (o₁ .1 .lays) (o₂ .1 .lays) (omega (arith, o₁ .1 .size, d₁ .made .size, a .size))
+            (update-comm p q _ _ (a .tree) part (d₁ .made .granted .valid))
             (λ i A h. made-starts (placed-type q (ro ts) U (d₂ .place)) (o₁ .1) i A h ∙ made-starts (placed-type p (ro ts) T (d₁ .place)) (d₁ .made) i A h
             ∙ sym (made-starts (placed-type p (ro ts) T (d₁ .place)) (o₂ .1) i A h ∙ made-starts (placed-type q (ro ts) U (d₂ .place)) (d₂ .made) i A h))));
       }

@@ -86,7 +86,8 @@ text-scripted = record {
   back = λ x r f h.
       let u = bytes x in
       let n : length u < 2 ^ 32 = omega (arith, length-append (le 4 (length u)) u) in
-      rw (append-assoc, cut-back 4 (le 4 (length u)) (u ++ r) (length-le 4 (length u)), num-le 4 (length u) (omega arith), cut-back (length u) u r refl) (pairs r (leaf-cleaned x (f .plain)));
+      rw (append-assoc, cut-back 4 (le 4 (length u)) (u ++ r) (length-le 4 (length u)), num-le 4 (length u) (omega arith), cut-back (length u) u r refl)
+      (pairs r (leaf-cleaned x (f .plain)));
   forth = λ b hb.
       when-bind (cut-forth 4 hb) λ (h, r) p.
       when-bind (cut-forth (num h) (p .rest)) λ (u, r′) q.
@@ -169,7 +170,8 @@ module _ (w : ℕ) (c : Codec) (k : Kid) (kf : KidFor w (c .wide) c k) (m : List
   item-back (leaf u) r f h = given-back (leaf u) r (kf .fits (leaf u) f) h
   item-back (nodes u) r f h = given-back (nodes u) r (kf .fits (nodes u) f) h
 
-  null-forth : (b h r : List ℕ) (d : Dec (num h ≡ num nu)) → length h ≡ 2 → Bytes h → Bytes r → h ++ r ≡ b → When (Listed (kidFits w k) (item w m s .put) b) (nullOr w d r (marked m s h r))
+  null-forth : (b h r : List ℕ) (d : Dec (num h ≡ num nu)) → length h ≡ 2 → Bytes h → Bytes r → h ++ r ≡ b
+      → When (Listed (kidFits w k) (item w m s .put) b) (nullOr w d r (marked m s h r))
   unfolding nullOr marked item onNull
   null-forth b h r (yes e) n hh hr q = yields {a = (null (zeros w), r)} (record {
     fits = record { wide = length-replicate w 0; proper = bytes-zeros w };
@@ -249,7 +251,13 @@ run-forth w [] [] b l h = yields {a = ([], b)} (record { fit = tt; clear = refl;
 run-forth w (k ∷ ks) (s ∷ ss) b l h =
     when-bind (l .0 .forth b h) λ (c, r) p.
     when-bind (run-forth w ks ss r (l .1) (p .rest)) λ (cs, r′) q.
-    yields {a = (c ∷ cs, r′)} (record { fit = (p .fits, q .fit); clear = rw (p .clear, q .clear); whole = rw (append-assoc, q .whole) (p .whole); rest = q .rest })
+    yields {a = (c ∷ cs, r′)} (record {
+      fit = (p .fits, q .fit);
+      clear = rw (p .clear, q .clear);
+      whole = rw (append-assoc, q .whole) (p .whole);
+      rest =
+          q .rest;
+    })
 
 pub repeat-scripted : (w n : ℕ) (k : Kid) (s : Script) → ScriptedKid w k s → AllScripted w (replicate n k) (replicate n s)
 repeat-scripted w zero k s l = tt

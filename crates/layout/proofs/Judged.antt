@@ -51,19 +51,23 @@ settable-end : (x : Setting) (T : Ty) (i : ℕ) (t : Ty) (c : Cell) → childTy 
 settable-end x T i t c e k (numberNull q h) = Updated.fixedNull q k e h
 settable-end x T i t c e k (numberGiven q h g) = Updated.fixedGiven q k e h g
 settable-end x T i t c e k (textNull q h f) = Updated.textNull q k e h f
-settable-end x T i t c e k (textGiven {u = u} q h f n b) = Updated.textGiven q k e (ap isNull h) f (ap (λ (y : Setting). length (textOf y)) h ∙ n) (subst (λ (y : Setting). Bytes (textOf y)) (sym h) b)
+settable-end x T i t c e k (textGiven {u = u} q h f n b) = Updated.textGiven q k e (ap isNull h) f (ap (λ (y : Setting). length (textOf y)) h ∙ n)
+    (subst (λ (y : Setting). Bytes (textOf y)) (sym h) b)
 
-pub settable : (x : Setting) (T : Ty) (i : ℕ) (p : List ℕ) (t : Ty) (c : Cell) → typeAt (i ∷ p) t ≡ some T → Valid (i ∷ p) c → Fine x T (look (i ∷ p) c) → Settable x T (i ∷ p) t c
+pub settable : (x : Setting) (T : Ty) (i : ℕ) (p : List ℕ) (t : Ty) (c : Cell) → typeAt (i ∷ p) t ≡ some T → Valid (i ∷ p) c → Fine x T (look (i ∷ p) c)
+    → Settable x T (i ∷ p) t c
 unfolding Valid look
 settable x T i [] t c e v f = settable-end x T i t c (type-end (childTy t i) T (type-child i [] t T e)) (v .0) f
-settable x T i (j ∷ p) t c e v f = Updated.deeper (v .0) (first-flag i j p c v) (settable x T j p (childTy t i) (part i c) (type-child i (j ∷ p) t T e) (v .1) f)
+settable x T i (j ∷ p) t c e v f = Updated.deeper (v .0) (first-flag i j p c v)
+    (settable x T j p (childTy t i) (part i c) (type-child i (j ∷ p) t T e) (v .1) f)
 
 -- ---- from the judgement
 
 clash : false ≡ true → ⊥
 clash e = let z : _≡_ {A = ℕ} 0 1 = cc in omega arith
 
-fixed-by : (f : Fixed) (x : Setting) (e : Cell) (n : Bool) (m : Option (List ℕ)) → isNull x ≡ n → inBytes f x ≡ m → cond n true (isSome m) ≡ true → Fine x (fix f) e
+fixed-by : (f : Fixed) (x : Setting) (e : Cell) (n : Bool) (m : Option (List ℕ)) → isNull x ≡ n → inBytes f x ≡ m → cond n true (isSome m) ≡ true
+    → Fine x (fix f) e
 fixed-by f x e true m h g s = numberNull refl h
 fixed-by f x e false none h g s = absurd (clash s)
 fixed-by f x e false (some u) h g s = numberGiven refl h g
@@ -75,7 +79,8 @@ fixed-fine f x e s = fixed-by f x e (isNull x) (inBytes f x) refl refl s
 null-fine : (k : Text) (x : Setting) (e : Cell) → isNull x ≡ true → flag e ≡ 1 → Fine x (text k) e
 null-fine k x e h f = textNull refl h f
 
-text-fine : (k : Text) (x : Setting) (e : Cell) (n : ℕ) → Proper x → flag e ≡ 0 → n ≡ length (bytes e) → fitsText x ≡ true → keepsSize n x ≡ true → Fine x (text k) e
+text-fine : (k : Text) (x : Setting) (e : Cell) (n : ℕ) → Proper x → flag e ≡ 0 → n ≡ length (bytes e) → fitsText x ≡ true → keepsSize n x ≡ true
+    → Fine x (text k) e
 text-fine k S.null e n b f l s h = absurd (clash h)
 text-fine k (S.bool v) e n b f l s h = absurd (clash s)
 text-fine k (S.signed z) e n b f l s h = absurd (clash s)
@@ -100,7 +105,8 @@ suits-leaf (li t) x h = absurd (clash h)
 suits-leaf (ma k v) x h = absurd (clash h)
 suits-leaf (ro ts) x h = absurd (clash h)
 
-pub granted-by : (row : List ℕ) (T : Ty) (p : List ℕ) (c : Cell) (r : Seen) (x : Setting) → Proper x → Landing row T p c r → refusalIn (answerOf T r) ≡ none → suits T x ≡ true → keeps T (answerOf T r) x ≡ true
+pub granted-by : (row : List ℕ) (T : Ty) (p : List ℕ) (c : Cell) (r : Seen) (x : Setting) → Proper x → Landing row T p c r
+    → refusalIn (answerOf T r) ≡ none → suits T x ≡ true → keeps T (answerOf T r) x ≡ true
     → Granted x T p c
 unfolding answerOf refusalIn suits keeps keepsText
 granted-by row (fix f) p c r x b (off n g) a s h = absurd (Option·none-ne-some _ (sym a))
@@ -108,7 +114,8 @@ granted-by row (fix f) p c r x b (atNull v g) a s h = record { valid = v; fine =
 granted-by row (fix f) p c r x b (atSeen v y st) a s h = record { valid = v; fine = fixed-fine f x (look p c) s }
 granted-by row (text k) p c r x b (off n g) a s h = absurd (Option·none-ne-some _ (sym a))
 granted-by row (text k) p c r x b (atNull v g) a s h = record { valid = v; fine = null-fine k x (look p c) h g }
-granted-by row (text k) p c r x b (atSeen {u = u} v y st) a s h = let q = text-lays-flag k (look p c) u y in record { valid = v; fine = text-fine k x (look p c) (length u) b (q .0) (q .1) s h }
+granted-by row (text k) p c r x b (atSeen {u = u} v y st) a s h = let q = text-lays-flag k (look p c) u y in
+    record { valid = v; fine = text-fine k x (look p c) (length u) b (q .0) (q .1) s h }
 granted-by row (li t) p c r x b l a s h = absurd (suits-leaf (li t) x s)
 granted-by row (ma k w) p c r x b l a s h = absurd (suits-leaf (ma k w) x s)
 granted-by row (ro ts) p c r x b l a s h = absurd (suits-leaf (ro ts) x s)
@@ -180,11 +187,13 @@ null-part (fix f) c b i u y k e = absurd (omega (arith, no-parts c (bytes c) (y 
 null-part (text s) c b i u y k e = absurd (omega (arith, no-parts c (bytes c) (y .fits .plain)))
 null-part (li t) c b i u y k e =
     let w = slotOf (codec t .wide) in
-    null-fit w (kidAt (replicate (length (parts c)) (kid w (codec t))) i) (part i c) u e (fit-at w (replicate (length (parts c)) (kid w (codec t))) (parts c) i (lays-fits (li t) c b y .children) k)
+    null-fit w (kidAt (replicate (length (parts c)) (kid w (codec t))) i) (part i c) u e
+    (fit-at w (replicate (length (parts c)) (kid w (codec t))) (parts c) i (lays-fits (li t) c b y .children) k)
 null-part (ma a v) c b i u y k e = absurd (map-null a v c b i u y k e)
 null-part (ro ts) c b i u y k e = null-fit 8 (kidAt (kids ts) i) (part i c) u e (fit-at 8 (kids ts) (parts c) i (lays-fits (ro ts) c b y .children) k)
 
-pub null-look : (w i : ℕ) (p : List ℕ) (t : Ty) (c : Cell) (b u : List ℕ) → Lays t c b → length b < 2 ^ 32 → Valid (i ∷ p) c → look (i ∷ p) c ≡ null u → length u ≡ slotAt w (i ∷ p) t
+pub null-look : (w i : ℕ) (p : List ℕ) (t : Ty) (c : Cell) (b u : List ℕ) → Lays t c b → length b < 2 ^ 32 → Valid (i ∷ p) c → look (i ∷ p) c ≡ null u
+    → length u ≡ slotAt w (i ∷ p) t
 unfolding Valid look slotAt
 null-look w i [] t c b u y lim v e = null-part t c b i u y (v .0) e
 null-look w i (j ∷ p) t c b u y lim v e =
@@ -203,7 +212,8 @@ pub record Changed (x : Setting) (T : Ty) (p : List ℕ) (t : Ty) (c : Cell) (b 
   pub others : (q : List ℕ) (U : Ty) → typeAt q t ≡ some U → p ≢ q → Like U (walk q t rootSeat 0 after) (walk q t rootSeat 0 b)
   pub there : starts T (walk p t rootSeat 0 after) ≡ starts T (walk p t rootSeat 0 b)
 
-pub set-at : (x : Setting) (T : Ty) (i : ℕ) (p : List ℕ) (t : Ty) (c : Cell) (b : List ℕ) → typeAt (i ∷ p) t ≡ some T → Lays t c b → length b < 2 ^ 32 → Granted x T (i ∷ p) c
+pub set-at : (x : Setting) (T : Ty) (i : ℕ) (p : List ℕ) (t : Ty) (c : Cell) (b : List ℕ) → typeAt (i ∷ p) t ≡ some T → Lays t c b → length b < 2 ^ 32
+    → Granted x T (i ∷ p) c
     → Changed x T (i ∷ p) t c b (write T x (walk (i ∷ p) t rootSeat 0 b) b)
 set-at x T i p t c b e y lim g =
     let v = g .valid in
@@ -211,6 +221,7 @@ set-at x T i p t c b e y lim g =
     let m = d .size in
     let new : d .new ≡ cellOf (slotAt 0 (i ∷ p) t) T x =
     became x T (d .new) (slotAt 0 (i ∷ p) t) (d .becomes)
-    (λ u q. null-look 0 i p t (update (i ∷ p) (d .new) c) (d .own) u (d .lays) (omega arith) (valid-update (i ∷ p) (d .new) c v) (look-update (i ∷ p) (d .new) c v ∙ q)) in
+    (λ u q. null-look 0 i p t (update (i ∷ p) (d .new) c) (d .own) u (d .lays) (omega arith) (valid-update (i ∷ p) (d .new) c v)
+    (look-update (i ∷ p) (d .new) c v ∙ q)) in
     let is : write T x (walk (i ∷ p) t rootSeat 0 b) b ≡ d .own = d .is ∙ sets-whole b (d .own) m in
     record { lays = rw (is, ← new) (d .lays); size = rw is m; others = λ q U h n. rw is (d .others q U h n rootSeat); there = rw is (d .there rootSeat) }

@@ -76,11 +76,13 @@ pub record LawfulKid (w : ℕ) (k : Kid) : Type 0 where
   pub proper : (x : Cell) → k .Fits x → Bytes (k .tail x)
   pub cleaned : (x : Cell) → k .Fits x → Cleaned (k .Fits) (k .tail) x
   pub fits : (at : ℕ) (d : List ℕ) (rs : List Range) (x : Cell) (s : List ℕ) (rs′ : List Range) → k .Lays at d rs x s rs′ → k .Fits x
-  pub size : (at : ℕ) (d : List ℕ) (rs : List Range) (x : Cell) (s : List ℕ) (rs′ : List Range) → k .Lays at d rs x s rs′ → Takes w rs s rs′ (length (k .tail x))
+  pub size : (at : ℕ) (d : List ℕ) (rs : List Range) (x : Cell) (s : List ℕ) (rs′ : List Range) → k .Lays at d rs x s rs′
+      → Takes w rs s rs′ (length (k .tail x))
   pub laid : (at : ℕ) (d e : List ℕ) (rs : List Range) (x : Cell) → k .Fits x → Packed at rs → total rs ≡ length d → (at + total rs) % 8 ≡ 0
       → Next (k .Lays at (d ++ (k .tail x ++ e)) rs x (k .slot (at + total rs) x)) at rs (length (k .tail x))
   pub adds : (at : ℕ) (d : List ℕ) (rs : List Range) (x : Cell) (s : List ℕ) (rs′ : List Range) → k .Lays at d rs x s rs′ → Adds at (at + length d) rs rs′
-  pub keep : (at : ℕ) (d e : List ℕ) (rs : List Range) (x : Cell) (s : List ℕ) (rs′ : List Range) → length e ≡ length d → ((q : Range) → q ∷ rs ≡ rs′ → Kept at d e q)
+  pub keep : (at : ℕ) (d e : List ℕ) (rs : List Range) (x : Cell) (s : List ℕ) (rs′ : List Range) → length e ≡ length d
+      → ((q : Range) → q ∷ rs ≡ rs′ → Kept at d e q)
       → k .Lays at d rs x s rs′ → k .Lays at e rs x s rs′
   pub back : (j at : ℕ) (d : List ℕ) (rs : List Range) (x : Cell) (s : List ℕ) (rs′ : List Range) → k .Lays at d rs x s rs′ → at + length d < 2 ^ 32
       → k .get j at d rs s ≡ got (x, rs′)
@@ -109,7 +111,10 @@ number-lawful w m h = record {
       rw (← (l .is), assert-yes (byte 0) (ℕ-discrete (length (bytes x)) w) (f .wide), assert-yes (byte 0) (decLt (num (bytes x)) m) (f .below))
       (ap got (sym (f .plain)));
   forth = λ b hb. when-then (when-assert (byte 0) (ℕ-discrete (length b) w)) λ _ e. when-then (when-assert (byte 0) (decLt (num b) m)) λ _ l.
-      yields {a = leaf b} (record { fits = record { plain = rw leaf-bytes; wide = rw leaf-bytes e; proper = rw leaf-bytes hb; below = rw leaf-bytes l }; is = leaf-bytes b });
+      yields {a = leaf b} (record {
+        fits = record { plain = rw leaf-bytes; wide = rw leaf-bytes e; proper = rw leaf-bytes hb; below = rw leaf-bytes l };
+        is = leaf-bytes b;
+      });
 }
 
 pub string-lawful : Lawful string
@@ -141,7 +146,13 @@ inside-lawful w v c l h e = record {
   size = λ at d rs x s rs′ y.
       let n : length (y .own) ≡ v = l .size x (y .own) (y .lays) ∙ e .size x (l .fits x (y .own) (y .lays)) in
       record { slot = rw (← (y .slot)) (length-fill w (y .own) (omega arith)); adds = rw (← (y .same)) (omega arith) };
-  laid = λ at d t rs x f p n o. record { ranges = rs; lays = record { own = c .put x; lays = l .laid x f; slot = refl; same = refl }; packed = p; takes = omega arith };
+  laid = λ at d t rs x f p n o. record {
+    ranges = rs;
+    lays = record { own = c .put x; lays = l .laid x f; slot = refl; same = refl };
+    packed = p;
+    takes =
+        omega arith;
+  };
   adds = λ at d rs x s rs′ y. rw (← (y .same)) same;
   keep = λ at d e rs x s rs′ n g y. y;
   back = λ j at d rs x s rs′ y b.

@@ -11,18 +11,21 @@ use lib.ListN.{length, replicate, length-append, length-replicate, length-map}
 use Rattle.words.specs.Bytes.{Bytes, le, num, pad, bitmap}
 use Rattle.words.proofs.Numbers.{bytes-append, bytes-le, length-le, num-le, le-num, length-padded}
 use Rattle.schema.specs.Marks.{types, markAt}
-use Rattle.schema.specs.Types.{Fixed, bo, i1, i2, i4, i8, f4, f8, Text, st, bi, width, Ty, fix, text, li, ma, ro, Tys, end, _then_, fixedPlace, textPlace, place, mark}
+use Rattle.schema.specs.Types.{Fixed, bo, i1, i2, i4, i8, f4, f8, Text, st, bi, width, Ty, fix, text, li, ma, ro, Tys, end, _then_, fixedPlace, textPlace}
+use Rattle.schema.specs.Types.{place, mark}
 use Rattle.schema.proofs.Table.{width-pos, is-mark}
 use Rattle.layout.specs.Reader.{assert, cut}
 use Rattle.layout.specs.Cells.{Cell, node, parts, part, clean}
-use Rattle.layout.specs.Layout.{Codec, Kid, inside, outside, kidOf, kid, slotOf, AllFit, bodyPut, struct, array, pair, list, limit, codec, kids, Fits, content}
+use Rattle.layout.specs.Layout.{Codec, Kid, inside, outside, kidOf, kid, slotOf, AllFit, bodyPut, struct, array, pair, list, limit, codec, kids}
+use Rattle.layout.specs.Layout.{Fits, content}
 use Rattle.layout.specs.Listing.{nu, Script, marked, item, runPut, runGet, structScript, listScript, mapScript, element, script, scripts, listing, parse}
 use Rattle.layout.proofs.Cells.{parts-node, clean-node, parts-clean, part-clean, count-clean}
 use Rattle.layout.proofs.Reader.{When, yields, when-bind, when-then, when-map, when-some, when-assert, assert-yes, cut-back, cut-forth, length-zero}
 use Rattle.layout.proofs.Kids.{Lawful, LawfulKid, Sized}
 use Rattle.layout.proofs.Children.{AllLawful, all-length}
 use Rattle.layout.proofs.Containers.{repeat, body-length, codec-lawful, kids-lawful, element-lawful}
-use Rattle.layout.proofs.Items.{Listed, Short, Scripted, ScriptedKid, KidFor, pairs, number-scripted, text-scripted, two-bytes, item-scripted, AllScripted, run-same, run-proper, run-long, run-short, run-back, run-forth, repeat-scripted}
+use Rattle.layout.proofs.Items.{Listed, Short, Scripted, ScriptedKid, KidFor, pairs, number-scripted, text-scripted, two-bytes, item-scripted}
+use Rattle.layout.proofs.Items.{AllScripted, run-same, run-proper, run-long, run-short, run-back, run-forth, repeat-scripted}
 
 -- ---- containers
 
@@ -53,7 +56,8 @@ struct-scripted ks ss lk l = record {
 
 module _ (w : ℕ) (k : Kid) (s : Script) (lk : LawfulKid w k) (l : ScriptedKid w k s) where
   repeat-same : (x : Cell) → runPut (replicate (length (parts (clean x))) s) (parts (clean x)) ≡ runPut (replicate (length (parts x)) s) (parts x)
-  repeat-same x = rw (count-clean x, parts-clean x) (run-same w (replicate (length (parts x)) k) (replicate (length (parts x)) s) (parts x) (repeat-scripted w (length (parts x)) k s l))
+  repeat-same x = rw (count-clean x, parts-clean x) (run-same w (replicate (length (parts x)) k) (replicate (length (parts x)) s) (parts x)
+      (repeat-scripted w (length (parts x)) k s l))
 
   repeat-short : (x : Cell) → array w k .Fits x → length (runPut (replicate (length (parts x)) s) (parts x)) ≤ 3 * length (array w k .put x)
   unfolding array
@@ -64,7 +68,8 @@ module _ (w : ℕ) (k : Kid) (s : Script) (lk : LawfulKid w k) (l : ScriptedKid 
 
   repeat-proper : (x : Cell) → array w k .Fits x → Bytes (runPut (replicate (length (parts x)) s) (parts x))
   unfolding array
-  repeat-proper x f = run-proper w (replicate (length (parts x)) k) (replicate (length (parts x)) s) (parts x) (repeat-scripted w (length (parts x)) k s l) (f .children)
+  repeat-proper x f = run-proper w (replicate (length (parts x)) k) (replicate (length (parts x)) s) (parts x) (repeat-scripted w (length (parts x)) k s l)
+      (f .children)
 
   list-scripted : Scripted (array w k) (listScript s)
   unfolding array listScript
@@ -149,7 +154,8 @@ module _ (w : ℕ) (k : Kid) (s : Script) (lk : LawfulKid w k) (l : ScriptedKid 
   unfolding pair mapScript
   map-scripted = record {
     same = λ x. rw (part-clean 0 x, part-clean 1 x, repeat-same w k s lk l (part 0 x), repeat-same w′ k′ s′ lk′ l′ (part 1 x), count-clean (part 0 x));
-    proper = λ x f. bytes-append (bytes-le 4 (length (parts (part 0 x)))) (bytes-append (repeat-proper w k s lk l (part 0 x) (f .keys)) (repeat-proper w′ k′ s′ lk′ l′ (part 1 x) (f .values)));
+    proper = λ x f. bytes-append (bytes-le 4 (length (parts (part 0 x))))
+        (bytes-append (repeat-proper w k s lk l (part 0 x) (f .keys)) (repeat-proper w′ k′ s′ lk′ l′ (part 1 x) (f .values)));
     short = λ x f.
         let p = repeat-short w k s lk l (part 0 x) (f .keys) in
         let q = repeat-short w′ k′ s′ lk′ l′ (part 1 x) (f .values) in
@@ -214,11 +220,14 @@ unfolding kidOf
 struct-for none c l s = outside-for c l
 struct-for (some v) c l s = inside-for 8 v c l (s .small)
 
-element-scripted : (t : Ty) → Scripted (codec t) (script t) → ScriptedKid (slotOf (codec t .wide)) (kid (slotOf (codec t .wide)) (codec t)) (element t (script t))
-element-scripted t l = let c = codec t in item-scripted (slotOf (c .wide)) c (kid (slotOf (c .wide)) c) (array-for (c .wide) c (codec-lawful t)) (mark t) (is-mark t) (not-nu t) (script t) l
+element-scripted : (t : Ty) → Scripted (codec t) (script t) → ScriptedKid (slotOf (codec t .wide)) (kid (slotOf (codec t .wide)) (codec t))
+    (element t (script t))
+element-scripted t l = let c = codec t in item-scripted (slotOf (c .wide)) c (kid (slotOf (c .wide)) c) (array-for (c .wide) c (codec-lawful t)) (mark t)
+    (is-mark t) (not-nu t) (script t) l
 
 field-scripted : (t : Ty) → Scripted (codec t) (script t) → ScriptedKid 8 (kid 8 (codec t)) (item 8 (mark t) (script t))
-field-scripted t l = let c = codec t in item-scripted 8 c (kid 8 c) (struct-for (c .wide) c (codec-lawful t) (codec-lawful t .sized)) (mark t) (is-mark t) (not-nu t) (script t) l
+field-scripted t l = let c = codec t in item-scripted 8 c (kid 8 c) (struct-for (c .wide) c (codec-lawful t) (codec-lawful t .sized)) (mark t) (is-mark t)
+    (not-nu t) (script t) l
 
 mutual
   unfolding script codec
@@ -228,7 +237,8 @@ mutual
   script-lawful (text t) = text-scripted
   script-lawful (li t) = list-scripted _ _ (element t (script t)) (element-lawful t) (element-scripted t (script-lawful t))
   script-lawful (ma k v) =
-      map-scripted _ _ (element k (script k)) (element-lawful k) (element-scripted k (script-lawful k)) _ _ (element v (script v)) (element-lawful v) (element-scripted v (script-lawful v))
+      map-scripted _ _ (element k (script k)) (element-lawful k) (element-scripted k (script-lawful k)) _ _ (element v (script v)) (element-lawful v)
+      (element-scripted v (script-lawful v))
   script-lawful (ro ts) = struct-scripted (kids ts) (scripts ts) (kids-lawful ts) (scripts-lawful ts)
 
   pub scripts-lawful : (ts : Tys) → AllScripted 8 (kids ts) (scripts ts)
@@ -257,7 +267,9 @@ listing-parse t b c hb e = when-some {P = Parsed t b} all e
     all : When (Parsed t b) (parse t b)
     all =
         when-bind (cut-forth 2 hb) λ (h, r) p.
-        when-bind (when-then (when-assert (ℕ-discrete (num h) (num (mark t)))) λ _ g. when-map {P = λ q. (num h ≡ num (mark t)) × Listed (Fits t) (script t .put) r q} (script-lawful t .forth r (p .rest)) λ q u. (g, u)) λ (c, r′) q.
+        when-bind (when-then (when-assert (ℕ-discrete (num h) (num (mark t)))) λ _ g.
+        when-map {P = λ q. (num h ≡ num (mark t)) × Listed (Fits t) (script t .put) r q} (script-lawful t .forth r (p .rest)) λ q u. (g, u)) λ
+        (c, r′) q.
         when-then (when-assert (ℕ-discrete (length r′) 0)) λ _ n.
         let o : script t .put c ≡ r = rw (length-zero r′ n, append-nil) at (q .1 .whole) in
         yields (record { fits = q .1 .fits; clear = q .1 .clear; lists = rw (← (two-bytes (is-mark t) (p .size) (p .front) (q .0)), o) (p .whole) })

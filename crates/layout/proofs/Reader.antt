@@ -73,7 +73,13 @@ pub record Cut (n : ℕ) (b : List ℕ) (p : List ℕ × List ℕ) : Type 0 wher
 pub cut-forth : (n : ℕ) {b : List ℕ} → Bytes b → When (Cut n b) (cut n b)
 unfolding cut
 cut-forth n {b} h = when-then (when-assert (decLe n (length b))) λ _ l.
-    yields {a = (take n b, drop n b)} (record { size = rw length-take (omega arith); whole = take-append-drop n b; front = bytes-take n h; rest = bytes-drop n h })
+    yields {a = (take n b, drop n b)} (record {
+      size = rw length-take (omega arith);
+      whole = take-append-drop n b;
+      front = bytes-take n h;
+      rest =
+          bytes-drop n h;
+    })
 
 pub length-zero : {A : Type 0} (b : List A) → length b ≡ 0 → b ≡ []
 length-zero [] h = refl

@@ -84,7 +84,8 @@ fixed-starts f (nullAt s) = refl
 fixed-starts f (seen s o u) = value-start f u
 
 -- nor has a null
-pub null-starts : (T t : Ty) (c : Cell) (i : ℕ) (s : Seat) (o : ℕ) (b : List ℕ) → Lays t c b → length b < 2 ^ 32 → i < length (parts c) → flag (partOf i c) ≡ 1 → starts T (walk (i ∷ []) t s o b) ≡ 0
+pub null-starts : (T t : Ty) (c : Cell) (i : ℕ) (s : Seat) (o : ℕ) (b : List ℕ) → Lays t c b → length b < 2 ^ 32 → i < length (parts c)
+    → flag (partOf i c) ≡ 1 → starts T (walk (i ∷ []) t s o b) ≡ 0
 unfolding walk goOn answerOf startOf
 null-starts T t c i s o b y lim k f =
     rw (own-holds t c s o b (goOn [] (λ t s o b. walk [] t s o b) (stepIn t i s o b)) y lim) (go (stepIn t i s o b) (comes t c i s o b y lim))
@@ -150,18 +151,21 @@ module _ (t : Ty) (c c′ : Cell) (b b′ : List ℕ) (d : Instead t c c′ b b�
 
   -- a path that begins with another child, or ends here, or goes on with child i
   pub others-by : (i : ℕ) (p q : List ℕ) (U : Ty) (s : Seat) (o : ℕ) → i < length (parts c) → Aside t i b b′ → typeAt q t ≡ some U → (i ∷ p) ≢ q
-      → ((q : List ℕ) → typeAt q (childTy t i) ≡ some U → p ≢ q → Like U (walk (i ∷ q) t s o b′) (walk (i ∷ q) t s o b)) → Like U (walk q t s o b′) (walk q t s o b)
+      → ((q : List ℕ) → typeAt q (childTy t i) ≡ some U → p ≢ q → Like U (walk (i ∷ q) t s o b′) (walk (i ∷ q) t s o b))
+      → Like U (walk q t s o b′) (walk q t s o b)
   unfolding walk
   others-by i p [] U s o k a e n f =
       rw (own-was s o (seen s o b), own-is s o (seen s o b′)) (subst (λ (A : Ty). Like A (seen s o b′) (seen s o b)) (type-end t U e) (whole-like i s o k))
   others-by i p (j ∷ q) U s o k a e n f = go (ℕ-discrete j i)
     where
       go : Dec (j ≡ i) → Like U (walk (j ∷ q) t s o b′) (walk (j ∷ q) t s o b)
-      go (yes z) = subst (λ (j : ℕ). Like U (walk (j ∷ q) t s o b′) (walk (j ∷ q) t s o b)) (sym z) (f q (subst (λ (j : ℕ). typeAt q (childTy t j) ≡ some U) z (type-child j q t U e)) (λ m. n (rw (z, m))))
+      go (yes z) = subst (λ (j : ℕ). Like U (walk (j ∷ q) t s o b′) (walk (j ∷ q) t s o b)) (sym z)
+          (f q (subst (λ (j : ℕ). typeAt q (childTy t j) ≡ some U) z (type-child j q t U e)) (λ m. n (rw (z, m))))
       go (no z) = like-refl (own-is s o _ ∙ ap (goOn q (λ t s o b. walk q t s o b)) (a j z s o) ∙ sym (own-was s o _))
 
   -- nothing stands past a leaf
-  pub past-end : (i : ℕ) (U : Ty) (s : Seat) (o : ℕ) → Leafy (childTy t i) → (q : List ℕ) → typeAt q (childTy t i) ≡ some U → [] ≢ q → Like U (walk (i ∷ q) t s o b′) (walk (i ∷ q) t s o b)
+  pub past-end : (i : ℕ) (U : Ty) (s : Seat) (o : ℕ) → Leafy (childTy t i) → (q : List ℕ) → typeAt q (childTy t i) ≡ some U → [] ≢ q
+      → Like U (walk (i ∷ q) t s o b′) (walk (i ∷ q) t s o b)
   past-end i U s o l [] e n = absurd (n refl)
   past-end i U s o l (j ∷ q) e n = absurd (leaf-end (childTy t i) U j q l e)
 

@@ -53,7 +53,8 @@ fixed-single (ro ts) v c u u′ e y y′ = absurd (Option·none-ne-some v e)
 no-range : (at : ℕ) (d d′ : List ℕ) (b a b′ a′ : List Range) (s s′ : List ℕ) → s ≡ s′ → b ≡ a → b′ ≡ a′ → Twin at d d′ b a s b′ a′ s′
 no-range at d d′ b a b′ a′ s s′ e f g = record { slot = e; adds = λ h. sym f ∙ h ∙ g; agree = λ q z. absurd (cons-not q b (z ∙ sym f)) }
 
-null-twin : (w : ℕ) (k : Kid) (at : ℕ) (d d′ : List ℕ) (b a b′ a′ : List Range) (x : Cell) (s s′ : List ℕ) → kidLays w k at d b x s a → kidLays w k at d′ b′ x s′ a′ → flag x ≡ 1 → Twin at d d′ b a s b′ a′ s′
+null-twin : (w : ℕ) (k : Kid) (at : ℕ) (d d′ : List ℕ) (b a b′ a′ : List Range) (x : Cell) (s s′ : List ℕ) → kidLays w k at d b x s a
+    → kidLays w k at d′ b′ x s′ a′ → flag x ≡ 1 → Twin at d d′ b a s b′ a′ s′
 unfolding onNull
 null-twin w k at d d′ b a b′ a′ (null u) s s′ y y′ f = no-range at d d′ b a b′ a′ s s′ (sym (y .is) ∙ y′ .is) (y .same) (y′ .same)
 null-twin w k at d d′ b a b′ a′ (leaf u) s s′ y y′ f = absurd (omega arith)
@@ -62,27 +63,33 @@ null-twin w k at d d′ b a b′ a′ (nodes u) s s′ y y′ f = absurd (omega 
 range-is : (q r : Range) (b a : List Range) → q ∷ b ≡ a → r ∷ b ≡ a → q ≡ r
 range-is q r b a e f = let g : q ∷ b ≡ r ∷ b = e ∙ sym f in cc
 
-placed-twin : (t : Ty) (at : ℕ) (d d′ : List ℕ) (b a b′ a′ : List Range) (x : Cell) (s s′ : List ℕ) (p : Placed (codec t .Lays) at d b x s a) (p′ : Placed (codec t .Lays) at d′ b′ x s′ a′)
+placed-twin : (t : Ty) (at : ℕ) (d d′ : List ℕ) (b a b′ a′ : List Range) (x : Cell) (s s′ : List ℕ) (p : Placed (codec t .Lays) at d b x s a)
+    (p′ : Placed (codec t .Lays) at d′ b′ x s′ a′)
     → p .place ≡ p′ .place → p .own ≡ p′ .own → Twin at d d′ b a s b′ a′ s′
 placed-twin t at d d′ b a b′ a′ x s s′ p p′ e f =
     let r = range (p .place) (pad (length (p .own))) in
     let m : range (p .place) (pad (length (p .own))) ∷ b′ ≡ a′ = rw (e, f) (p′ .more) in
     let long : length (padded (p .own)) ≡ pad (length (p .own)) = length-padded (p .own) in
-    let one : part d (p .place - at) (pad (length (p .own))) ≡ padded (p .own) = rw (← (p .there)) (take-at (padded (p .own)) (p .behind) (pad (length (p .own))) long) in
-    let two : part d′ (p .place - at) (pad (length (p .own))) ≡ padded (p .own) = rw (e, f, ← (p′ .there)) (take-at (padded (p′ .own)) (p′ .behind) (pad (length (p′ .own))) (length-padded (p′ .own))) in
+    let one : part d (p .place - at) (pad (length (p .own))) ≡ padded (p .own) = rw (← (p .there))
+    (take-at (padded (p .own)) (p .behind) (pad (length (p .own))) long) in
+    let two : part d′ (p .place - at) (pad (length (p .own))) ≡ padded (p .own) = rw (e, f, ← (p′ .there))
+    (take-at (padded (p′ .own)) (p′ .behind) (pad (length (p′ .own))) (length-padded (p′ .own))) in
     record {
       slot = sym (p .slot) ∙ rw (e, f) (p′ .slot);
       adds = λ h. sym (p .more) ∙ ap (λ (l : List Range). r ∷ l) h ∙ m;
-      agree = λ q z. subst (λ (q : Range). part d (q .start - at) (q .size) ≡ part d′ (q .start - at) (q .size)) (sym (range-is q r b a z (p .more))) (one ∙ sym two);
+      agree = λ q z. subst (λ (q : Range). part d (q .start - at) (q .size) ≡ part d′ (q .start - at) (q .size)) (sym (range-is q r b a z (p .more)))
+          (one ∙ sym two);
     }
 
 -- ---- a walk into a child
 
-module _ (F : ℕ → Ty) (c : Cell) (hs r b : List ℕ) (h w : ℕ) (ks : List Kid) (e : hs ++ r ≡ b) (eh : length hs ≡ h) (l : AllLawful w ks) (hF : (j : ℕ) → Holds w (codec (F j) .wide))
+module _ (F : ℕ → Ty) (c : Cell) (hs r b : List ℕ) (h w : ℕ) (ks : List Kid) (e : hs ++ r ≡ b) (eh : length hs ≡ h) (l : AllLawful w ks)
+    (hF : (j : ℕ) → Holds w (codec (F j) .wide))
     (y : BodyLays h w ks (parts c) r) (lim : length b < 2 ^ 32) (kF : (j : ℕ) → j < length (parts c) → kidAt ks j ≡ kid w (codec (F j)))
     (T : Ty) (steps : (r′ : List ℕ) (j : ℕ) (z : Seat) (o : ℕ) → stepIn T j z o (hs ++ r′) ≡ child h w (length ks) (F j) j o (hs ++ r′)) (whole : Lays T c b)
     (j : ℕ) (kj : j < length (parts c)) (zj : flag (partOf j c) ≡ 0) (nj : codec (F j) .wide ≡ none) where
-  abbrev held : Placed (codec (F j) .Lays) (front h w (length ks)) (y .variable) (spotIn h w ks (parts c) r l y j kj .before) (partOf j c) (spotIn h w ks (parts c) r l y j kj .slot) (spotIn h w ks (parts c) r l y j kj .after)
+  abbrev held : Placed (codec (F j) .Lays) (front h w (length ks)) (y .variable) (spotIn h w ks (parts c) r l y j kj .before) (partOf j c)
+      (spotIn h w ks (parts c) r l y j kj .slot) (spotIn h w ks (parts c) r l y j kj .after)
   held = placed-of F c hs r b h w ks e eh l hF y lim kF j kj zj nj
 
   walk-child : (q : List ℕ) (s : Seat) (o : ℕ) → walk (j ∷ q) T s o b ≡ walk q (F j) (seatOf h w (length ks) j o) (o + held .place) (held .own)
@@ -128,10 +135,13 @@ module _ (F : ℕ → Ty) (c : Cell) (hs : List ℕ) (h w : ℕ) (ks : List Kid)
     Same = Twin at (y .variable) (y′ .variable) (sp .before) (sp .after) (sp .slot) (sp′ .before) (sp′ .after) (sp′ .slot)
 
     lays-at : (wd : Option ℕ) → codec (F j) .wide ≡ wd → kidLays w (kidOf w wd (codec (F j))) at (y .variable) (sp .before) (partOf j c) (sp .slot) (sp .after)
-    lays-at wd q = subst (λ (o : Option ℕ). kidLays w (kidOf w o (codec (F j))) at (y .variable) (sp .before) (partOf j c) (sp .slot) (sp .after)) q (rw (kF j kj) at (sp .lays))
+    lays-at wd q = subst (λ (o : Option ℕ). kidLays w (kidOf w o (codec (F j))) at (y .variable) (sp .before) (partOf j c) (sp .slot) (sp .after)) q
+        (rw (kF j kj) at (sp .lays))
 
-    lays-at′ : (wd : Option ℕ) → codec (F j) .wide ≡ wd → kidLays w (kidOf w wd (codec (F j))) at (y′ .variable) (sp′ .before) (partOf j c) (sp′ .slot) (sp′ .after)
-    lays-at′ wd q = subst (λ (o : Option ℕ). kidLays w (kidOf w o (codec (F j))) at (y′ .variable) (sp′ .before) (partOf j c) (sp′ .slot) (sp′ .after)) q (rw (kF j kj) at (sp′ .lays))
+    lays-at′ : (wd : Option ℕ) → codec (F j) .wide ≡ wd → kidLays w (kidOf w wd (codec (F j))) at (y′ .variable) (sp′ .before) (partOf j c) (sp′ .slot)
+        (sp′ .after)
+    lays-at′ wd q = subst (λ (o : Option ℕ). kidLays w (kidOf w o (codec (F j))) at (y′ .variable) (sp′ .before) (partOf j c) (sp′ .slot) (sp′ .after)) q
+        (rw (kF j kj) at (sp′ .lays))
 
     here-twin : flag (partOf j c) ≡ 0 → (wd : Option ℕ) → codec (F j) .wide ≡ wd → Same
     unfolding kidOf typeAt
@@ -140,7 +150,8 @@ module _ (F : ℕ → Ty) (c : Cell) (hs : List ℕ) (h w : ℕ) (ks : List Kid)
         let p = inside-given w v t at (y .variable) (sp .before) (sp .after) (partOf j c) (sp .slot) (lays-at (some v) q) z in
         let p′ = inside-given w v t at (y′ .variable) (sp′ .before) (sp′ .after) (partOf j c) (sp′ .slot) (lays-at′ (some v) q) z in
         let f = fixed-single (F j) v (partOf j c) (p .own) (p′ .own) q (p .lays) (p′ .lays) in
-        no-range at (y .variable) (y′ .variable) (sp .before) (sp .after) (sp′ .before) (sp′ .after) (sp .slot) (sp′ .slot) (sym (p .slot) ∙ ap (fill w) f ∙ p′ .slot) (p .same) (p′ .same)
+        no-range at (y .variable) (y′ .variable) (sp .before) (sp .after) (sp′ .before) (sp′ .after) (sp .slot) (sp′ .slot)
+        (sym (p .slot) ∙ ap (fill w) f ∙ p′ .slot) (p .same) (p′ .same)
     here-twin z none q =
         let p = placed-of F c hs r b h w ks e eh l hF y lim kF j kj z q in
         let p′ = placed-of F c hs r′ b′ h w ks e′ eh l hF y′ lim′ kF j kj z q in
@@ -155,24 +166,28 @@ module _ (F : ℕ → Ty) (c : Cell) (hs : List ℕ) (h w : ℕ) (ks : List Kid)
         ) in
         let f = one j kj (partOf j c) (p .own) (p′ .own) seat (o + p .place) (p .lays) (p′ .lays) sh (λ i U g.
         sym (ap (starts U) (walk-child F c hs r b h w ks e eh l hF y lim kF T steps whole j kj z q i s o)) ∙ st (j ∷ i) U (typed j i U kj g)
-        ∙ ap (starts U) (walk-child F c hs r′ b′ h w ks e′ eh l hF y′ lim′ kF T steps whole′ j kj z q i s o ∙ ap (λ (n : ℕ). walk i (F j) seat (o + n) (p′ .own)) (sym pe))) in
+        ∙ ap (starts U) (walk-child F c hs r′ b′ h w ks e′ eh l hF y′ lim′ kF T steps whole′ j kj z q i s o
+        ∙ ap (λ (n : ℕ). walk i (F j) seat (o + n) (p′ .own)) (sym pe))) in
         placed-twin (F j) at (y .variable) (y′ .variable) (sp .before) (sp .after) (sp′ .before) (sp′ .after) (partOf j c) (sp .slot) (sp′ .slot) p p′ pe f
 
     twin-by : (f : ℕ) → flag (partOf j c) ≡ f → f < 2 → Same
     twin-by zero z k = here-twin z (codec (F j) .wide) refl
-    twin-by (suc zero) z k = null-twin w (kidAt ks j) at (y .variable) (y′ .variable) (sp .before) (sp .after) (sp′ .before) (sp′ .after) (partOf j c) (sp .slot) (sp′ .slot) (sp .lays) (sp′ .lays) z
+    twin-by (suc zero) z k = null-twin w (kidAt ks j) at (y .variable) (y′ .variable) (sp .before) (sp .after) (sp′ .before) (sp′ .after) (partOf j c)
+        (sp .slot) (sp′ .slot) (sp .lays) (sp′ .lays) z
     twin-by (suc (suc f)) z k = absurd (omega arith)
 
   pub body-same : r ≡ r′
   body-same =
       let d = y .variable in
       let d′ = y′ .variable in
-      let t = twins w at d d′ ks (parts c) (y .slots) (y′ .slots) [] [] (y .ranges) (y′ .ranges) l (y .children) (y′ .children) tt tt refl (λ j kj. twin-by j kj (flag (partOf j c)) refl (flag-bit (partOf j c))) in
+      let t = twins w at d d′ ks (parts c) (y .slots) (y′ .slots) [] [] (y .ranges) (y′ .ranges) l (y .children) (y′ .children) tt tt refl
+      (λ j kj. twin-by j kj (flag (partOf j c)) refl (flag-bit (partOf j c))) in
       let n : length d ≡ length d′ = sym (y .ends) ∙ ap total (t .ranges) ∙ y′ .ends in
       let g = data-same at d d′ (y .ranges) n (t .standing) (y .ends) (λ q m. go q (t .agree q m)) in
       sym (y .whole) ∙ rw (t .slots, g) (y′ .whole)
     where
-      go : (q : Range) → Among q [] ⊎ (part (y .variable) (q .start - at) (q .size) ≡ part (y′ .variable) (q .start - at) (q .size)) → part (y .variable) (q .start - at) (q .size) ≡ part (y′ .variable) (q .start - at) (q .size)
+      go : (q : Range) → Among q [] ⊎ (part (y .variable) (q .start - at) (q .size) ≡ part (y′ .variable) (q .start - at) (q .size))
+          → part (y .variable) (q .start - at) (q .size) ≡ part (y′ .variable) (q .start - at) (q .size)
       go q (inl m) = absurd (omega (arith, among-some m))
       go q (inr a) = a
 
@@ -186,8 +201,10 @@ list-single t one c b b′ s o y y′ lim st =
     let k = kid w (codec t) in
     let lim′ : length b′ < 2 ^ 32 = omega (arith, lays-size (li t) c b y, lays-size (li t) c b′ y′) in
     let small : m < 256 ^ 8 = omega (arith, list-says t c b y lim .room) in
-    let g = body-same (λ _. t) c (le 8 m) 8 w (replicate m k) (length-le 8 m) (repeat w m k (element-lawful t)) (λ _. array-holds (codec t .wide)) (λ j h. getD-replicate m j k nobody h) (li t)
-    (λ r′ j z o. rw (head-8 m r′ small, length-replicate)) (λ j q U h e. e) (y .rest) b (y .whole) (y .body) lim y (y′ .rest) b′ (y′ .whole) (y′ .body) lim′ y′ s o st (λ j h. one) in
+    let g = body-same (λ _. t) c (le 8 m) 8 w (replicate m k) (length-le 8 m) (repeat w m k (element-lawful t)) (λ _. array-holds (codec t .wide))
+    (λ j h. getD-replicate m j k nobody h) (li t)
+    (λ r′ j z o. rw (head-8 m r′ small, length-replicate)) (λ j q U h e. e) (y .rest) b (y .whole) (y .body) lim y (y′ .rest) b′ (y′ .whole)
+    (y′ .body) lim′ y′ s o st (λ j h. one) in
     sym (y .whole) ∙ ap (λ (u : List ℕ). le 8 m ++ u) g ∙ y′ .whole
 
 keys-walk : (k v : Ty) (c : Cell) (b p r : List ℕ) (s : Seat) (o : ℕ) (q : List ℕ) → Lays (ma k v) c b → length b < 2 ^ 32 → le 8 (length p) ++ (p ++ r) ≡ b
@@ -226,8 +243,10 @@ unfolding codec struct stepIn typeAt
 struct-single ts one c b b′ s o y y′ lim st =
     let lim′ : length b′ < 2 ^ 32 = omega (arith, lays-size (ro ts) c b y, lays-size (ro ts) c b′ y′) in
     let n : length (parts c) ≡ count ts = all-length 8 (kids ts) (parts c) (body-fit 0 8 (kids ts) (kids-lawful ts) (parts c) b (y .body)) ∙ kids-count ts in
-    body-same (field ts) c [] 0 8 (kids ts) refl (kids-lawful ts) (λ j. struct-holds (codec (field ts j) .wide) (codec (field ts j)) (codec-lawful (field ts j) .sized))
-    (λ j h. kids-at ts j (omega (arith, kids-count ts))) (ro ts) (λ r′ j z o. rw (kids-count ts)) (λ j q U h e. rw (assert-yes (decLt j (count ts)) (omega arith)) e)
+    body-same (field ts) c [] 0 8 (kids ts) refl (kids-lawful ts)
+    (λ j. struct-holds (codec (field ts j) .wide) (codec (field ts j)) (codec-lawful (field ts j) .sized))
+    (λ j h. kids-at ts j (omega (arith, kids-count ts))) (ro ts) (λ r′ j z o. rw (kids-count ts))
+    (λ j q U h e. rw (assert-yes (decLt j (count ts)) (omega arith)) e)
     b b refl (y .body) lim y b′ b′ refl (y′ .body) lim′ y′ s o st (λ j h. one j (omega arith))
 
 mutual
@@ -238,7 +257,8 @@ mutual
   single (text k) c b b′ s o y y′ lim st = sym (y .is) ∙ y′ .is
   single (li t) c b b′ s o y y′ lim st = list-single t (λ c b b′ s o y y′ lim st. single t c b b′ s o y y′ lim st) c b b′ s o y y′ lim st
   single (ma k v) c b b′ s o y y′ lim st =
-      map-single k v (list-single k (λ c b b′ s o y y′ lim st. single k c b b′ s o y y′ lim st)) (list-single v (λ c b b′ s o y y′ lim st. single v c b b′ s o y y′ lim st)) c b b′ s o y y′ lim st
+      map-single k v (list-single k (λ c b b′ s o y y′ lim st. single k c b b′ s o y y′ lim st))
+      (list-single v (λ c b b′ s o y y′ lim st. single v c b b′ s o y y′ lim st)) c b b′ s o y y′ lim st
   single (ro ts) c b b′ s o y y′ lim st = struct-single ts (λ j h. singles ts j h) c b b′ s o y y′ lim st
 
   singles : (ts : Tys) (j : ℕ) → j < count ts → Single (field ts j)

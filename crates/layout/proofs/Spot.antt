@@ -19,7 +19,8 @@ use Rattle.layout.proofs.Bitmaps.{cellAt}
 
 -- whatever stands beside the ranges rs is kept
 abbrev pub Safe : ℕ → List ℕ → List ℕ → List Range → Type 0
-Safe at d e rs = (q : Range) (qs : List Range) → ((z : Range) → Among z rs → Among z qs) → Standing at (at + length d) qs → Stands at (at + length d) qs q → Kept at d e q
+Safe at d e rs = (q : Range) (qs : List Range) → ((z : Range) → Among z rs → Among z qs) → Standing at (at + length d) qs → Stands at (at + length d) qs q
+    → Kept at d e q
 
 pub adds-among : {at stop : ℕ} {rs rs′ : List Range} → Adds at stop rs rs′ → (z : Range) → Among z rs → Among z rs′
 adds-among same z m = m
@@ -71,7 +72,8 @@ module _ (w at : ℕ) (d : List ℕ) where
     pub put : (e : List ℕ) (x : Cell) (v : List ℕ) → length e ≡ length d → ((q : Range) → Among q before → Kept at d e q) → Safe at d e after
         → length v ≡ w → kidLays w (kidAt ks i) at e before x v after → AllLay w at e ks (set cs i x) (sets s (i * w) v) rs rs′
 
-  unfoldable pub spot : (ks : List Kid) (cs : List Cell) (s : List ℕ) (rs rs′ : List Range) (i : ℕ) → AllLawful w ks → AllLay w at d ks cs s rs rs′ → Standing at (at + length d) rs → i < length cs
+  unfoldable pub spot : (ks : List Kid) (cs : List Cell) (s : List ℕ) (rs rs′ : List Range) (i : ℕ) → AllLawful w ks → AllLay w at d ks cs s rs rs′
+      → Standing at (at + length d) rs → i < length cs
       → Spot ks cs s rs rs′ i
   unfolding AllLay
   spot [] [] s rs rs′ i l y t h = absurd (omega arith)
@@ -120,8 +122,10 @@ module _ (w at : ℕ) (d : List ℕ) where
       }
 
   -- the ranges up to a child are among those before a later one
-  pub spot-order : (ks : List Kid) (cs : List Cell) (s : List ℕ) (rs rs′ : List Range) (i j : ℕ) (l : AllLawful w ks) (y : AllLay w at d ks cs s rs rs′) (t : Standing at (at + length d) rs)
-      (h : i < length cs) (k : j < length cs) → i < j → (z : Range) → Among z (spot ks cs s rs rs′ i l y t h .after) → Among z (spot ks cs s rs rs′ j l y t k .before)
+  pub spot-order : (ks : List Kid) (cs : List Cell) (s : List ℕ) (rs rs′ : List Range) (i j : ℕ) (l : AllLawful w ks) (y : AllLay w at d ks cs s rs rs′)
+      (t : Standing at (at + length d) rs)
+      (h : i < length cs) (k : j < length cs) → i < j → (z : Range) → Among z (spot ks cs s rs rs′ i l y t h .after)
+      → Among z (spot ks cs s rs rs′ j l y t k .before)
   unfolding AllLay spot
   spot-order [] [] s rs rs′ i j l y t h k o z m = absurd (omega arith)
   spot-order (q ∷ ks) (c ∷ cs) s rs rs′ zero zero l y t h k o z m = absurd (omega arith)
@@ -135,11 +139,13 @@ module _ (w at : ℕ) (d : List ℕ) where
 
 -- ---- bytes put into one range: what stands apart from it is kept
 
-apart-off : (q r : Range) (at j n k : ℕ) → k ≡ q .size → at ≤ q .start → at ≤ r .start → r .start - at ≤ j → j + n ≤ r .start - at + r .size → Apart q r → (q .start - at + k ≤ j) ⊎ (j + n ≤ q .start - at)
+apart-off : (q r : Range) (at j n k : ℕ) → k ≡ q .size → at ≤ q .start → at ≤ r .start → r .start - at ≤ j → j + n ≤ r .start - at + r .size → Apart q r
+    → (q .start - at + k ≤ j) ⊎ (j + n ≤ q .start - at)
 apart-off q r at j n k e h g a b (inl x) = inl (omega arith)
 apart-off q r at j n k e h g a b (inr x) = inr (omega arith)
 
-pub kept-apart : (at : ℕ) (d : List ℕ) (r q : Range) (j : ℕ) (v : List ℕ) → Within at (at + length d) r → r .start - at ≤ j → j + length v ≤ r .start - at + r .size
+pub kept-apart : (at : ℕ) (d : List ℕ) (r q : Range) (j : ℕ) (v : List ℕ) → Within at (at + length d) r → r .start - at ≤ j
+    → j + length v ≤ r .start - at + r .size
     → Within at (at + length d) q → Apart q r → Kept at d (sets d j v) q
 kept-apart at d r q j v h lo hi g x u z n e =
     let a = q .start - at in
@@ -148,7 +154,8 @@ kept-apart at d r q j v h lo hi g x u z n e =
     let gl = g .low in
     let gh = g .high in
     let m : a + length u ≤ length d = omega arith in
-    let t : part (sets d j v) a (length u) ≡ u = part-apart d j v (omega arith) a (length u) (apart-off q r at j (length v) (length u) n gl hl lo hi x) m ∙ ap (take (length u)) (sym e) ∙ take-append-seam u z in
+    let t : part (sets d j v) a (length u) ≡ u = part-apart d j v (omega arith) a (length u) (apart-off q r at j (length v) (length u) n gl hl lo hi x) m
+    ∙ ap (take (length u)) (sym e) ∙ take-append-seam u z in
     let y = drop a (sets d j v) in
     (drop (length u) y, ap (λ (l : List ℕ). l ++ drop (length u) y) (sym t) ∙ take-append-drop (length u) y)
 

@@ -30,7 +30,8 @@ use Rattle.layout.proofs.Steps.{kidAt}
 use Rattle.layout.proofs.Bitmaps.{nulled}
 use Rattle.layout.proofs.Spot.{Spot, spot-order, added}
 use Rattle.layout.proofs.Aside.{Holds, Aside, Agree, child-same}
-use Rattle.layout.proofs.Bodies.{put-behind, outside-lays, outside-kept, outside-safe, spotIn, count-in, fit-in, slot-in, flag-in, variable-in, body-slot, body-slot-alone, body-data}
+use Rattle.layout.proofs.Bodies.{put-behind, outside-lays, outside-kept, outside-safe, spotIn, count-in, fit-in, slot-in, flag-in, variable-in}
+use Rattle.layout.proofs.Bodies.{body-slot, body-slot-alone, body-data}
 
 -- ---- what a step comes to
 
@@ -56,7 +57,8 @@ pub record Seated (T t : Ty) (c : Cell) (i o : ℕ) (b : List ℕ) (s : Seat) : 
   pub bit-room : bits₀ + i / 8 < length b
   pub slot-room : slot₀ + s .wide ≤ length b
   pub long : (f : Fixed) → t ≡ fix f → (x : Cell) (v : List ℕ) → FixedSlot (s .wide) f x v → length v ≡ s .wide
-  pub fixed : (f : Fixed) → t ≡ fix f → (x : Cell) (v : List ℕ) → FixedSlot (s .wide) f x v → Lays T (node (set (parts c) i x)) (sets (putBit b bits₀ i (nulled x)) slot₀ v)
+  pub fixed : (f : Fixed) → t ≡ fix f → (x : Cell) (v : List ℕ) → FixedSlot (s .wide) f x v
+      → Lays T (node (set (parts c) i x)) (sets (putBit b bits₀ i (nulled x)) slot₀ v)
   pub emptied : codec t .wide ≡ none → flag (partOf i c) ≡ 1 → Lays T (node (set (parts c) i (null (zeros (s .wide))))) (sets b slot₀ (zeros (s .wide)))
   pub fixed-aside : (f : Fixed) → t ≡ fix f → (x : Cell) (v : List ℕ) → FixedSlot (s .wide) f x v → Aside T i b (sets (putBit b bits₀ i (nulled x)) slot₀ v)
   pub emptied-aside : codec t .wide ≡ none → flag (partOf i c) ≡ 1 → Aside T i b (sets b slot₀ (zeros (s .wide)))
@@ -72,7 +74,8 @@ pub record Held (T t : Ty) (c : Cell) (i : ℕ) (b : List ℕ) (j : ℕ) (u : Li
   pub lays : Lays t (partOf i c) u
   pub there : part b j (length u) ≡ u
   pub room : j + length u ≤ length b
-  pub put : codec t .wide ≡ none → (x : Cell) (v : List ℕ) → Lays t x v → length v ≡ length u → length (parts x) ≡ length (parts (partOf i c)) → Lays T (node (set (parts c) i x)) (sets b j v)
+  pub put : codec t .wide ≡ none → (x : Cell) (v : List ℕ) → Lays t x v → length v ≡ length u → length (parts x) ≡ length (parts (partOf i c))
+      → Lays T (node (set (parts c) i x)) (sets b j v)
   pub put-aside : codec t .wide ≡ none → (v : List ℕ) → length v ≡ length u → Aside T i b (sets b j v)
   pub put-there : codec t .wide ≡ none → (v : List ℕ) → length v ≡ length u → (z : Seat) (o : ℕ) → Into T t i j o z b u (sets b j v) v
 
@@ -80,7 +83,8 @@ pub record Held (T t : Ty) (c : Cell) (i : ℕ) (b : List ℕ) (j : ℕ) (u : Li
 pub data Comes (T t : Ty) (c : Cell) (i o : ℕ) (b : List ℕ) : Step → Type 0 where
   past : length (parts c) ≤ i → Comes T t c i o b (stop (numbered 5))
   missing : {s : Seat} → i < length (parts c) → flag (partOf i c) ≡ 1 → Seated T t c i o b s → Comes T t c i o b (toNull s)
-  on : {s : Seat} {j : ℕ} {u : List ℕ} → i < length (parts c) → flag (partOf i c) ≡ 0 → Held T t c i b j u → (Leafy t → Seated T t c i o b s) → Comes T t c i o b (into t s (o + j) u)
+  on : {s : Seat} {j : ℕ} {u : List ℕ} → i < length (parts c) → flag (partOf i c) ≡ 0 → Held T t c i b j u → (Leafy t → Seated T t c i o b s)
+      → Comes T t c i o b (into t s (o + j) u)
 
 -- ---- a child of a body
 
@@ -89,25 +93,30 @@ unfolding mustStep
 must-step (yes p) n s h = refl
 must-step (no q) n s h = absurd (q h)
 
-pub inside-given : (w v : ℕ) (c : Codec) (at : ℕ) (d : List ℕ) (before after : List Range) (x : Cell) (s : List ℕ) → kidLays w (inside w v c) at d before x s after → flag x ≡ 0 → Inside (c .Lays) w before x s after
+pub inside-given : (w v : ℕ) (c : Codec) (at : ℕ) (d : List ℕ) (before after : List Range) (x : Cell) (s : List ℕ)
+    → kidLays w (inside w v c) at d before x s after → flag x ≡ 0 → Inside (c .Lays) w before x s after
 unfolding inside
 inside-given w v c at d before after x s y e = rw (present _ _ x e) at y
 
-pub outside-given : (w : ℕ) (c : Codec) (at : ℕ) (d : List ℕ) (before after : List Range) (x : Cell) (s : List ℕ) → kidLays w (outside c) at d before x s after → flag x ≡ 0 → Placed (c .Lays) at d before x s after
+pub outside-given : (w : ℕ) (c : Codec) (at : ℕ) (d : List ℕ) (before after : List Range) (x : Cell) (s : List ℕ)
+    → kidLays w (outside c) at d before x s after → flag x ≡ 0 → Placed (c .Lays) at d before x s after
 unfolding outside
 outside-given w c at d before after x s y e = rw (present _ _ x e) at y
 
-outside-made : (w : ℕ) (c : Codec) (at : ℕ) (d : List ℕ) (before after : List Range) (x : Cell) (s : List ℕ) → flag x ≡ 0 → Placed (c .Lays) at d before x s after → kidLays w (outside c) at d before x s after
+outside-made : (w : ℕ) (c : Codec) (at : ℕ) (d : List ℕ) (before after : List Range) (x : Cell) (s : List ℕ) → flag x ≡ 0
+    → Placed (c .Lays) at d before x s after → kidLays w (outside c) at d before x s after
 unfolding outside
 outside-made w c at d before after x s e y = rw (present _ _ x e) y
 
-inside-same : (w v : ℕ) (c : Codec) (at : ℕ) (d : List ℕ) (before after : List Range) (x : Cell) (s : List ℕ) → kidLays w (inside w v c) at d before x s after → before ≡ after
+inside-same : (w v : ℕ) (c : Codec) (at : ℕ) (d : List ℕ) (before after : List Range) (x : Cell) (s : List ℕ)
+    → kidLays w (inside w v c) at d before x s after → before ≡ after
 unfolding inside onNull
 inside-same w v c at d before after (null u) s y = y .same
 inside-same w v c at d before after (leaf u) s y = y .same
 inside-same w v c at d before after (nodes u) s y = y .same
 
-null-same : (w : ℕ) (k : Kid) (at : ℕ) (d : List ℕ) (before after : List Range) (x : Cell) (s : List ℕ) → kidLays w k at d before x s after → flag x ≡ 1 → before ≡ after
+null-same : (w : ℕ) (k : Kid) (at : ℕ) (d : List ℕ) (before after : List Range) (x : Cell) (s : List ℕ) → kidLays w k at d before x s after → flag x ≡ 1
+    → before ≡ after
 unfolding onNull
 null-same w k at d before after (null u) s y e = y .same
 null-same w k at d before after (leaf u) s y e = absurd (omega arith)
@@ -126,20 +135,39 @@ pub record FixedIn (t : Ty) (w at : ℕ) (d : List ℕ) (before after : List Ran
   pub wide : length v ≡ w
   pub lays : kidLays w (kid w (codec t)) at d before x v after
 
-fixed-in : (f : Fixed) (w at : ℕ) (d : List ℕ) (before after : List Range) (x₀ : Cell) (s₀ : List ℕ) (x : Cell) (v : List ℕ) → LawfulKid w (kid w (codec (fix f)))
+fixed-in : (f : Fixed) (w at : ℕ) (d : List ℕ) (before after : List Range) (x₀ : Cell) (s₀ : List ℕ) (x : Cell) (v : List ℕ)
+    → LawfulKid w (kid w (codec (fix f)))
     → kidLays w (kid w (codec (fix f))) at d before x₀ s₀ after → FixedSlot w f x v → FixedIn (fix f) w at d before after x v
 unfolding codec kidOf number inside onNull bytes
 fixed-in f w at d before after x₀ s₀ x v lk y nulls =
-    record { wide = length-replicate w 0; lays = record { fits = record { wide = length-replicate w 0; proper = bytes-zeros w }; is = refl; same = inside-same w (width f) (number (width f) (limit f)) at d before after x₀ s₀ y } }
+    record {
+      wide = length-replicate w 0;
+      lays = record {
+        fits = record { wide = length-replicate w 0; proper = bytes-zeros w };
+        is = refl;
+        same =
+            inside-same w (width f) (number (width f) (limit f)) at d before after x₀ s₀ y;
+      };
+    }
 fixed-in f w at d before after x₀ s₀ x v lk y (given {u = u} nf) =
-    record { wide = lk .wide 0 (leaf u) nf; lays = record { own = u; lays = record { fits = nf; is = refl }; slot = refl; same = inside-same w (width f) (number (width f) (limit f)) at d before after x₀ s₀ y } }
+    record {
+      wide = lk .wide 0 (leaf u) nf;
+      lays = record {
+        own = u;
+        lays = record { fits = nf; is = refl };
+        slot = refl;
+        same = inside-same w (width f)
+            (number (width f) (limit f)) at d before after x₀ s₀ y;
+      };
+    }
 
 -- the slot of a value, read
 record SlotSays (place : ℕ) (own : List ℕ) (s : List ℕ) : Type 0 where
   offset : num s / 2 ^ 32 ≡ place
   size : num s % 2 ^ 32 ≡ length own
 
-slot-says : (c : Codec) (at : ℕ) (d : List ℕ) (before after : List Range) (x : Cell) (s : List ℕ) (y : Placed (c .Lays) at d before x s after) → at + length d < 2 ^ 32 → SlotSays (y .place) (y .own) s
+slot-says : (c : Codec) (at : ℕ) (d : List ℕ) (before after : List Range) (x : Cell) (s : List ℕ) (y : Placed (c .Lays) at d before x s after)
+    → at + length d < 2 ^ 32 → SlotSays (y .place) (y .own) s
 slot-says c at d before after x s y lim =
     let z = stands-within (y .stands) .high in
     let o = y .place in
@@ -148,7 +176,8 @@ slot-says c at d before after x s y lim =
     record { offset = omega arith; size = omega arith }
 
 -- the children of a body b, with its header hs; F has their types
-module _ (F : ℕ → Ty) (c : Cell) (hs r b : List ℕ) (h w : ℕ) (ks : List Kid) (e : hs ++ r ≡ b) (eh : length hs ≡ h) (l : AllLawful w ks) (hF : (j : ℕ) → Holds w (codec (F j) .wide))
+module _ (F : ℕ → Ty) (c : Cell) (hs r b : List ℕ) (h w : ℕ) (ks : List Kid) (e : hs ++ r ≡ b) (eh : length hs ≡ h) (l : AllLawful w ks)
+    (hF : (j : ℕ) → Holds w (codec (F j) .wide))
     (y : BodyLays h w ks (parts c) r) (lim : length b < 2 ^ 32) (kF : (j : ℕ) → j < length (parts c) → kidAt ks j ≡ kid w (codec (F j))) where
   abbrev n : ℕ
   n = length ks
@@ -185,7 +214,8 @@ module _ (F : ℕ → Ty) (c : Cell) (hs r b : List ℕ) (h w : ℕ) (ks : List 
     pub placed-of : Placed (codec (F j) .Lays) at (y .variable) (spotAt .before) (partOf j c) (spotAt .slot) (spotAt .after)
     unfolding kidOf
     placed-of =
-        let a : kidLays w (kidOf w (codec (F j) .wide) (codec (F j))) at (y .variable) (spotAt .before) (partOf j c) (spotAt .slot) (spotAt .after) = rw (kF j kj) at (spotAt .lays) in
+        let a : kidLays w (kidOf w (codec (F j) .wide) (codec (F j))) at (y .variable) (spotAt .before) (partOf j c) (spotAt .slot) (spotAt .after) = rw
+        (kF j kj) at (spotAt .lays) in
         let g : kidLays w (outside (codec (F j))) at (y .variable) (spotAt .before) (partOf j c) (spotAt .slot) (spotAt .after) =
         subst (λ (o : Option ℕ). kidLays w (kidOf w o (codec (F j))) at (y .variable) (spotAt .before) (partOf j c) (spotAt .slot) (spotAt .after)) nj a in
         outside-given w (codec (F j)) at (y .variable) (spotAt .before) (spotAt .after) (partOf j c) (spotAt .slot) g zj
@@ -194,10 +224,12 @@ module _ (F : ℕ → Ty) (c : Cell) (hs r b : List ℕ) (h w : ℕ) (ks : List 
     slot-eight = let w8 : w ≡ 8 = subst (Holds w) nj (hF j) in ap (part b (h + (bitmap n + j * w))) (sym w8) ∙ slot-of j kj
 
     says-of : SlotSays (placed-of .place) (placed-of .own) (part b (h + (bitmap n + j * w)) 8)
-    says-of = rw slot-eight (slot-says (codec (F j)) at (y .variable) (spotAt .before) (spotAt .after) (partOf j c) (spotAt .slot) placed-of (omega (arith, size-b, room-b)))
+    says-of = rw slot-eight (slot-says (codec (F j)) at (y .variable) (spotAt .before) (spotAt .after) (partOf j c) (spotAt .slot) placed-of
+        (omega (arith, size-b, room-b)))
 
     -- a step to it, in bytes b′ that have its bit and slot too: v is what stands there in its place
-    pub there-of : (b′ v : List ℕ) → length b′ ≡ length b → part b′ h (bitmap n) ≡ part b h (bitmap n) → part b′ (h + (bitmap n + j * w)) 8 ≡ part b (h + (bitmap n + j * w)) 8
+    pub there-of : (b′ v : List ℕ) → length b′ ≡ length b → part b′ h (bitmap n) ≡ part b h (bitmap n)
+        → part b′ (h + (bitmap n + j * w)) 8 ≡ part b (h + (bitmap n + j * w)) 8
         → part b′ (placed-of .place) (length (placed-of .own)) ≡ v → (o : ℕ) → child h w n (F j) j o b′ ≡ into (F j) (seatOf h w n j o) (o + placed-of .place) v
     unfolding child byFlag bySlot
     there-of b′ v len bits slot own o =
@@ -222,11 +254,13 @@ module _ (F : ℕ → Ty) (c : Cell) (hs r b : List ℕ) (h w : ℕ) (ks : List 
         let pl = placed-of in
         let pe : pl .place ≡ h + (bitmap n + pad (n * w) + (pl .place - at)) = omega (arith, low-of) in
         let dr : drop (pl .place) b ≡ padded (pl .own) ++ pl .behind =
-        ap (λ (j : ℕ). drop j b) pe ∙ drop-b (bitmap n + pad (n * w) + (pl .place - at)) ∙ variable-in h w ks (parts c) r l y j kj (pl .place - at) ∙ sym (pl .there) in
+        ap (λ (j : ℕ). drop j b) pe ∙ drop-b (bitmap n + pad (n * w) + (pl .place - at)) ∙ variable-in h w ks (parts c) r l y j kj (pl .place - at)
+        ∙ sym (pl .there) in
         ap (take (length (pl .own))) dr ∙ take-own (pl .own) (pl .behind)
 
   -- two of them are apart
-  module _ (a d : ℕ) (ka : a < length (parts c)) (kd : d < length (parts c)) (za : flag (partOf a c) ≡ 0) (zd : flag (partOf d c) ≡ 0) (na : codec (F a) .wide ≡ none) (nd : codec (F d) .wide ≡ none) where
+  module _ (a d : ℕ) (ka : a < length (parts c)) (kd : d < length (parts c)) (za : flag (partOf a c) ≡ 0) (zd : flag (partOf d c) ≡ 0)
+      (na : codec (F a) .wide ≡ none) (nd : codec (F d) .wide ≡ none) where
     abbrev ra : Range
     ra = range (placed-of a ka za na .place) (pad (length (placed-of a ka za na .own)))
 
@@ -236,14 +270,17 @@ module _ (F : ℕ → Ty) (c : Cell) (hs r b : List ℕ) (h w : ℕ) (ks : List 
     later-apart : a < d → Apart rd ra
     later-apart lt =
         stands-apart (placed-of d kd zd nd .stands) (spotIn h w ks (parts c) r l y d kd .standing)
-        (spot-order w at (y .variable) ks (parts c) (y .slots) [] (y .ranges) a d l (y .children) tt ka kd lt ra (added ra (spotIn h w ks (parts c) r l y a ka .before) (spotIn h w ks (parts c) r l y a ka .after) (placed-of a ka za na .more)))
+        (spot-order w at (y .variable) ks (parts c) (y .slots) [] (y .ranges) a d l (y .children) tt ka kd lt ra
+        (added ra (spotIn h w ks (parts c) r l y a ka .before) (spotIn h w ks (parts c) r l y a ka .after) (placed-of a ka za na .more)))
 
-  both-apart : (a d : ℕ) (ka : a < length (parts c)) (kd : d < length (parts c)) (za : flag (partOf a c) ≡ 0) (zd : flag (partOf d c) ≡ 0) (na : codec (F a) .wide ≡ none) (nd : codec (F d) .wide ≡ none)
+  both-apart : (a d : ℕ) (ka : a < length (parts c)) (kd : d < length (parts c)) (za : flag (partOf a c) ≡ 0) (zd : flag (partOf d c) ≡ 0)
+      (na : codec (F a) .wide ≡ none) (nd : codec (F d) .wide ≡ none)
       → a ≢ d → Dec (a < d) → Apart (rd a d ka kd za zd na nd) (ra a d ka kd za zd na nd)
   both-apart a d ka kd za zd na nd ne (yes lt) = later-apart a d ka kd za zd na nd lt
   both-apart a d ka kd za zd na nd ne (no ge) = apart-turn _ _ (later-apart d a kd ka zd za nd na (omega arith))
 
-  module _ (T : Ty) (i o : ℕ) (lk : LawfulKid w (kid w (codec (F i)))) (wrap : (cs : List Cell) (r′ : List ℕ) → length cs ≡ length (parts c) → length r′ ≡ length r → BodyLays h w ks cs r′ → Lays T (node cs) (hs ++ r′))
+  module _ (T : Ty) (i o : ℕ) (lk : LawfulKid w (kid w (codec (F i))))
+      (wrap : (cs : List Cell) (r′ : List ℕ) → length cs ≡ length (parts c) → length r′ ≡ length r → BodyLays h w ks cs r′ → Lays T (node cs) (hs ++ r′))
       (steps : (r′ : List ℕ) (j : ℕ) (z : Seat) (o : ℕ) → stepIn T j z o (hs ++ r′) ≡ child h w (length ks) (F j) j o (hs ++ r′)) where
     abbrev t : Ty
     t = F i
@@ -271,14 +308,18 @@ module _ (F : ℕ → Ty) (c : Cell) (hs r b : List ℕ) (h w : ℕ) (ks : List 
           let r′ = sets (putBit r 0 i (nulled x)) (bitmap n + i * w) v in
           let p : putBit b h i (nulled x) ≡ hs ++ putBit r 0 i (nulled x) =
           rw (← e) (ap (λ (q : ℕ). putBit (hs ++ r) q i (nulled x)) (sym (omega (arith, eh))) ∙ put-behind hs r 0 i (nulled x)) in
-          let q : sets (putBit b h i (nulled x)) (h + (bitmap n + i * w)) v ≡ hs ++ r′ = rw (p, ← eh) (sets-behind hs (putBit r 0 i (nulled x)) (bitmap n + i * w) v) in
-          rw q (wrap (set (parts c) i x) r′ (length-set (parts c) i x) (length-sets (putBit r 0 i (nulled x)) (bitmap n + i * w) v ∙ length-put r 0 i (nulled x))
+          let q : sets (putBit b h i (nulled x)) (h + (bitmap n + i * w)) v ≡ hs ++ r′ = rw (p, ← eh)
+          (sets-behind hs (putBit r 0 i (nulled x)) (bitmap n + i * w) v) in
+          rw q (wrap (set (parts c) i x) r′ (length-set (parts c) i x)
+          (length-sets (putBit r 0 i (nulled x)) (bitmap n + i * w) v ∙ length-put r 0 i (nulled x))
           (body-slot h w ks (parts c) r l y i k x v m (rw (kt k) z)))
 
-      seat-alone : (x : Cell) (v : List ℕ) → length v ≡ w → flag x ≡ flag (partOf i c) → kidLays w (kid w (codec t)) at (y .variable) (sp .before) x v (sp .after)
+      seat-alone : (x : Cell) (v : List ℕ) → length v ≡ w → flag x ≡ flag (partOf i c)
+          → kidLays w (kid w (codec t)) at (y .variable) (sp .before) x v (sp .after)
           → Lays T (node (set (parts c) i x)) (sets b (h + (bitmap n + i * w)) v)
       seat-alone x v m f z =
-          rw (sets-b (bitmap n + i * w) v) (wrap (set (parts c) i x) (sets r (bitmap n + i * w) v) (length-set (parts c) i x) (length-sets r (bitmap n + i * w) v)
+          rw (sets-b (bitmap n + i * w) v) (wrap (set (parts c) i x) (sets r (bitmap n + i * w) v) (length-set (parts c) i x)
+          (length-sets r (bitmap n + i * w) v)
           (body-slot-alone h w ks (parts c) r l y i k x v m (rw (kt k) z) f))
 
       -- ---- the other children
@@ -289,7 +330,8 @@ module _ (F : ℕ → Ty) (c : Cell) (hs r b : List ℕ) (h w : ℕ) (ks : List 
           ∙ child-same h w n (F j) j b b′ o′ (hF j) (λ kj. a j ne (omega (arith, counted)))
           ∙ sym (ap (stepIn T j z o′) (sym e) ∙ steps r j z o′ ∙ ap (child h w n (F j) j o′) e)
 
-      slots-apart : (j : ℕ) → j ≢ i → Dec (j < i) → (h + (bitmap n + j * w) + w ≤ h + (bitmap n + i * w)) ⊎ (h + (bitmap n + i * w) + w ≤ h + (bitmap n + j * w))
+      slots-apart : (j : ℕ) → j ≢ i → Dec (j < i) → (h + (bitmap n + j * w) + w ≤ h + (bitmap n + i * w)) ⊎
+          (h + (bitmap n + i * w) + w ≤ h + (bitmap n + j * w))
       slots-apart j ne (yes lt) = inl (omega (arith, mul-le-mul-right {m = suc j} {n = i} w lt))
       slots-apart j ne (no ge) = inr (omega (arith, mul-le-mul-right {m = suc i} {n = j} w (omega arith)))
 
@@ -297,7 +339,8 @@ module _ (F : ℕ → Ty) (c : Cell) (hs r b : List ℕ) (h w : ℕ) (ks : List 
       abbrev Stay : List ℕ → Type 0
       Stay b′ = (a q : ℕ) → h + bitmap n ≤ a → a + q ≤ length b → (a + q ≤ h + (bitmap n + i * w)) ⊎ (h + (bitmap n + i * w) + w ≤ a) → part b′ a q ≡ part b a q
 
-      agree-slot : (b′ : List ℕ) → length b′ ≡ length b → ((j : ℕ) → j ≢ i → j < length (parts c) → num (part b′ h (bitmap n)) / 2 ^ j % 2 ≡ num (part b h (bitmap n)) / 2 ^ j % 2)
+      agree-slot : (b′ : List ℕ) → length b′ ≡ length b → ((j : ℕ) → j ≢ i → j < length (parts c)
+          → num (part b′ h (bitmap n)) / 2 ^ j % 2 ≡ num (part b h (bitmap n)) / 2 ^ j % 2)
           → Stay b′ → (j : ℕ) → j ≢ i → j < length (parts c) → Agree h w n (F j) j b b′
       agree-slot b′ len bit stay j ne kj = record {
         size = len;
@@ -306,7 +349,8 @@ module _ (F : ℕ → Ty) (c : Cell) (hs r b : List ℕ) (h w : ℕ) (ks : List 
         value = λ z q.
             let f : flag (partOf j c) ≡ 0 = sym (flag-of j kj) ∙ z in
             let s = says-of j kj f q in
-            rw (s .offset, s .size) (stay (placed-of j kj f q .place) (length (placed-of j kj f q .own)) (omega (arith, low-of j kj f q)) (omega (arith, high-of j kj f q))
+            rw (s .offset, s .size) (stay (placed-of j kj f q .place) (length (placed-of j kj f q .own)) (omega (arith, low-of j kj f q))
+            (omega (arith, high-of j kj f q))
             (inr (omega (arith, low-of j kj f q, fit-in h w ks (parts c) r l y i k))));
       }
 
@@ -327,18 +371,22 @@ module _ (F : ℕ → Ty) (c : Cell) (hs r b : List ℕ) (h w : ℕ) (ks : List 
           let len : length b′ ≡ length b = length-sets g (h + (bitmap n + i * w)) v ∙ lg in
           let bits : (j : ℕ) → j ≢ i → j < length (parts c) → num (part b′ h (bitmap n)) / 2 ^ j % 2 ≡ num (part b h (bitmap n)) / 2 ^ j % 2 = λ j ne kj.
           let d : drop h b′ ≡ r′ = rw q (drop-at hs r′ h eh) in
-          rw d (flag-in h w ks (set (parts c) i x) r′ l y′ j (rw length-set kj)) ∙ ap (λ (z : Cell). flag z) (getD-set-other (parts c) i j x (leaf []) ne) ∙ sym (flag-of j kj) in
+          rw d (flag-in h w ks (set (parts c) i x) r′ l y′ j (rw length-set kj)) ∙ ap (λ (z : Cell). flag z) (getD-set-other (parts c) i j x (leaf []) ne)
+          ∙ sym (flag-of j kj) in
           aside-by b′ r′ q (agree-slot b′ len bits λ a s lo hi ap.
           part-apart g (h + (bitmap n + i * w)) v (omega (arith, slot-fits)) a s (rw m ap) (omega arith)
-          ∙ part-apart b (h + i / 8) (withBit (getD b (h + i / 8) 0) (i % 8) (nulled x) ∷ []) (omega (arith, slot-fits, count-in h w ks (parts c) r l y i k)) a s (inr (omega (arith, count-in h w ks (parts c) r l y i k))) hi)
+          ∙ part-apart b (h + i / 8) (withBit (getD b (h + i / 8) 0) (i % 8) (nulled x) ∷ [])
+          (omega (arith, slot-fits, count-in h w ks (parts c) r l y i k)) a s (inr (omega (arith, count-in h w ks (parts c) r l y i k))) hi)
 
       aside-alone : (v : List ℕ) → length v ≡ w → Aside T i b (sets b (h + (bitmap n + i * w)) v)
       aside-alone v m =
           let b′ = sets b (h + (bitmap n + i * w)) v in
           let fits : h + (bitmap n + i * w) + length v ≤ length b = omega (arith, slot-fits) in
-          let bits : part b′ h (bitmap n) ≡ part b h (bitmap n) = part-apart b (h + (bitmap n + i * w)) v fits h (bitmap n) (inl (omega arith)) (omega (arith, slot-fits)) in
+          let bits : part b′ h (bitmap n) ≡ part b h (bitmap n) = part-apart b (h + (bitmap n + i * w)) v fits h (bitmap n) (inl (omega arith))
+          (omega (arith, slot-fits)) in
           aside-by b′ (sets r (bitmap n + i * w) v) (sets-b (bitmap n + i * w) v)
-          (agree-slot b′ (length-sets b (h + (bitmap n + i * w)) v) (λ j ne kj. rw bits) λ a s lo hi ap. part-apart b (h + (bitmap n + i * w)) v fits a s (rw m ap) hi)
+          (agree-slot b′ (length-sets b (h + (bitmap n + i * w)) v) (λ j ne kj. rw bits) λ a s lo hi ap. part-apart b (h + (bitmap n + i * w)) v fits a s
+          (rw m ap) hi)
 
       flag-part : flag (partOf i c) < 2
       flag-part = flag-bit (partOf i c)
@@ -346,7 +394,8 @@ module _ (F : ℕ → Ty) (c : Cell) (hs r b : List ℕ) (h w : ℕ) (ks : List 
       fixed-here : (f : Fixed) → t ≡ fix f → (x : Cell) (v : List ℕ) → FixedSlot w f x v → FixedIn t w at (y .variable) (sp .before) (sp .after) x v
       fixed-here f ft x v fs =
           subst (λ (t : Ty). LawfulKid w (kid w (codec t)) → kidLays w (kid w (codec t)) at (y .variable) (sp .before) (partOf i c) (sp .slot) (sp .after)
-          → FixedIn t w at (y .variable) (sp .before) (sp .after) x v) (sym ft) (λ lk z. fixed-in f w at (y .variable) (sp .before) (sp .after) (partOf i c) (sp .slot) x v lk z fs) lk lays-b
+          → FixedIn t w at (y .variable) (sp .before) (sp .after) x v) (sym ft)
+          (λ lk z. fixed-in f w at (y .variable) (sp .before) (sp .after) (partOf i c) (sp .slot) x v lk z fs) lk lays-b
 
       seated : Seated T t c i o b (seatOf h w n i o)
       unfolding onNull
@@ -361,7 +410,12 @@ module _ (F : ℕ → Ty) (c : Cell) (hs r b : List ℕ) (h w : ℕ) (ks : List 
         long = λ f ft x v fs. fixed-here f ft x v fs .wide;
         fixed = λ f ft x v fs. let g = fixed-here f ft x v fs in seat-slot x v (g .wide) (g .lays);
         emptied = λ _ f. seat-alone (null (zeros w)) (zeros w) (length-replicate w 0) (sym f)
-            (record { fits = record { wide = length-replicate w 0; proper = bytes-zeros w }; is = refl; same = null-same w (kid w (codec t)) at (y .variable) (sp .before) (sp .after) (partOf i c) (sp .slot) lays-b f });
+            (record {
+              fits = record { wide = length-replicate w 0; proper = bytes-zeros w };
+              is = refl;
+              same = null-same w (kid w (codec t)) at
+                  (y .variable) (sp .before) (sp .after) (partOf i c) (sp .slot) lays-b f;
+            });
         fixed-aside = λ f ft x v fs. let g = fixed-here f ft x v fs in aside-slot x v (g .wide) (g .lays);
         emptied-aside = λ _ f. aside-alone (zeros w) (length-replicate w 0);
       }
@@ -408,7 +462,8 @@ module _ (F : ℕ → Ty) (c : Cell) (hs r b : List ℕ) (h w : ℕ) (ks : List 
               let f : flag (partOf j c) ≡ 0 = sym (flag-of j kj) ∙ g in
               let s = says-of j kj f q in
               rw (s .offset, s .size) (part-apart b place v fits (placed-of j kj f q .place) (length (placed-of j kj f q .own))
-              (nearer (placed-of j kj f q .place) (length (placed-of j kj f q .own)) (both-apart i j k kj z f no q (λ d. ne (sym d)) (decLt i j))) (omega (arith, high-of j kj f q)));
+              (nearer (placed-of j kj f q .place) (length (placed-of j kj f q .own)) (both-apart i j k kj z f no q (λ d. ne (sym d)) (decLt i j)))
+              (omega (arith, high-of j kj f q)));
         }
           where
             nearer : (a s : ℕ) → (a + pad s ≤ place) ⊎ (place + pad (length (placed-of i k z no .own)) ≤ a) → (a + s ≤ place) ⊎ (place + length v ≤ a)
@@ -421,9 +476,11 @@ module _ (F : ℕ → Ty) (c : Cell) (hs r b : List ℕ) (h w : ℕ) (ks : List 
         there-data : (s : Seat) (o′ : ℕ) → Into T t i place o′ s b (placed-of i k z no .own) b′ v
         there-data s o′ = record {
           seat = seatOf h w n i o′;
-          was = ap (stepIn T i s o′) (sym e) ∙ steps r i s o′ ∙ ap (child h w n t i o′) e ∙ there-of i k z no b (placed-of i k z no .own) refl refl refl (own-of i k z no) o′;
+          was = ap (stepIn T i s o′) (sym e) ∙ steps r i s o′ ∙ ap (child h w n t i o′) e
+              ∙ there-of i k z no b (placed-of i k z no .own) refl refl refl (own-of i k z no) o′;
           is = ap (stepIn T i s o′) as-joined ∙ steps (sets r (bitmap n + pad (n * w) + (place - at)) v) i s o′ ∙ ap (child h w n t i o′) (sym as-joined)
-              ∙ there-of i k z no b′ v (length-sets b place v) bits-stay (slot-stays i 8 k (omega (arith, subst (Holds w) no hw))) (rw (← m) (part-sets b place v fits)) o′;
+              ∙ there-of i k z no b′ v (length-sets b place v) bits-stay (slot-stays i 8 k (omega (arith, subst (Holds w) no hw)))
+              (rw (← m) (part-sets b place v fits)) o′;
         }
 
       module _ (z : flag (partOf i c) ≡ 0) where
@@ -438,7 +495,8 @@ module _ (F : ℕ → Ty) (c : Cell) (hs r b : List ℕ) (h w : ℕ) (ks : List 
             let m : length u ≡ v = lc .size (partOf i c) u (g .lays) ∙ sz .size (partOf i c) (lc .fits (partOf i c) u (g .lays)) in
             let vw : v ≤ w = subst (Holds w) q hw in
             let a : part b (h + (bitmap n + i * w)) v ≡ u =
-            sym (take-take v w (drop (h + (bitmap n + i * w)) b) vw) ∙ ap (take v) (slot-b ∙ sym (g .slot)) ∙ ap (λ (k : ℕ). take k (fill w u)) (sym m) ∙ take-filled w u in
+            sym (take-take v w (drop (h + (bitmap n + i * w)) b) vw) ∙ ap (take v) (slot-b ∙ sym (g .slot)) ∙ ap (λ (k : ℕ). take k (fill w u)) (sym m)
+            ∙ take-filled w u in
             rw a (on {j = h + (bitmap n + i * w)} {u = u} k z (record {
               lays = g .lays;
               there = rw m a;
@@ -466,14 +524,19 @@ module _ (F : ℕ → Ty) (c : Cell) (hs r b : List ℕ) (h w : ℕ) (ks : List 
                   let fl : flag x ≡ 0 = codec-lawful t .here x (codec-lawful t .fits x v lv) in
                   let kl = of-wide none q (sets d j v) x (outside-made w (codec t) at (sets d j v) (sp .before) (sp .after) x (sp .slot) fl
                   (outside-lays (codec t) at d (sp .before) (sp .after) (partOf i c) (sp .slot) pl (sp .standing) x v lv nv)) in
-                  let bd = body-data h w ks (parts c) r l y i k x j v (fl ∙ sym z) (outside-kept (codec t) at d (sp .before) (sp .after) (partOf i c) (sp .slot) pl (sp .standing) v nv)
-                  (outside-safe (codec t) at d (sp .before) (sp .after) (partOf i c) (sp .slot) pl (sp .standing) v nv) (kid-size w (kid w (codec t)) lk at d (sp .before) (partOf i c) (sp .slot) (sp .after) lays-b .slot) kl in
-                  rw (pe, sets-b (bitmap n + pad (n * w) + j) v) (wrap (set (parts c) i x) (sets r (bitmap n + pad (n * w) + j) v) (length-set (parts c) i x) (length-sets r (bitmap n + pad (n * w) + j) v) bd);
+                  let bd = body-data h w ks (parts c) r l y i k x j v (fl ∙ sym z)
+                  (outside-kept (codec t) at d (sp .before) (sp .after) (partOf i c) (sp .slot) pl (sp .standing) v nv)
+                  (outside-safe (codec t) at d (sp .before) (sp .after) (partOf i c) (sp .slot) pl (sp .standing) v nv)
+                  (kid-size w (kid w (codec t)) lk at d (sp .before) (partOf i c) (sp .slot) (sp .after) lays-b .slot) kl in
+                  rw (pe, sets-b (bitmap n + pad (n * w) + j) v)
+                  (wrap (set (parts c) i x) (sets r (bitmap n + pad (n * w) + j) v) (length-set (parts c) i x)
+                  (length-sets r (bitmap n + pad (n * w) + j) v) bd);
               put-aside = λ _ v nv. aside-data z q v nv;
               put-there = λ _ v nv. there-data z q v nv;
             }) (λ _. seated))
 
-      by-flag : (f : ℕ) → f ≡ flag (partOf i c) → Comes T t c i o b (byFlag f (seatOf h w n i o) (bySlot (codec t .wide) t (seatOf h w n i o) at o (h + (bitmap n + i * w)) b))
+      by-flag : (f : ℕ) → f ≡ flag (partOf i c) → Comes T t c i o b
+          (byFlag f (seatOf h w n i o) (bySlot (codec t .wide) t (seatOf h w n i o) at o (h + (bitmap n + i * w)) b))
       unfolding byFlag
       by-flag zero q = by-slot (sym q) (codec t .wide) refl
       by-flag (suc f) q = missing k (omega (arith, flag-part)) seated

@@ -46,5 +46,6 @@ packed-aparts at [] r p h = tt
 packed-aparts at (q ∷ qs) r p h = (inr (omega arith), packed-aparts at qs r (p .1) (omega arith))
 
 -- the next in field order stands
-pub stands-next : (at stop : ℕ) (rs : List Range) (n : ℕ) → Packed at rs → (at + total rs) % 8 ≡ 0 → at + total rs + n ≤ stop → Stands at stop rs (range (at + total rs) n)
+pub stands-next : (at stop : ℕ) (rs : List Range) (n : ℕ) → Packed at rs → (at + total rs) % 8 ≡ 0 → at + total rs + n ≤ stop
+    → Stands at stop rs (range (at + total rs) n)
 stands-next at stop rs n p e h = record { low = omega arith; high = h; eight = e; clear = packed-aparts at rs (range (at + total rs) n) p (omega arith) }

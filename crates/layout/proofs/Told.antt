@@ -133,35 +133,44 @@ leaf-own (ma a b) c v u l e y = absurd l
 leaf-own (ro ts) c v u l e y = absurd l
 
 -- an answer at a place that holds what was set
-null-told : (row : List ℕ) (T : Ty) (p : List ℕ) (c : Cell) (r : Seen) (x : Setting) (w : ℕ) → Landing row T p c r → Valid p c → look p c ≡ cellOf w T x → isNull x ≡ true → told row (answerOf T r) ≡ some x
+null-told : (row : List ℕ) (T : Ty) (p : List ℕ) (c : Cell) (r : Seen) (x : Setting) (w : ℕ) → Landing row T p c r → Valid p c → look p c ≡ cellOf w T x
+    → isNull x ≡ true → told row (answerOf T r) ≡ some x
 unfolding answerOf told
 null-told row T p c r x w (off n g) v e h = absurd (g v)
 null-told row T p c r x w (atNull _ f) v e h = ap some (is-null x h)
-null-told row T p c r x w (atSeen {u = u} _ y s) v e h = absurd (omega (arith, flag-null (look p c) (zeros w) (e ∙ cell-null w T x h), lays-flag T (look p c) u y))
+null-told row T p c r x w (atSeen {u = u} _ y s) v e h = absurd
+    (omega (arith, flag-null (look p c) (zeros w) (e ∙ cell-null w T x h), lays-flag T (look p c) u y))
 
-given-told : (row : List ℕ) (T : Ty) (p : List ℕ) (c : Cell) (r : Seen) (x : Setting) (w : ℕ) → Landing row T p c r → Valid p c → look p c ≡ cellOf w T x → isNull x ≡ false → Leafy T
+given-told : (row : List ℕ) (T : Ty) (p : List ℕ) (c : Cell) (r : Seen) (x : Setting) (w : ℕ) → Landing row T p c r → Valid p c → look p c ≡ cellOf w T x
+    → isNull x ≡ false → Leafy T
     → ((s : Seat) (o : ℕ) (u : List ℕ) → Sits row o u → given T x ≡ u → told row (answerOf T (seen s o u)) ≡ some x) → told row (answerOf T r) ≡ some x
 given-told row T p c r x w (off n g) v e h l tells = absurd (g v)
 given-told row T p c r x w (atNull _ f) v e h l tells = absurd (omega (arith, flag-leaf (look p c) (given T x) (e ∙ cell-given w T x h)))
-given-told row T p c r x w (atSeen {s = s} {o = o} {u = u} _ y st) v e h l tells = tells s o u st (leaf-own T (look p c) (given T x) u l (e ∙ cell-given w T x h) y)
+given-told row T p c r x w (atSeen {s = s} {o = o} {u = u} _ y st) v e h l tells = tells s o u st
+    (leaf-own T (look p c) (given T x) u l (e ∙ cell-given w T x h) y)
 
-fixed-tells : (row : List ℕ) (T : Ty) (f : Fixed) (x : Setting) (v : List ℕ) → T ≡ fix f → Proper x → inBytes f x ≡ some v → (s : Seat) (o : ℕ) (u : List ℕ) → given T x ≡ u → told row (answerOf T (seen s o u)) ≡ some x
+fixed-tells : (row : List ℕ) (T : Ty) (f : Fixed) (x : Setting) (v : List ℕ) → T ≡ fix f → Proper x → inBytes f x ≡ some v
+    → (s : Seat) (o : ℕ) (u : List ℕ) → given T x ≡ u → told row (answerOf T (seen s o u)) ≡ some x
 unfolding answerOf given
 fixed-tells row T f x v q b g s o u e =
     let k : v ≡ u = rw (q, g) at e in
     rw (q, ← k) (value-told row f x v b g)
 
-text-tells : (row : List ℕ) (T : Ty) (k : Text) (x : Setting) (v : List ℕ) → T ≡ text k → x ≡ S.bytes v → (s : Seat) (o : ℕ) (u : List ℕ) → Sits row o u → given T x ≡ u → told row (answerOf T (seen s o u)) ≡ some x
+text-tells : (row : List ℕ) (T : Ty) (k : Text) (x : Setting) (v : List ℕ) → T ≡ text k → x ≡ S.bytes v → (s : Seat) (o : ℕ) (u : List ℕ) → Sits row o u
+    → given T x ≡ u → told row (answerOf T (seen s o u)) ≡ some x
 unfolding answerOf given told
 text-tells row T k x v q h s o u st e =
     let n : v ≡ u = rw (q, h) at e in
     rw (q, st .there, h, n)
 
-pub told-set : (row : List ℕ) (T : Ty) (p : List ℕ) (c : Cell) (r : Seen) (x : Setting) (w : ℕ) (e₀ : Cell) → Proper x → Fine x T e₀ → Landing row T p c r → Valid p c → look p c ≡ cellOf w T x → told row (answerOf T r) ≡ some x
+pub told-set : (row : List ℕ) (T : Ty) (p : List ℕ) (c : Cell) (r : Seen) (x : Setting) (w : ℕ) (e₀ : Cell) → Proper x → Fine x T e₀ → Landing row T p c r
+    → Valid p c → look p c ≡ cellOf w T x → told row (answerOf T r) ≡ some x
 told-set row T p c r x w e₀ b (numberNull q h) l v e = null-told row T p c r x w l v e h
-told-set row T p c r x w e₀ b (numberGiven {f = f} {u = u} q h g) l v e = given-told row T p c r x w l v e h (subst Leafy (sym q) tt) (λ s o u′ st m. fixed-tells row T f x u q b g s o u′ m)
+told-set row T p c r x w e₀ b (numberGiven {f = f} {u = u} q h g) l v e = given-told row T p c r x w l v e h (subst Leafy (sym q) tt)
+    (λ s o u′ st m. fixed-tells row T f x u q b g s o u′ m)
 told-set row T p c r x w e₀ b (textNull q h f) l v e = null-told row T p c r x w l v e h
-told-set row T p c r x w e₀ b (textGiven {k = k} {u = u} q h f n m) l v e = given-told row T p c r x w l v e (ap isNull h) (subst Leafy (sym q) tt) (λ s o u′ st m. text-tells row T k x u q h s o u′ st m)
+told-set row T p c r x w e₀ b (textGiven {k = k} {u = u} q h f n m) l v e = given-told row T p c r x w l v e (ap isNull h) (subst Leafy (sym q) tt)
+    (λ s o u′ st m. text-tells row T k x u q h s o u′ st m)
 
 -- ---- a present leaf tells a setting of the bytes that it holds
 
@@ -209,12 +218,18 @@ bool-below e u y = rw (← (y .is)) (y .fits .below)
 value-tells : (row : List ℕ) (f : Fixed) (e : Cell) (u : List ℕ) (x : Setting) → Lays (fix f) e u → told row (valueOf f u) ≡ some x → Tells f u x
 unfolding inBytes valueOf told float32Bytes float64Bytes width types fixedPlace
 value-tells row bo e u x y g = subst (Tells bo u) (Option·some-injective _ _ g) (bool-tells u (fixed-wide bo 1 e u refl y) (bool-below e u y))
-value-tells row i1 e u x y g = subst (Tells i1 u) (Option·some-injective _ _ g) (record { bytes = signed-bytes 1 u (omega arith) (fixed-wide i1 1 e u refl y); proper = tt; present = refl })
-value-tells row i2 e u x y g = subst (Tells i2 u) (Option·some-injective _ _ g) (record { bytes = signed-bytes 2 u (omega arith) (fixed-wide i2 2 e u refl y); proper = tt; present = refl })
-value-tells row i4 e u x y g = subst (Tells i4 u) (Option·some-injective _ _ g) (record { bytes = signed-bytes 4 u (omega arith) (fixed-wide i4 4 e u refl y); proper = tt; present = refl })
-value-tells row i8 e u x y g = subst (Tells i8 u) (Option·some-injective _ _ g) (record { bytes = signed-bytes 8 u (omega arith) (fixed-wide i8 8 e u refl y); proper = tt; present = refl })
-value-tells row f4 e u x y g = let h = fixed-wide f4 4 e u refl y in subst (Tells f4 u) (Option·some-injective _ _ g) (record { bytes = ap some (wide-le h); proper = wide-lt h; present = refl })
-value-tells row f8 e u x y g = let h = fixed-wide f8 8 e u refl y in subst (Tells f8 u) (Option·some-injective _ _ g) (record { bytes = ap some (wide-le h); proper = wide-lt h; present = refl })
+value-tells row i1 e u x y g = subst (Tells i1 u) (Option·some-injective _ _ g)
+    (record { bytes = signed-bytes 1 u (omega arith) (fixed-wide i1 1 e u refl y); proper = tt; present = refl })
+value-tells row i2 e u x y g = subst (Tells i2 u) (Option·some-injective _ _ g)
+    (record { bytes = signed-bytes 2 u (omega arith) (fixed-wide i2 2 e u refl y); proper = tt; present = refl })
+value-tells row i4 e u x y g = subst (Tells i4 u) (Option·some-injective _ _ g)
+    (record { bytes = signed-bytes 4 u (omega arith) (fixed-wide i4 4 e u refl y); proper = tt; present = refl })
+value-tells row i8 e u x y g = subst (Tells i8 u) (Option·some-injective _ _ g)
+    (record { bytes = signed-bytes 8 u (omega arith) (fixed-wide i8 8 e u refl y); proper = tt; present = refl })
+value-tells row f4 e u x y g = let h = fixed-wide f4 4 e u refl y in subst (Tells f4 u) (Option·some-injective _ _ g)
+    (record { bytes = ap some (wide-le h); proper = wide-lt h; present = refl })
+value-tells row f8 e u x y g = let h = fixed-wide f8 8 e u refl y in subst (Tells f8 u) (Option·some-injective _ _ g)
+    (record { bytes = ap some (wide-le h); proper = wide-lt h; present = refl })
 
 pub value-present : (f : Fixed) (u : List ℕ) → refusalIn (valueOf f u) ≡ none
 unfolding valueOf refusalIn
@@ -234,7 +249,8 @@ pub record Same (x : Setting) (T : Ty) (p : List ℕ) (c : Cell) (a : Answer) : 
   pub keeps : keeps T a x ≡ true
   pub is : (w : ℕ) → cellOf w T x ≡ look p c
 
-fixed-same : (row : List ℕ) (f : Fixed) (p : List ℕ) (c : Cell) (s : Seat) (o : ℕ) (u : List ℕ) (x : Setting) → Lays (fix f) (look p c) u → Tells f u x → Same x (fix f) p c (answerOf (fix f) (seen s o u))
+fixed-same : (row : List ℕ) (f : Fixed) (p : List ℕ) (c : Cell) (s : Seat) (o : ℕ) (u : List ℕ) (x : Setting) → Lays (fix f) (look p c) u → Tells f u x
+    → Same x (fix f) p c (answerOf (fix f) (seen s o u))
 unfolding answerOf suits keeps codec number cellOf given
 fixed-same row f p c s o u x y t = record {
   proper = t .proper;
@@ -244,7 +260,8 @@ fixed-same row f p c s o u x y t = record {
   is = λ w. rw (t .present, t .bytes) (sym (y .fits .plain ∙ ap leaf (y .is)));
 }
 
-text-same : (row : List ℕ) (k : Text) (p : List ℕ) (c : Cell) (s : Seat) (o : ℕ) (u : List ℕ) (x : Setting) → Lays (text k) (look p c) u → S.bytes u ≡ x → Same x (text k) p c (answerOf (text k) (seen s o u))
+text-same : (row : List ℕ) (k : Text) (p : List ℕ) (c : Cell) (s : Seat) (o : ℕ) (u : List ℕ) (x : Setting) → Lays (text k) (look p c) u → S.bytes u ≡ x
+    → Same x (text k) p c (answerOf (text k) (seen s o u))
 unfolding answerOf refusalIn suits keeps keepsText codec string cellOf given
 text-same row k p c s o u x y e =
     subst (λ (x : Setting). Same x (text k) p c (R.bytes o (length u))) e (record {
@@ -255,14 +272,16 @@ text-same row k p c s o u x y e =
       is = λ w. sym (y .fits .plain ∙ ap leaf (y .is));
     })
 
-pub told-same : (row : List ℕ) (T : Ty) (p : List ℕ) (c : Cell) (r : Seen) (x : Setting) → Landing row T p c r → told row (answerOf T r) ≡ some x → x ≢ S.null → Valid p c × Same x T p c (answerOf T r)
+pub told-same : (row : List ℕ) (T : Ty) (p : List ℕ) (c : Cell) (r : Seen) (x : Setting) → Landing row T p c r → told row (answerOf T r) ≡ some x
+    → x ≢ S.null → Valid p c × Same x T p c (answerOf T r)
 unfolding answerOf told
 told-same row (fix f) p c r x (off n g) e k = absurd (Option·none-ne-some _ e)
 told-same row (fix f) p c r x (atNull v z) e k = absurd (k (sym (Option·some-injective _ _ e)))
 told-same row (fix f) p c r x (atSeen {s = s} {o = o} {u = u} v y st) e k = (v, fixed-same row f p c s o u x y (value-tells row f (look p c) u x y e))
 told-same row (text t) p c r x (off n g) e k = absurd (Option·none-ne-some _ e)
 told-same row (text t) p c r x (atNull v z) e k = absurd (k (sym (Option·some-injective _ _ e)))
-told-same row (text t) p c r x (atSeen {s = s} {o = o} {u = u} v y st) e k = (v, text-same row t p c s o u x y (ap S.bytes (sym (st .there)) ∙ Option·some-injective _ _ e))
+told-same row (text t) p c r x (atSeen {s = s} {o = o} {u = u} v y st) e k =
+    (v, text-same row t p c s o u x y (ap S.bytes (sym (st .there)) ∙ Option·some-injective _ _ e))
 told-same row (li t) p c r x (off n g) e k = absurd (Option·none-ne-some _ e)
 told-same row (li t) p c r x (atNull v z) e k = absurd (k (sym (Option·some-injective _ _ e)))
 told-same row (li t) p c r x (atSeen v y st) e k = absurd (Option·none-ne-some _ e)

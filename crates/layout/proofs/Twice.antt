@@ -54,7 +54,16 @@ update-comm (i ∷ p) (j ∷ q) x y c (inl d) v =
     rw (part-other i j c (update p x (part i c)) (λ e. d (sym e)), part-other j i c (update q y (part j c)) d, parts-node, parts-node)
     (ap node (set-comm (parts c) i j _ _ d))
 update-comm (i ∷ p) (j ∷ q) x y c (inr d) v =
-    rw (← (d .0), part-set i c (update p x (part i c)) (v .0), part-set i c (update q y (part i c)) (v .0), parts-node, parts-node, set-set, set-set, update-comm p q x y (part i c) (d .1) (v .1))
+    rw (
+      ← (d .0),
+      part-set i c (update p x (part i c)) (v .0),
+      part-set i c (update q y (part i c)) (v .0),
+      parts-node,
+      parts-node,
+      set-set,
+      set-set,
+      update-comm p q x y (part i c) (d .1) (v .1),
+    )
 
 -- equal trees with their values at the same places, equal bytes
 pub same-bytes : (t : Ty) (c d : Cell) (a b : List ℕ) → Lays t c a → Lays t d b → length a < 2 ^ 32 → c ≡ d → Starting t rootSeat 0 a b → a ≡ b
@@ -63,7 +72,8 @@ same-bytes t c d a b y z lim e s = single t d a b rootSeat 0 (subst (λ (x : Cel
 -- ---- one leaf: the judgement is the same before and after
 
 -- a fixed-width leaf's, whatever it holds
-fixed-judge : (row : List ℕ) (f : Fixed) (p : List ℕ) (c : Cell) (r : Seen) (y : Setting) → Landing row (fix f) p c r → Valid p c → judgeAt (some (fix f)) (answerOf (fix f) r) y ≡ judgeAt (some (fix f)) R.null y
+fixed-judge : (row : List ℕ) (f : Fixed) (p : List ℕ) (c : Cell) (r : Seen) (y : Setting) → Landing row (fix f) p c r → Valid p c
+    → judgeAt (some (fix f)) (answerOf (fix f) r) y ≡ judgeAt (some (fix f)) R.null y
 unfolding answerOf judgeAt refusalIn keeps
 fixed-judge row f p c r y (off n g) v = absurd (g v)
 fixed-judge row f p c r y (atNull _ z) v = refl
@@ -74,7 +84,8 @@ record Alike (a b : Cell) : Type 0 where
   null : flag a ≡ flag b
   size : length (bytes a) ≡ length (bytes b)
 
-text-judge : (row row′ : List ℕ) (k : Text) (p : List ℕ) (c c′ : Cell) (r r′ : Seen) (y : Setting) → Landing row (text k) p c r → Landing row′ (text k) p c′ r′ → Valid p c → Valid p c′ → Alike (look p c) (look p c′)
+text-judge : (row row′ : List ℕ) (k : Text) (p : List ℕ) (c c′ : Cell) (r r′ : Seen) (y : Setting) → Landing row (text k) p c r
+    → Landing row′ (text k) p c′ r′ → Valid p c → Valid p c′ → Alike (look p c) (look p c′)
     → judgeAt (some (text k)) (answerOf (text k) r′) y ≡ judgeAt (some (text k)) (answerOf (text k) r) y
 unfolding answerOf judgeAt refusalIn keeps keepsText
 text-judge row row′ k p c c′ r r′ y (off n g) l′ v v′ a = absurd (g v)
@@ -90,7 +101,8 @@ text-judge row row′ k p c c′ r r′ y (atSeen {u = u} _ l st) (atSeen {u = u
 abbrev Again : List ℕ → List ℕ → List ℕ → Cell → Cell → Seen → Seen → Setting → Ty → Type 0
 Again row row′ p c c′ r r′ y T = Landing row T p c r → Landing row′ T p c′ r′ → judgeAt (some T) (answerOf T r′) y ≡ judgeAt (some T) (answerOf T r) y
 
-fixed-again : (row row′ : List ℕ) (f : Fixed) (p : List ℕ) (c c′ : Cell) (r r′ : Seen) (y : Setting) → Valid p c → Valid p c′ → Again row row′ p c c′ r r′ y (fix f)
+fixed-again : (row row′ : List ℕ) (f : Fixed) (p : List ℕ) (c c′ : Cell) (r r′ : Seen) (y : Setting) → Valid p c → Valid p c′
+    → Again row row′ p c c′ r r′ y (fix f)
 fixed-again row row′ f p c c′ r r′ y v v′ l l′ = fixed-judge row′ f p c′ r′ y l′ v′ ∙ sym (fixed-judge row f p c r y l v)
 
 null-alike : (a b : Cell) (u : List ℕ) → flag a ≡ 1 → b ≡ null u → Alike a b
@@ -107,10 +119,15 @@ pub text-cell : (w : ℕ) (T : Ty) (k : Text) (x : Setting) (u : List ℕ) → T
 unfolding given
 text-cell w T k x u q h = cell-given w T x (ap isNull h) ∙ ap leaf (ap (λ (t : Ty). given t x) q ∙ ap textOf h)
 
-pub judge-again : (row row′ : List ℕ) (T : Ty) (p : List ℕ) (c c′ : Cell) (r r′ : Seen) (x y : Setting) (w : ℕ) → Valid p c → Valid p c′ → Fine x T (look p c) → look p c′ ≡ cellOf w T x → Again row row′ p c c′ r r′ y T
-judge-again row row′ T p c c′ r r′ x y w v v′ (numberNull {f = f} q h) e = subst (Again row row′ p c c′ r r′ y) (sym q) (fixed-again row row′ f p c c′ r r′ y v v′)
-judge-again row row′ T p c c′ r r′ x y w v v′ (numberGiven {f = f} q h g) e = subst (Again row row′ p c c′ r r′ y) (sym q) (fixed-again row row′ f p c c′ r r′ y v v′)
+pub judge-again : (row row′ : List ℕ) (T : Ty) (p : List ℕ) (c c′ : Cell) (r r′ : Seen) (x y : Setting) (w : ℕ) → Valid p c → Valid p c′
+    → Fine x T (look p c) → look p c′ ≡ cellOf w T x → Again row row′ p c c′ r r′ y T
+judge-again row row′ T p c c′ r r′ x y w v v′ (numberNull {f = f} q h) e = subst (Again row row′ p c c′ r r′ y) (sym q)
+    (fixed-again row row′ f p c c′ r r′ y v v′)
+judge-again row row′ T p c c′ r r′ x y w v v′ (numberGiven {f = f} q h g) e = subst (Again row row′ p c c′ r r′ y) (sym q)
+    (fixed-again row row′ f p c c′ r r′ y v v′)
 judge-again row row′ T p c c′ r r′ x y w v v′ (textNull {k = k} q h f) e =
-    subst (Again row row′ p c c′ r r′ y) (sym q) (λ l l′. text-judge row row′ k p c c′ r r′ y l l′ v v′ (null-alike (look p c) (look p c′) _ f (e ∙ cell-null w T x h)))
+    subst (Again row row′ p c c′ r r′ y) (sym q) (λ l l′. text-judge row row′ k p c c′ r r′ y l l′ v v′
+    (null-alike (look p c) (look p c′) _ f (e ∙ cell-null w T x h)))
 judge-again row row′ T p c c′ r r′ x y w v v′ (textGiven {k = k} {u = u} q h f n b) e =
-    subst (Again row row′ p c c′ r r′ y) (sym q) (λ l l′. text-judge row row′ k p c c′ r r′ y l l′ v v′ (leaf-alike (look p c) (look p c′) u f n (e ∙ text-cell w T k x u q h)))
+    subst (Again row row′ p c c′ r r′ y) (sym q) (λ l l′. text-judge row row′ k p c c′ r r′ y l l′ v v′
+    (leaf-alike (look p c) (look p c′) u f n (e ∙ text-cell w T k x u q h)))

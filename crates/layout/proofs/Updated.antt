@@ -42,7 +42,13 @@ Right f (some u) = NumberFits (width f) (limit f) (leaf u)
 
 le-right : (f : Fixed) (w n : ℕ) → width f ≡ w → limit f ≡ 256 ^ w → Right f (some (le w n))
 unfolding bytes
-le-right f w n e g = record { plain = refl; wide = length-le w n ∙ sym e; proper = bytes-le w n; below = rw g (subst (λ (k : ℕ). num (le w n) < 256 ^ k) (length-le w n) (num-lt (bytes-le w n))) }
+le-right f w n e g = record {
+  plain = refl;
+  wide = length-le w n ∙ sym e;
+  proper = bytes-le w n;
+  below = rw g
+      (subst (λ (k : ℕ). num (le w n) < 256 ^ k) (length-le w n) (num-lt (bytes-le w n)));
+}
 
 bool-right : (v : Bool) → Right bo (some (digit v ∷ []))
 unfolding bytes width types fixedPlace limit num
@@ -141,11 +147,14 @@ bit-slot {row} {b} {o} st at i z j v h k =
 -- the setting x may be made at the end of the path in contents c of type t; there the type is T
 pub data Settable (x : Setting) (T : Ty) : List ℕ → Ty → Cell → Type 0 where
   fixedNull : {i : ℕ} {t : Ty} {c : Cell} {f : Fixed} → T ≡ fix f → i < length (parts c) → childTy t i ≡ T → isNull x ≡ true → Settable x T (i ∷ []) t c
-  fixedGiven : {i : ℕ} {t : Ty} {c : Cell} {f : Fixed} {u : List ℕ} → T ≡ fix f → i < length (parts c) → childTy t i ≡ T → isNull x ≡ false → inBytes f x ≡ some u → Settable x T (i ∷ []) t c
-  textNull : {i : ℕ} {t : Ty} {c : Cell} {k : Text} → T ≡ text k → i < length (parts c) → childTy t i ≡ T → isNull x ≡ true → flag (partOf i c) ≡ 1 → Settable x T (i ∷ []) t c
+  fixedGiven : {i : ℕ} {t : Ty} {c : Cell} {f : Fixed} {u : List ℕ} → T ≡ fix f → i < length (parts c) → childTy t i ≡ T → isNull x ≡ false
+      → inBytes f x ≡ some u → Settable x T (i ∷ []) t c
+  textNull : {i : ℕ} {t : Ty} {c : Cell} {k : Text} → T ≡ text k → i < length (parts c) → childTy t i ≡ T → isNull x ≡ true → flag (partOf i c) ≡ 1
+      → Settable x T (i ∷ []) t c
   textGiven : {i : ℕ} {t : Ty} {c : Cell} {k : Text} → T ≡ text k → i < length (parts c) → childTy t i ≡ T → isNull x ≡ false → flag (partOf i c) ≡ 0
       → length (textOf x) ≡ length (bytes (partOf i c)) → Bytes (textOf x) → Settable x T (i ∷ []) t c
-  deeper : {i : ℕ} {p : List ℕ} {t : Ty} {c : Cell} → i < length (parts c) → flag (partOf i c) ≡ 0 → Settable x T p (childTy t i) (partOf i c) → Settable x T (i ∷ p) t c
+  deeper : {i : ℕ} {p : List ℕ} {t : Ty} {c : Cell} → i < length (parts c) → flag (partOf i c) ≡ 0 → Settable x T p (childTy t i) (partOf i c)
+      → Settable x T (i ∷ p) t c
 
 -- what the leaf then holds
 pub data Becomes (x : Setting) : Ty → Cell → Type 0 where
@@ -186,7 +195,13 @@ made-null x T f w e = record { new = null (zeros w); becomes = asNull w e; nulln
 
 made-given : (x : Setting) (T : Ty) (f : Fixed) (w : ℕ) (u : List ℕ) → T ≡ fix f → isNull x ≡ false → inBytes f x ≡ some u → MadeFixed x T f w
 unfolding onNull
-made-given x T f w u q e g = record { new = leaf u; becomes = subst (λ (t : Ty). Becomes x t (leaf u)) (sym q) (asNumber e g); nullness = sym e; slot = fixed-slot f x w u g }
+made-given x T f w u q e g = record {
+  new = leaf u;
+  becomes = subst (λ (t : Ty). Becomes x t (leaf u)) (sym q) (asNumber e g);
+  nullness = sym e;
+  slot =
+      fixed-slot f x w u g;
+}
 
 fixed-there : (T : Ty) (f : Fixed) (r r′ : Seen) → T ≡ fix f → starts T r ≡ starts T r′
 fixed-there T f r r′ q = subst (λ (T : Ty). starts T r ≡ starts T r′) (sym q) (fixed-starts f r ∙ sym (fixed-starts f r′))
@@ -198,7 +213,8 @@ leafy-text : (t T : Ty) (k : Text) → t ≡ T → T ≡ text k → Leafy t
 leafy-text t T k e q = subst Leafy (sym (e ∙ q)) tt
 
 -- the bit and the slot of a fixed-width leaf
-seat-edit : (x : Setting) (T : Ty) (f : Fixed) (row : List ℕ) (i : ℕ) (t : Ty) (c : Cell) (o : ℕ) (b : List ℕ) (s : Seat) → Lays t c b → length b < 2 ^ 32 → i < length (parts c) → T ≡ fix f → childTy t i ≡ T → Sits row o b
+seat-edit : (x : Setting) (T : Ty) (f : Fixed) (row : List ℕ) (i : ℕ) (t : Ty) (c : Cell) (o : ℕ) (b : List ℕ) (s : Seat) → Lays t c b → length b < 2 ^ 32
+    → i < length (parts c) → T ≡ fix f → childTy t i ≡ T → Sits row o b
     → ((w : ℕ) → MadeFixed x T f w) → Seated t (childTy t i) c i o b s → Edited x T row (i ∷ []) t c o b (writeFixed f x s row)
 unfolding writeFixed update
 seat-edit x T f row i t c o b s y lim k q e st made d =
@@ -207,10 +223,12 @@ seat-edit x T f row i t c o b s y lim k q e st made d =
     let n : length v ≡ s .wide = d .long f (e ∙ q) (m .new) v (m .slot) in
     let b′ = sets (putBit b (d .bits₀) i (isNull x)) (d .slot₀) v in
     let c′ = node (set (parts c) i (m .new)) in
-    let ly : Lays t c′ b′ = subst (λ (z : Bool). Lays t (node (set (parts c) i (m .new))) (sets (putBit b (d .bits₀) i z) (d .slot₀) v)) (m .nullness) (d .fixed f (e ∙ q) (m .new) v (m .slot)) in
+    let ly : Lays t c′ b′ = subst (λ (z : Bool). Lays t (node (set (parts c) i (m .new))) (sets (putBit b (d .bits₀) i z) (d .slot₀) v)) (m .nullness)
+    (d .fixed f (e ∙ q) (m .new) v (m .slot)) in
     let sz : length b′ ≡ length b = length-sets (putBit b (d .bits₀) i (isNull x)) (d .slot₀) v ∙ length-put b (d .bits₀) i (isNull x) in
     let g : Instead t c c′ b b′ = record { was = y; is = ly; small = lim; size = sz; count = rw parts-node (length-set (parts c) i (m .new)) } in
-    let aside : Aside t i b b′ = subst (λ (z : Bool). Aside t i b (sets (putBit b (d .bits₀) i z) (d .slot₀) v)) (m .nullness) (d .fixed-aside f (e ∙ q) (m .new) v (m .slot)) in
+    let aside : Aside t i b b′ = subst (λ (z : Bool). Aside t i b (sets (putBit b (d .bits₀) i z) (d .slot₀) v)) (m .nullness)
+    (d .fixed-aside f (e ∙ q) (m .new) v (m .slot)) in
     record {
       new = m .new;
       becomes = m .becomes;
@@ -222,8 +240,10 @@ seat-edit x T f row i t c o b s y lim k q e st made d =
       is = rw (d .bits, d .number, d .slot) (bit-slot st (d .bits₀) i (isNull x) (d .slot₀) v (d .bit-room) (omega (arith, d .slot-room)));
     }
 
-fixed-edit : (x : Setting) (T : Ty) (f : Fixed) (row : List ℕ) (i : ℕ) (t : Ty) (c : Cell) (o : ℕ) (b : List ℕ) (r : Step) → Lays t c b → T ≡ fix f → i < length (parts c) → childTy t i ≡ T → length b < 2 ^ 32 → Sits row o b
-    → ((w : ℕ) → MadeFixed x T f w) → Comes t (childTy t i) c i o b r → Edited x T row (i ∷ []) t c o b (write (fix f) x (goOn [] (λ t s o b. walk [] t s o b) r) row)
+fixed-edit : (x : Setting) (T : Ty) (f : Fixed) (row : List ℕ) (i : ℕ) (t : Ty) (c : Cell) (o : ℕ) (b : List ℕ) (r : Step) → Lays t c b → T ≡ fix f
+    → i < length (parts c) → childTy t i ≡ T → length b < 2 ^ 32 → Sits row o b
+    → ((w : ℕ) → MadeFixed x T f w) → Comes t (childTy t i) c i o b r → Edited x T row (i ∷ []) t c o b
+    (write (fix f) x (goOn [] (λ t s o b. walk [] t s o b) r) row)
 unfolding goOn write walk
 fixed-edit x T f row i t c o b r y q h e lim st made (Stepped.past g) = absurd (omega arith)
 fixed-edit x T f row i t c o b r y q h e lim st made (Stepped.missing {s = s} k g d) = seat-edit x T f row i t c o b s y lim h q e st made d
@@ -241,8 +261,10 @@ unfolding onNull
 null-set c i v h = ap (λ (z : Cell). flag z) (part-set i c (null v) h)
 
 -- a null string or binary takes null, which zeroes its slot
-text-null-edit : (x : Setting) (T : Ty) (k : Text) (row : List ℕ) (i : ℕ) (t : Ty) (c : Cell) (o : ℕ) (b : List ℕ) (r : Step) → Lays t c b → length b < 2 ^ 32 → T ≡ text k → i < length (parts c) → childTy t i ≡ T → Sits row o b
-    → isNull x ≡ true → flag (partOf i c) ≡ 1 → Comes t (childTy t i) c i o b r → Edited x T row (i ∷ []) t c o b (write (text k) x (goOn [] (λ t s o b. walk [] t s o b) r) row)
+text-null-edit : (x : Setting) (T : Ty) (k : Text) (row : List ℕ) (i : ℕ) (t : Ty) (c : Cell) (o : ℕ) (b : List ℕ) (r : Step) → Lays t c b
+    → length b < 2 ^ 32 → T ≡ text k → i < length (parts c) → childTy t i ≡ T → Sits row o b
+    → isNull x ≡ true → flag (partOf i c) ≡ 1 → Comes t (childTy t i) c i o b r
+    → Edited x T row (i ∷ []) t c o b (write (text k) x (goOn [] (λ t s o b. walk [] t s o b) r) row)
 unfolding goOn write update
 text-null-edit x T k row i t c o b r y lim q h e st z f (Stepped.past g) = absurd (omega arith)
 text-null-edit x T k row i t c o b r y lim q h e st z f (Stepped.on l g d a) = absurd (omega arith)
@@ -260,8 +282,10 @@ text-null-edit x T k row i t c o b r y lim q h e st z f (Stepped.missing {s = s}
       own = b′;
       lays = d .emptied no f;
       size = length-sets b (d .slot₀) v;
-      others = λ p U h′ ne z. others-by t c c′ b b′ g i [] p U z o h (d .emptied-aside no f) h′ ne (past-end t c c′ b b′ g i U z o (leafy-text (childTy t i) T k e q));
-      there = λ z. null-starts T t c′ i z o b′ (d .emptied no f) (rw length-sets lim) (omega arith) (null-set c i v h) ∙ sym (null-starts T t c i z o b y lim h f);
+      others = λ p U h′ ne z. others-by t c c′ b b′ g i [] p U z o h (d .emptied-aside no f) h′ ne
+          (past-end t c c′ b b′ g i U z o (leafy-text (childTy t i) T k e q));
+      there = λ z. null-starts T t c′ i z o b′ (d .emptied no f) (rw length-sets lim) (omega arith) (null-set c i v h)
+          ∙ sym (null-starts T t c i z o b y lim h f);
       is = rw (d .slot) (run-in st (d .slot₀) v (omega (arith, d .slot-room)));
     }
 
@@ -282,7 +306,8 @@ text-is t k c u e y = go (subst (λ (t : Ty). Lays t c u) e y)
     go : Lays (text k) c u → LeafIs c u
     go y = record { own = y .is; none = ap (λ (z : Cell). length (parts z)) (y .fits .plain) }
 
-text-edit : (x : Setting) (T : Ty) (k : Text) (row : List ℕ) (i : ℕ) (t : Ty) (c : Cell) (o : ℕ) (b : List ℕ) (r : Step) → Lays t c b → T ≡ text k → i < length (parts c) → childTy t i ≡ T → length b < 2 ^ 32 → Sits row o b
+text-edit : (x : Setting) (T : Ty) (k : Text) (row : List ℕ) (i : ℕ) (t : Ty) (c : Cell) (o : ℕ) (b : List ℕ) (r : Step) → Lays t c b → T ≡ text k
+    → i < length (parts c) → childTy t i ≡ T → length b < 2 ^ 32 → Sits row o b
     → isNull x ≡ false → flag (partOf i c) ≡ 0 → length (textOf x) ≡ length (bytes (partOf i c)) → Bytes (textOf x)
     → Comes t (childTy t i) c i o b r → Edited x T row (i ∷ []) t c o b (write (text k) x (goOn [] (λ t s o b. walk [] t s o b) r) row)
 unfolding goOn write walk update parts
@@ -306,7 +331,8 @@ text-edit x T k row i t c o b r y q h e lim st z f n hb (Stepped.on {s = s} {j =
       own = b′;
       lays = ly;
       size = length-sets b j v;
-      others = λ p U h′ ne z. others-by t c c′ b b′ w i [] p U z o h (d .put-aside no v nv) h′ ne (past-end t c c′ b b′ w i U z o (leafy-text (childTy t i) T k e q));
+      others = λ p U h′ ne z. others-by t c c′ b b′ w i [] p U z o h (d .put-aside no v nv) h′ ne
+          (past-end t c c′ b b′ w i U z o (leafy-text (childTy t i) T k e q));
       there = λ z. (let a = d .put-there no v nv z o in let wo = walk-on t c c′ b b′ w i j u v z o [] a in
           rw (← e) (ap (starts (childTy t i)) (wo .1 ∙ own-holds (childTy t i) (leaf v) (a .seat) (o + j) v (seen (a .seat) (o + j) v) lv (omega arith))
           ∙ seen-starts (childTy t i) (a .seat) (o + j) v no
@@ -344,8 +370,10 @@ settable-count {c = c} (textNull {i = i} q h e z f) y = update-count i [] y c
 settable-count {c = c} (textGiven {i = i} q h e z f n b) y = update-count i [] y c
 settable-count {c = c} (deeper {i = i} {p = p} h f s) y = update-count i p y c
 
-deep-edit : (x : Setting) (T : Ty) (row : List ℕ) (i : ℕ) (p : List ℕ) (t : Ty) (c : Cell) (o : ℕ) (b : List ℕ) (r : Step) → Lays t c b → i < length (parts c) → flag (partOf i c) ≡ 0 → length b < 2 ^ 32 → Sits row o b
-    → Settable x T p (childTy t i) (partOf i c) → Sets x T row p → Comes t (childTy t i) c i o b r → Edited x T row (i ∷ p) t c o b (write T x (goOn p (λ t s o b. walk p t s o b) r) row)
+deep-edit : (x : Setting) (T : Ty) (row : List ℕ) (i : ℕ) (p : List ℕ) (t : Ty) (c : Cell) (o : ℕ) (b : List ℕ) (r : Step) → Lays t c b
+    → i < length (parts c) → flag (partOf i c) ≡ 0 → length b < 2 ^ 32 → Sits row o b
+    → Settable x T p (childTy t i) (partOf i c) → Sets x T row p → Comes t (childTy t i) c i o b r
+    → Edited x T row (i ∷ p) t c o b (write T x (goOn p (λ t s o b. walk p t s o b) r) row)
 unfolding goOn update
 deep-edit x T row i p t c o b r y h f lim st a w (Stepped.past g) = absurd (omega arith)
 deep-edit x T row i p t c o b r y h f lim st a w (Stepped.missing l g d) = absurd (omega arith)
@@ -356,7 +384,14 @@ deep-edit x T row i p t c o b r y h f lim st a w (Stepped.on {s = s} {j = j} {u 
     let c₁ = update p (m .new) (partOf i c) in
     let c′ = node (set (parts c) i c₁) in
     let ly : Lays t c′ b′ = d .put no c₁ (m .own) (m .lays) (m .size) (settable-count a (m .new)) in
-    let v : Instead t c c′ b b′ = record { was = y; is = ly; small = lim; size = length-sets b j (m .own); count = rw parts-node (length-set (parts c) i c₁) } in
+    let v : Instead t c c′ b b′ = record {
+      was = y;
+      is = ly;
+      small = lim;
+      size = length-sets b j (m .own);
+      count = rw parts-node
+          (length-set (parts c) i c₁);
+    } in
     record {
       new = m .new;
       becomes = m .becomes;
@@ -367,7 +402,8 @@ deep-edit x T row i p t c o b r y h f lim st a w (Stepped.on {s = s} {j = j} {u 
           let k = d .put-there no (m .own) (m .size) z o in
           let wo = walk-on t c c′ b b′ v i j u (m .own) z o q k in
           rw (wo .0, wo .1) (m .others q U e ne (k .seat));
-      there = λ z. (let k = d .put-there no (m .own) (m .size) z o in let wo = walk-on t c c′ b b′ v i j u (m .own) z o p k in rw (wo .0, wo .1) (m .there (k .seat)));
+      there = λ z. (let k = d .put-there no (m .own) (m .size) z o in let wo = walk-on t c c′ b b′ v i j u (m .own) z o p k in
+          rw (wo .0, wo .1) (m .there (k .seat)));
       is = m .is ∙ run-in st j (m .own) (omega (arith, m .size, d .room));
     }
 

@@ -22,7 +22,8 @@ use Rattle.layout.specs.Refusals.{Refusal, numbered, brokenAt}
 use Rattle.layout.proofs.Cells.{parts-node}
 use Rattle.layout.proofs.Kids.{Sized}
 use Rattle.layout.proofs.Children.{all-length, tails-eight}
-use Rattle.layout.proofs.Containers.{repeat, body-total, body-take, body-fit, codec-lawful, kids-lawful, element-lawful, child-lawful, list-lawful, kids-count}
+use Rattle.layout.proofs.Containers.{repeat, body-total, body-take, body-fit, codec-lawful, kids-lawful, element-lawful, child-lawful, list-lawful}
+use Rattle.layout.proofs.Containers.{kids-count}
 use Rattle.layout.proofs.Steps.{nobody, kidAt}
 use Rattle.layout.proofs.Stepped as Stepped
 use Rattle.layout.proofs.Stepped.{Comes, child-comes}
@@ -89,7 +90,8 @@ kids-at end i h = absurd (omega arith)
 kids-at (t then ts) zero h = refl
 kids-at (t then ts) (suc i) h = kids-at ts i (omega arith)
 
-list-comes : (t : Ty) (c : Cell) (i o : ℕ) (b : List ℕ) → Lays (li t) c b → length b < 2 ^ 32 → Comes (li t) t c i o b (child 8 (slotOf (codec t .wide)) (num (take 8 b)) t i o b)
+list-comes : (t : Ty) (c : Cell) (i o : ℕ) (b : List ℕ) → Lays (li t) c b → length b < 2 ^ 32
+    → Comes (li t) t c i o b (child 8 (slotOf (codec t .wide)) (num (take 8 b)) t i o b)
 unfolding codec array stepIn
 list-comes t c i o b y lim =
     let m = length (parts c) in
@@ -97,16 +99,20 @@ list-comes t c i o b y lim =
     let k = kid w (codec t) in
     let cnt : num (take 8 b) ≡ length (replicate m k) = list-says t c b y lim .count ∙ sym (length-replicate m k) in
     let small : m < 256 ^ 8 = omega (arith, list-says t c b y lim .room) in
-    rw cnt (child-comes (λ _. t) c (le 8 m) (y .rest) b 8 w (replicate m k) (y .whole) (length-le 8 m) (repeat w m k (element-lawful t)) (λ _. array-holds (codec t .wide)) (y .body) lim
+    rw cnt (child-comes (λ _. t) c (le 8 m) (y .rest) b 8 w (replicate m k) (y .whole) (length-le 8 m) (repeat w m k (element-lawful t))
+    (λ _. array-holds (codec t .wide)) (y .body) lim
     (λ j h. getD-replicate m j k nobody h) (li t) i o (element-lawful t)
     (λ cs r′ e _ z. record { rest = r′; plain = rw parts-node; whole = rw (parts-node, e); body = rw (parts-node, e) z })
     (λ r′ j z o. rw (head-8 m r′ small, length-replicate)))
 
-struct-comes : (ts : Tys) (c : Cell) (i o : ℕ) (b : List ℕ) → Lays (ro ts) c b → length b < 2 ^ 32 → Comes (ro ts) (field ts i) c i o b (child 0 8 (count ts) (field ts i) i o b)
+struct-comes : (ts : Tys) (c : Cell) (i o : ℕ) (b : List ℕ) → Lays (ro ts) c b → length b < 2 ^ 32
+    → Comes (ro ts) (field ts i) c i o b (child 0 8 (count ts) (field ts i) i o b)
 unfolding codec struct stepIn
 struct-comes ts c i o b y lim =
-    rw (← (kids-count ts)) (child-comes (field ts) c [] b b 0 8 (kids ts) refl refl (kids-lawful ts) (λ j. struct-holds (codec (field ts j) .wide) (codec (field ts j)) (codec-lawful (field ts j) .sized)) (y .body) lim
-    (λ j h. kids-at ts j (omega (arith, all-length 8 (kids ts) (parts c) (body-fit 0 8 (kids ts) (kids-lawful ts) (parts c) b (y .body))))) (ro ts) i o (child-lawful (field ts i))
+    rw (← (kids-count ts)) (child-comes (field ts) c [] b b 0 8 (kids ts) refl refl (kids-lawful ts)
+    (λ j. struct-holds (codec (field ts j) .wide) (codec (field ts j)) (codec-lawful (field ts j) .sized)) (y .body) lim
+    (λ j h. kids-at ts j (omega (arith, all-length 8 (kids ts) (parts c) (body-fit 0 8 (kids ts) (kids-lawful ts) (parts c) b (y .body))))) (ro ts) i o
+    (child-lawful (field ts i))
     (λ cs r′ e _ z. record { plain = rw parts-node; body = rw parts-node z })
     (λ r′ j z o. rw (kids-count ts)))
 
@@ -114,7 +120,8 @@ pair-parts : (x a b : Cell) → x ≡ node (a ∷ b ∷ []) → parts x ≡ a �
 pair-parts x a b e = ap parts e ∙ parts-node (a ∷ b ∷ [])
 
 -- bytes that are a map too, with one of the two arrays changed
-keys-aside : (k v : Ty) (c : Cell) (b u p q : List ℕ) → le 8 (length p) ++ (p ++ q) ≡ b → length b < 2 ^ 32 → length u ≡ length p → sets b 8 u ≡ le 8 (length u) ++ (u ++ q) → Aside (ma k v) 0 b (sets b 8 u)
+keys-aside : (k v : Ty) (c : Cell) (b u p q : List ℕ) → le 8 (length p) ++ (p ++ q) ≡ b → length b < 2 ^ 32 → length u ≡ length p
+    → sets b 8 u ≡ le 8 (length u) ++ (u ++ q) → Aside (ma k v) 0 b (sets b 8 u)
 unfolding stepIn
 keys-aside k v c b u p q e lim n t zero ne z o = absurd (ne refl)
 keys-aside k v c b u p q e lim n t (suc zero) ne z o =
@@ -123,7 +130,8 @@ keys-aside k v c b u p q e lim n t (suc zero) ne z o =
     rw (m .k, m′ .k, m .values, m′ .values, n)
 keys-aside k v c b u p q e lim n t (suc (suc j)) ne z o = refl
 
-values-aside : (k v : Ty) (c : Cell) (b b′ p q u : List ℕ) → le 8 (length p) ++ (p ++ q) ≡ b → length b < 2 ^ 32 → length b′ ≡ length b → le 8 (length p) ++ (p ++ u) ≡ b′ → Aside (ma k v) 1 b b′
+values-aside : (k v : Ty) (c : Cell) (b b′ p q u : List ℕ) → le 8 (length p) ++ (p ++ q) ≡ b → length b < 2 ^ 32 → length b′ ≡ length b
+    → le 8 (length p) ++ (p ++ u) ≡ b′ → Aside (ma k v) 1 b b′
 unfolding stepIn
 values-aside k v c b b′ p q u e lim n t zero ne z o =
     let m = map-says c b p q e lim in
@@ -132,7 +140,8 @@ values-aside k v c b b′ p q u e lim n t zero ne z o =
 values-aside k v c b b′ p q u e lim n t (suc zero) ne z o = absurd (ne refl)
 values-aside k v c b b′ p q u e lim n t (suc (suc j)) ne z o = refl
 
-keys-comes : (k v : Ty) (c : Cell) (s : Seat) (o : ℕ) (b : List ℕ) → Lays (ma k v) c b → length b < 2 ^ 32 → Comes (ma k v) (li k) c 0 o b (into (li k) s (o + 8) (part b 8 (num (take 8 b))))
+keys-comes : (k v : Ty) (c : Cell) (s : Seat) (o : ℕ) (b : List ℕ) → Lays (ma k v) c b → length b < 2 ^ 32
+    → Comes (ma k v) (li k) c 0 o b (into (li k) s (o + 8) (part b 8 (num (take 8 b))))
 unfolding codec pair stepIn
 keys-comes k v c s o b y lim =
     let p = y .keysArray in
@@ -200,7 +209,8 @@ values-comes k v c s o b y lim =
         let p = y .keysArray in
         let q = y .valuesArray in
         rw (← (y .whole)) (rw length-le at (sets-behind (le 8 (length p)) (p ++ q) (length p) u)
-        ∙ ap (λ (z : List ℕ). le 8 (length p) ++ z) (ap (λ (j : ℕ). sets (p ++ q) j u) (sym (add-zero (length p))) ∙ sets-behind p q 0 u ∙ ap (λ (z : List ℕ). p ++ z) (sets-whole q u n)))
+        ∙ ap (λ (z : List ℕ). le 8 (length p) ++ z) (ap (λ (j : ℕ). sets (p ++ q) j u) (sym (add-zero (length p))) ∙ sets-behind p q 0 u
+        ∙ ap (λ (z : List ℕ). p ++ z) (sets-whole q u n)))
 
 third-comes : (k v : Ty) (c : Cell) (i o : ℕ) (b : List ℕ) → Lays (ma k v) c b → Comes (ma k v) (li v) c (suc (suc i)) o b (stop (numbered 5))
 unfolding codec pair
@@ -268,7 +278,8 @@ pub data Finds (row : List ℕ) : List ℕ → Ty → Cell → Seen → Type 0 w
   past : {i : ℕ} {p : List ℕ} {t : Ty} {c : Cell} → length (parts c) ≤ i → Finds row (i ∷ p) t c (bad (numbered 5))
   missing : {i : ℕ} {t : Ty} {c : Cell} {s : Seat} → i < length (parts c) → flag (partOf i c) ≡ 1 → Finds row (i ∷ []) t c (nullAt s)
   under : {i j : ℕ} {p : List ℕ} {t : Ty} {c : Cell} → i < length (parts c) → flag (partOf i c) ≡ 1 → Finds row (i ∷ j ∷ p) t c (bad (numbered 6))
-  on : {i : ℕ} {p : List ℕ} {t : Ty} {c : Cell} {r : Seen} → i < length (parts c) → flag (partOf i c) ≡ 0 → Finds row p (childTy t i) (partOf i c) r → Finds row (i ∷ p) t c r
+  on : {i : ℕ} {p : List ℕ} {t : Ty} {c : Cell} {r : Seen} → i < length (parts c) → flag (partOf i c) ≡ 0 → Finds row p (childTy t i) (partOf i c) r
+      → Finds row (i ∷ p) t c r
 
 -- what a walk does of its path after a step
 abbrev Walks : List ℕ → List ℕ → Type 0
@@ -280,7 +291,8 @@ unfolding goOn
 null-finds row i [] t c s k f = missing k f
 null-finds row i (j ∷ p) t c s k f = under k f
 
-step-finds : (row : List ℕ) (i : ℕ) (p : List ℕ) (t : Ty) (c : Cell) (o : ℕ) (b : List ℕ) (r : Step) → length b < 2 ^ 32 → Sits row o b → Walks row p → Comes t (childTy t i) c i o b r
+step-finds : (row : List ℕ) (i : ℕ) (p : List ℕ) (t : Ty) (c : Cell) (o : ℕ) (b : List ℕ) (r : Step) → length b < 2 ^ 32 → Sits row o b → Walks row p
+    → Comes t (childTy t i) c i o b r
     → Finds row (i ∷ p) t c (goOn p (λ t s o b. walk p t s o b) r)
 unfolding goOn
 step-finds row i p t c o b r lim st w (Stepped.past h) = past h

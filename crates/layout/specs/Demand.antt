@@ -75,7 +75,8 @@ pub record Demand3 (ts : Tys) (row : List ℕ) : Type 0 where
   -- two settings of one leaf leave what the last alone leaves
   pub last-alone : (p : List ℕ) (x y : Setting) (row′ : List ℕ) → Proper x → Proper y → setIn ts row p x ≡ becomes row′ → setIn ts row′ p y ≡ setIn ts row p y
   -- settings of two different leaves leave the same bytes in either order
-  pub either-order : (p q : List ℕ) (x y : Setting) (row₁ row₂ : List ℕ) → Proper x → Proper y → p ≢ q → setIn ts row p x ≡ becomes row₁ → setIn ts row q y ≡ becomes row₂ → Meet ts row₁ row₂ p q x y
+  pub either-order : (p q : List ℕ) (x y : Setting) (row₁ row₂ : List ℕ) → Proper x → Proper y → p ≢ q → setIn ts row p x ≡ becomes row₁
+      → setIn ts row q y ≡ becomes row₂ → Meet ts row₁ row₂ p q x y
   -- a setting is refused only where document 01 says so
   pub refused-only : (p : List ℕ) (x : Setting) (r : Refusal) → setIn ts row p x ≡ refuses r → Grounds ts row p x r
   -- and there it is refused, in that way

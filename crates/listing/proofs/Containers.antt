@@ -1,26 +1,29 @@
 -- A list, a map and a struct taken apart: what the code's calls ask, and that their records together are the container's.
 -- Assumes nothing.
-use mathlib.Core.Path.{_≡_, refl, sym, ap, _∙_}
+use mathlib.Core.Path.{_≡_, refl, sym, ap, _∙_, subst}
 use mathlib.Core.List.{List, _++_, append-assoc}
-use Prim.Native.Nat.{ℕ, _+_, _-_, _^_, _≤_, _<_}
+use Prim.Native.Nat.{ℕ, _+_, _*_, _-_, _≤_, _<_}
 use native.Mathlib.Omega.{arith}
-use lib.ListN.{length, getD, take, drop, length-append, length-take}
-use lib.Seq.{take-take, take-length}
-use Rattle.words.specs.Bytes.{le, num, part}
-use Rattle.words.proofs.Parts.{bytes-part}
+use lib.ListN.{length, take, drop, length-append}
+use mir.Syntax.{w64}
+use mir.Val.{Fits}
+use Rattle.words.specs.Bytes.{le}
+use Rattle.words.specs.Reads.{Reads}
 use Rattle.schema.specs.Marks.{markAt}
 use Rattle.schema.specs.Types.{Ty, li, ma, ro, Tys, place, mark}
-use Rattle.schema.specs.Walk.{typeAt, typesAt, nextAt}
-use Rattle.schema.proofs.Places.{typed-marked, place-li, place-ma, place-ro}
+use Rattle.schema.specs.Walk.{typeAt, nextAt, Typed, ListAt, MapAt, StructAt}
+use Rattle.schema.proofs.Places.{place-li, place-ma, place-ro}
 use Rattle.schema.proofs.Typing.{typed-deep}
-use Rattle.schema.proofs.Laws.{byte-room}
-use Rattle.layout.specs.Cells.{Cell, parts, part as partOf}
-use Rattle.layout.specs.Layout.{pair, codec, Lays}
-use Rattle.layout.specs.Listing.{structScript, listScript, mapScript, element, script, listing}
-use Rattle.layout.proofs.Walked.{ListSays, list-says, map-says}
-use Rattle.listing.specs.Lines.{cellOf, lines, itemLines, fieldLines}
-use Rattle.listing.specs.Room.{Holds, Container, Elements, Pair, Fields}
-use Rattle.listing.proofs.Held.{cell-is, holds-lays}
+use Rattle.table.specs.Words.{placeIn, countIn, afterIn, Lined}
+use Rattle.table.specs.Tables.{schemaOf, posOf, Stands, EntryAt}
+use Rattle.table.proofs.Places.{place-room, table-short}
+use Rattle.layout.specs.Cells.{parts}
+use Rattle.layout.specs.Listing.{structScript, listScript, element, script, listing}
+use Rattle.layout.proofs.Walked.{list-says}
+use Rattle.listing.specs.Lines.{cellOf, lines, itemLines, fieldLines, Written}
+use Rattle.listing.specs.Room.{tyAt, tysAt, Holds, Container, Pair, Elements, Fields}
+use Rattle.listing.proofs.Wrote.{and-then, same-bytes}
+use Rattle.listing.proofs.Maps.{keys-hold, values-hold, map-is, map-lengths}
 
 -- ---- the records of each
 
@@ -32,176 +35,193 @@ struct-lines : (ts : Tys) (b : List ℕ) → markAt 11 ++ fieldLines ts b ≡ li
 unfolding lines listing script structScript fieldLines mark place
 struct-lines ts b = refl
 
-map-lines : (k v : Ty) (b p q : List ℕ) (n : ℕ) → cellOf (li k) p ≡ partOf 0 (cellOf (ma k v) b) → cellOf (li v) q ≡ partOf 1 (cellOf (ma k v) b) → n ≡ length (parts (cellOf (li k) p))
-    → (markAt 10 ++ le 4 n) ++ (itemLines k p ++ itemLines v q) ≡ lines (ma k v) b
-unfolding lines listing script mapScript itemLines mark place
-map-lines k v b p q n ep eq e = rw (append-assoc, e, ep, eq)
+-- ---- by the entry of its type
 
--- ---- by the place of the type in the table
+module _ {t : List ℕ} {at d : ℕ} {b : List ℕ} {pos : ℕ} (r : Container t at d b pos) where
+  abbrev s : List ℕ
+  s = schemaOf t
 
--- a list's count, and its elements
-pub record ListParts (s : List ℕ) (at d : ℕ) (b : List ℕ) (pos n : ℕ) : Type 0 where
-  pub elements : (p : ℕ) → p ≡ pos + length (markAt 9 ++ le 4 n) → Elements s (at + 2) (d - 1) b p
-  pub lines : (markAt 9 ++ le 4 n) ++ itemLines (typeAt s (at + 2) (d - 1)) b ≡ lines (typeAt s at d) b
+  pub value-deep : 1 ≤ d
+  value-deep = typed-deep s (posOf t at) d (r .stands .typed)
 
-pub record StructParts (s : List ℕ) (at d : ℕ) (b : List ℕ) (pos n : ℕ) : Type 0 where
-  pub fields : (p : ℕ) → p ≡ pos + length (markAt 11) → Fields s (at + 3) n (d - 1) b p
-  pub lines : markAt 11 ++ fieldLines (typesAt s (at + 3) (d - 1) n) b ≡ lines (typeAt s at d) b
+  pub value-child : Fits w64 (at + 1)
+  value-child = omega (arith, place-room t (r .stands .table) at d (r .stands .typed), table-short t (r .stands .table))
 
-pub record MapParts (s : List ℕ) (at d v : ℕ) (b : List ℕ) (pos : ℕ) : Type 0 where
-  pub pair : Pair s (at + 2) v (d - 1) b pos
-  pub lines : lines (ma (typeAt s (at + 2) (d - 1)) (typeAt s v (d - 1))) b ≡ lines (typeAt s at d) b
+  value-room : pos ≤ 65536
+  value-room = omega (arith, r .room)
 
-module _ {s : List ℕ} {at d k : ℕ} {b : List ℕ} {pos : ℕ} (r : Container s at d k b pos) where
-  pub value-deep : 0 < d
-  value-deep = typed-deep s at d (r .typed)
+-- w is its type's entry, k the type's place in the table of types, and m the measure
+pub record Valued (t : List ℕ) (at d : ℕ) (b : List ℕ) (pos w k m : ℕ) : Type 0 where
+  pub rank : d * 3 + 2 ≡ m
+  pub asked : Container t at d b pos
+  pub entry : EntryAt t at d w
+  pub place-is : k ≡ placeIn w
 
-  -- a type's mark stands in the schema
-  pub value-mark : at + 1 < length s
-  value-mark = typed-marked s at d (r .typed) .room
+module _ {t : List ℕ} {at d : ℕ} {b : List ℕ} {pos w k m : ℕ} (r : Valued t at d b pos w k m) where
+  -- the measure falls from a container to its children
+  pub value-falls : (d - 1) * 3 + 3 < m
+  value-falls = omega (arith, r .rank, value-deep (r .asked))
 
-  pub struct-place : (k ≡ 9 → ⊥) → (k ≡ 10 → ⊥) → k ≡ 11
-  struct-place e f = let l : k < 12 = rw (r .place) (typed-marked s at d (r .typed) .known) in go k (r .high) l e f
-    where
-      go : (j : ℕ) → 9 ≤ j → j < 12 → (j ≡ 9 → ⊥) → (j ≡ 10 → ⊥) → j ≡ 11
-      go j a b e f = omega arith
+  pub value-rank : d * 3 + 1 < m
+  value-rank = omega (arith, r .rank)
 
-  -- and so does a struct's field count
-  pub struct-byte : k ≡ 11 → at + 2 < length s
-  struct-byte e = byte-room s (at + 2) (place-ro s at d (r .typed) k (r .place) e (getD s (at + 2) 0) refl .low)
+  pub value-mark : (Lined w) × (pos ≤ 65536)
+  value-mark = (r .entry .lined, value-room (r .asked))
 
-  pub list-head : k ≡ 9 → 0 + 8 ≤ length b
-  list-head e =
-      let a = place-li s at d (r .typed) k (r .place) e in
-      let h : Holds (li (typeAt s (at + 2) (d - 1))) b = rw (a .whole) at (r .holds) in
-      omega (arith, list-says (typeAt s (at + 2) (d - 1)) _ b (h .lays) (omega (arith, h .small)) .room)
+  -- ---- a list
 
-  pub list-parts : k ≡ 9 → (n : ℕ) → n ≡ num (part b 0 8) → ListParts s at d b pos n
-  list-parts e n en =
-      let a = place-li s at d (r .typed) k (r .place) e in
-      let t = typeAt s (at + 2) (d - 1) in
-      let h : Holds (li t) b = rw (a .whole) at (r .holds) in
-      let z = list-lines t b n (en ∙ list-says t _ b (h .lays) (omega (arith, h .small)) .count) in
-      let m : pos + length (lines (li t) b) ≤ 65536 = rw (a .whole) at (r .room) in
-      record {
-        elements = λ p ep. record { typed = a .element; items = record { holds = h; room = omega (arith, length-append (markAt 9 ++ le 4 n) (itemLines t b), ap length z) } };
-        lines = rw (a .whole) z;
-      }
+  module _ (q : k ≡ 9) where
+    list-at : ListAt (schemaOf t) (posOf t at) d (posOf t (at + 1))
+    list-at =
+        subst (λ (y : ℕ). ListAt (schemaOf t) (posOf t at) d y) (sym (r .entry .child (λ z. omega arith)))
+        (place-li (schemaOf t) (posOf t at) d (r .asked .stands .typed) (placeIn w) (r .entry .place) (sym (r .place-is) ∙ q))
 
-  pub map-parts : k ≡ 10 → (v : ℕ) → v ≡ nextAt s (at + 2) (d - 1) → MapParts s at d v b pos
-  map-parts e v ev =
-      let a = place-ma s at d (r .typed) k (r .place) e in
-      rw ev (record { pair = record { keys = a .keys; values = a .values; holds = rw (a .whole) at (r .holds); room = rw (a .whole) at (r .room) }; lines = rw (a .whole) })
+    abbrev el : Ty
+    el = tyAt t (at + 1) (d - 1)
 
-  pub struct-parts : k ≡ 11 → (n : ℕ) → n ≡ getD s (at + 2) 0 → StructParts s at d b pos n
-  struct-parts e n en =
-      let a = place-ro s at d (r .typed) k (r .place) e n en in
-      let ts = typesAt s (at + 3) (d - 1) n in
-      let m : pos + length (lines (ro ts) b) ≤ 65536 = rw (a .whole) at (r .room) in
-      let z = struct-lines ts b in
-      record {
-        fields = λ p ep. record { typed = a .fields; high = a .high; holds = rw (a .whole) at (r .holds); room = omega (arith, length-append (markAt 11) (fieldLines ts b), ap length z) };
-        lines = rw (a .whole) z;
-      }
+    list-holds : Holds (li el) b
+    list-holds = rw (list-at .whole) at (r .asked .holds)
 
--- ---- a map's two arrays
+    pub list-head : 0 + 8 ≤ length b
+    list-head = omega (arith, list-says el _ b (list-holds .lays) (omega (arith, list-holds .small)) .room)
 
--- p and q are the arrays that the bytes hold, c the contents
-record Halves (k v : Ty) (b : List ℕ) (K : ℕ) (p q : List ℕ) : Type 0 where
-  size : length b ≡ 8 + (length p + length q)
-  long : K ≡ length p
-  keys : Lays (li k) (partOf 0 (cellOf (ma k v) b)) p
-  values : Lays (li v) (partOf 1 (cellOf (ma k v) b)) q
-  first : take (8 + K - 8) (drop 8 b) ≡ p
-  second : take (length b - (8 + K)) (drop (8 + K) b) ≡ q
+    module _ {n : ℕ} (g : Reads b 0 8 n) where
+      list-is : (markAt (placeIn w) ++ le 4 n) ++ itemLines el b ≡ lines (tyAt t at d) b
+      list-is =
+          rw (sym (r .place-is) ∙ q, list-at .whole)
+          (list-lines el b n (g .is ∙ list-says el _ b (list-holds .lays) (omega (arith, list-holds .small)) .count))
 
-module _ {s : List ℕ} {k v d : ℕ} {b : List ℕ} {pos : ℕ} (r : Pair s k v d b pos) where
+      module _ {out o : List ℕ} {p : ℕ} (f : Written out pos (markAt (placeIn w) ++ le 4 n) o p) where
+        pub list-elements : Elements t (at + 1) (d - 1) b p
+        list-elements = record {
+          stands = record { table = r .asked .stands .table; typed = list-at .element };
+          items = record {
+            holds = list-holds;
+            room = omega (arith, f .past, length-append (markAt (placeIn w) ++ le 4 n) (itemLines el b), ap length list-is, r .asked .room);
+          };
+        }
+
+        pub list-written : {o′ : List ℕ} {p′ : ℕ} → Written o p (itemLines el b) o′ p′ → Written out pos (lines (tyAt t at d) b) o′ p′
+        list-written h = same-bytes list-is (and-then f h)
+
+  -- ---- a map
+
+  pub map-pair : k ≡ 10 → Pair t at d b pos
+  map-pair q = record { container = r .asked; map = sym (r .entry .place) ∙ sym (r .place-is) ∙ q }
+
+  -- ---- a struct, which is what is left
+
+  module _ (n9 : k ≡ 9 → ⊥) (n10 : k ≡ 10 → ⊥) where
+    eleven : placeIn w ≡ 11
+    eleven = go k (r .place-is) n9 n10 (rw (← r .entry .place, ← r .place-is) at (r .asked .high)) (rw (← r .place-is) at (r .entry .lined .few))
+      where
+        go : (j : ℕ) → j ≡ placeIn w → (j ≡ 9 → ⊥) → (j ≡ 10 → ⊥) → 9 ≤ j → j < 12 → placeIn w ≡ 11
+        go j ej a b l m = omega arith
+
+    module _ {n : ℕ} (en : n ≡ countIn w) where
+      struct-at : StructAt (schemaOf t) (posOf t at) d (posOf t (at + 1)) n
+      struct-at =
+          subst (λ (y : ℕ). StructAt (schemaOf t) (posOf t at) d y n) (sym (r .entry .first eleven))
+          (place-ro (schemaOf t) (posOf t at) d (r .asked .stands .typed) (placeIn w) (r .entry .place) eleven n (en ∙ r .entry .count eleven))
+
+      abbrev ts : Tys
+      ts = tysAt t (at + 1) (d - 1) n
+
+      struct-is : markAt (placeIn w) ++ fieldLines ts b ≡ lines (tyAt t at d) b
+      struct-is = rw (eleven, struct-at .whole) (struct-lines ts b)
+
+      module _ {out o : List ℕ} {p : ℕ} (f : Written out pos (markAt (placeIn w)) o p) where
+        pub struct-fields : Fields t (at + 1) n (d - 1) b p
+        struct-fields = record {
+          table = r .asked .stands .table;
+          typed = struct-at .fields;
+          high = struct-at .high;
+          holds = rw (struct-at .whole) at (r .asked .holds);
+          room = omega (arith, f .past, length-append (markAt (placeIn w)) (fieldLines ts b), ap length struct-is, r .asked .room);
+        }
+
+        pub struct-written : {o′ : List ℕ} {p′ : ℕ} → Written o p (fieldLines ts b) o′ p′ → Written out pos (lines (tyAt t at d) b) o′ p′
+        struct-written h = same-bytes struct-is (and-then f h)
+
+-- ---- a map: w is its entry, w₁ that of its keys, behind which stand the values
+
+module _ {t : List ℕ} {at d : ℕ} {b : List ℕ} {pos : ℕ} (r : Pair t at d b pos) {w : ℕ} (e : EntryAt t at d w) where
+  abbrev x : ℕ
+  x = posOf t (at + 1)
+
+  map-at : MapAt (schemaOf t) (posOf t at) d x (nextAt (schemaOf t) x (d - 1))
+  map-at =
+      subst (λ (y : ℕ). MapAt (schemaOf t) (posOf t at) d y (nextAt (schemaOf t) y (d - 1))) (sym (e .child (λ z. omega (arith, e .place, r .map))))
+      (place-ma (schemaOf t) (posOf t at) d (r .container .stands .typed) (placeIn w) (e .place) (e .place ∙ r .map))
+
+  pub keys-stand : Stands t (at + 1) (d - 1)
+  keys-stand = record { table = r .container .stands .table; typed = map-at .keys }
+
+-- v is the place of the values' type, and m the measure
+pub record MapKnown (t : List ℕ) (at d : ℕ) (b : List ℕ) (pos w w₁ v m : ℕ) : Type 0 where
+  pub rank : d * 3 + 1 ≡ m
+  pub asked : Pair t at d b pos
+  pub entry : EntryAt t at d w
+  pub keys : EntryAt t (at + 1) (d - 1) w₁
+  pub values : v ≡ afterIn w₁
+
+module _ {t : List ℕ} {at d : ℕ} {b : List ℕ} {pos w w₁ v m : ℕ} (k : MapKnown t at d b pos w w₁ v m) where
+  abbrev r₀ : Pair t at d b pos
+  r₀ = k .asked
+
+  pub map-falls : (d - 1) * 3 + 3 < m
+  map-falls = omega (arith, k .rank, value-deep (r₀ .container))
+
+  pub map-mark : (Lined w) × (pos ≤ 65536)
+  map-mark = (k .entry .lined, value-room (r₀ .container))
+
+  values-at : posOf t v ≡ nextAt (schemaOf t) (posOf t (at + 1)) (d - 1)
+  values-at = ap (posOf t) (k .values) ∙ k .keys .next
+
   abbrev tk : Ty
-  tk = typeAt s k d
+  tk = tyAt t (at + 1) (d - 1)
 
   abbrev tv : Ty
-  tv = typeAt s v d
+  tv = tyAt t v (d - 1)
 
-  small : length b < 2 ^ 32
-  small = omega (arith, r .holds .small)
+  whole : tyAt t at d ≡ ma tk tv
+  whole = map-at r₀ (k .entry) .whole ∙ ap (λ (y : ℕ). ma tk (typeAt (schemaOf t) y (d - 1))) (sym values-at)
 
-  abbrev c : Cell
-  c = cellOf (ma tk tv) b
+  pub map-holds : Holds (ma tk tv) b
+  map-holds = rw whole at (r₀ .container .holds)
 
-  keysOf : List ℕ
-  unfolding codec pair
-  keysOf = r .holds .lays .keysArray
+  values-stand : Stands t v (d - 1)
+  values-stand = record {
+    table = r₀ .container .stands .table;
+    typed = subst (λ (y : ℕ). Typed (schemaOf t) y (d - 1)) (sym values-at) (map-at r₀ (k .entry) .values);
+  }
 
-  valuesOf : List ℕ
-  unfolding codec pair
-  valuesOf = r .holds .lays .valuesArray
-
-  halves : (K : ℕ) → K ≡ num (part b 0 8) → Halves tk tv b K keysOf valuesOf
-  unfolding codec pair keysOf valuesOf
-  halves K e =
-      let y = r .holds .lays in
-      let m = map-says c b (y .keysArray) (y .valuesArray) (y .whole) small in
-      let l : K ≡ length (y .keysArray) = e ∙ m .k in
-      let j : 8 + K - 8 ≡ length (y .keysArray) = omega arith in
-      let o : 8 + K ≡ 8 + length (y .keysArray) = omega arith in
-      let z : length b - (8 + length (y .keysArray)) ≡ length (y .valuesArray) = omega (arith, m .size) in
-      record {
-        size = m .size;
-        long = l;
-        keys = y .keys;
-        values = y .values;
-        first = rw j (m .keys);
-        second = rw (o, m .values, z) (take-length (y .valuesArray));
-      }
-
-  -- a map's keys array has its count
-  pub map-head : 16 ≤ length b
-  map-head =
-      let h = halves (num (part b 0 8)) refl in
-      omega (arith, h .size, list-says tk (partOf 0 c) keysOf (h .keys) (omega (arith, h .size)) .room)
-
-  pub map-size : (K : ℕ) → K ≡ num (part b 0 8) → 8 + K ≤ length b
-  map-size K e = let h = halves K e in omega (arith, h .size, h .long)
-
-  module _ (K n : ℕ) (eK : K ≡ num (part b 0 8)) (en : n ≡ num (part b 8 8)) where
-    abbrev h : Halves tk tv b K keysOf valuesOf
-    h = halves K eK
-
+  module _ {K n : ℕ} (gK : Reads b 0 8 K) (gn : Reads b 8 8 n) {out o : List ℕ} {p : ℕ}
+      (f : Written out pos (markAt (placeIn w) ++ le 4 n) o p) where
     abbrev us : List ℕ
     us = take (8 + K - 8) (drop 8 b)
 
     abbrev vs : List ℕ
     vs = take (length b - (8 + K)) (drop (8 + K) b)
 
-    small-p : length us ≤ 16384
-    small-p = rw (h .first) (omega (arith, h .size, r .holds .small))
+    f₁₀ : Written out pos (markAt 10 ++ le 4 n) o p
+    f₁₀ = rw (k .entry .place ∙ r₀ .map) at f
 
-    small-q : length vs ≤ 16384
-    small-q = rw (h .second) (omega (arith, h .size, r .holds .small))
+    room : pos + length (lines (ma tk tv) b) ≤ 65536
+    room = rw whole at (r₀ .container .room)
 
-    lays-p : Lays (li tk) (partOf 0 c) us
-    lays-p = rw (h .first) (h .keys)
+    pub map-keys : Elements t (at + 1) (d - 1) us p
+    map-keys = record {
+      stands = keys-stand r₀ (k .entry);
+      items = record { holds = keys-hold map-holds gK; room = omega (arith, f₁₀ .past, map-lengths map-holds gK gn, room) };
+    }
 
-    lays-q : Lays (li tv) (partOf 1 c) vs
-    lays-q = rw (h .second) (h .values)
+    module _ {o₁ : List ℕ} {q : ℕ} (g : Written o p (itemLines tk us) o₁ q) where
+      pub map-values : Elements t v (d - 1) vs q
+      map-values = record {
+        stands = values-stand;
+        items = record { holds = values-hold map-holds gK; room = omega (arith, f₁₀ .past, g .past, map-lengths map-holds gK gn, room) };
+      }
 
-    keys-says : ListSays tk (partOf 0 c) us
-    keys-says = list-says tk (partOf 0 c) us lays-p (omega (arith, small-p))
-
-    count-is : n ≡ length (parts (cellOf (li tk) us))
-    count-is =
-        let j : take 8 us ≡ part b 8 8 = take-take 8 (8 + K - 8) (drop 8 b) (omega (arith, keys-says .room, length-take (8 + K - 8) (drop 8 b))) in
-        en ∙ ap num (sym j) ∙ keys-says .count ∙ ap (λ (x : Cell). length (parts x)) (sym (cell-is (li tk) (partOf 0 c) us lays-p small-p))
-
-    pub map-is : (markAt 10 ++ le 4 n) ++ (itemLines tk us ++ itemLines tv vs) ≡ lines (ma tk tv) b
-    map-is = map-lines tk tv b us vs n (cell-is (li tk) (partOf 0 c) us lays-p small-p) (cell-is (li tv) (partOf 1 c) vs lays-q small-q) count-is
-
-    lengths : length (markAt 10 ++ le 4 n) + (length (itemLines tk us) + length (itemLines tv vs)) ≡ length (lines (ma tk tv) b)
-    lengths = rw (← map-is, length-append (markAt 10 ++ le 4 n), length-append (itemLines tk us))
-
-    pub map-keys : (p : ℕ) → p ≡ pos + length (markAt 10 ++ le 4 n) → Elements s k d us p
-    map-keys p ep = record { typed = r .keys; items = record { holds = holds-lays (li tk) (partOf 0 c) us (bytes-part 8 (8 + K - 8) (r .holds .bytes)) small-p lays-p; room = omega (arith, lengths, r .room) } }
-
-    pub map-values : (p q : ℕ) → p ≡ pos + length (markAt 10 ++ le 4 n) → q ≡ p + length (itemLines tk us) → Elements s v d vs q
-    map-values p q ep eq =
-        record { typed = r .values; items = record { holds = holds-lays (li tv) (partOf 1 c) vs (bytes-part (8 + K) (length b - (8 + K)) (r .holds .bytes)) small-q lays-q; room = omega (arith, lengths, r .room) } }
+      pub map-written : {o₂ : List ℕ} {q′ : ℕ} → Written o₁ q (itemLines tv vs) o₂ q′ → Written out pos (lines (tyAt t at d) b) o₂ q′
+      map-written h = rw whole (same-bytes (map-is map-holds gK gn) (and-then f₁₀ (and-then g h)))

@@ -21,7 +21,7 @@ use Rattle.layout.specs.Walk.{Seat, Step, stop, toNull, into, mustStep, bySlot,
 use Rattle.layout.proofs.Cells.{present}
 use Rattle.layout.proofs.Stepped as Stepped
 use Rattle.layout.proofs.Stepped.{Comes}
-use Rattle.listing.specs.Lines.{lines, ownBytes, childLines}
+use Rattle.listing.specs.Lines.{ownBytes, ownLines, childLines}
 use Rattle.listing.specs.Room.{Within, Own}
 use Rattle.listing.proofs.Held.{holds-lays, lines-of}
 
@@ -91,7 +91,8 @@ missing a u (null z) e = refl
 missing a u (leaf z) e = absurd (omega arith)
 missing a u (nodes z) e = absurd (omega arith)
 
-module _ (T t : Ty) (c : Cell) (h w n i : ℕ) (b : List ℕ) (k : i < n) (hb : Bytes b) (l : length b ≤ 16384) (y : Comes T t c i 0 b (child h w n t i 0 b)) where
+module _ (T t : Ty) (c : Cell) (h w n i : ℕ) (b : List ℕ) (k : i < n) (hb : Bytes b) (l : length b ≤ 16384)
+    (y : Comes T t c i 0 b (child h w n t i 0 b)) where
   abbrev slot : ℕ
   slot = h + (bitmap n + i * w)
 
@@ -101,12 +102,14 @@ module _ (T t : Ty) (c : Cell) (h w n i : ℕ) (b : List ℕ) (k : i < n) (hb : 
   abbrev bit₀ : ℕ
   bit₀ = num (part b h (bitmap n)) / 2 ^ i % 2
 
-  by-bit : Comes T t c i 0 b (byFlag bit₀ seat (bySlot (codec t .wide) t seat (front h w n) 0 slot b))
+  abbrev stepped : Step
+  stepped = byFlag bit₀ seat (bySlot (codec t .wide) t seat (front h w n) 0 slot b)
+
+  by-bit : Comes T t c i 0 b stepped
   unfolding child mustStep
   by-bit = go (decLt i n) y
     where
-      go : (d : Dec (i < n)) → Comes T t c i 0 b (mustStep d (numbered 5) (byFlag bit₀ seat (bySlot (codec t .wide) t seat (front h w n) 0 slot b)))
-          → Comes T t c i 0 b (byFlag bit₀ seat (bySlot (codec t .wide) t seat (front h w n) 0 slot b))
+      go : (d : Dec (i < n)) → Comes T t c i 0 b (mustStep d (numbered 5) stepped) → Comes T t c i 0 b stepped
       go (yes p) z = z
       go (no q) z = absurd (q k)
 
@@ -122,13 +125,23 @@ module _ (T t : Ty) (c : Cell) (h w n i : ℕ) (b : List ℕ) (k : i < n) (hb : 
 
   by-slot : (wd : Option ℕ) → Comes T t c i 0 b (bySlot wd t seat (front h w n) 0 slot b) → As wd t (partOf i c) b slot
   unfolding bySlot ownBytes
-  by-slot (some v) z = record { within = tt; bytes = bytes-part slot v hb; small = small-part slot v; shown = shown T t c i 0 b _ seat _ (part b slot v) z refl }
+  by-slot (some v) z = record {
+    within = tt;
+    bytes = bytes-part slot v hb;
+    small = small-part slot v;
+    shown = shown T t c i 0 b _ seat _ (part b slot v) z refl;
+  }
   by-slot none z =
       let x = num (part b slot 8) in
       let z₁ = kept T t c i 0 b _ (decLe (front h w n) (x / 2 ^ 32)) (seat .slot) _ z in
       let z₂ = kept T t c i 0 b _ (ℕ-discrete (x / 2 ^ 32 % 8) 0) (seat .slot) _ (z₁ .comes) in
       let z₃ = kept T t c i 0 b _ (decLe (x / 2 ^ 32 + x % 2 ^ 32) (length b)) (seat .slot) _ (z₂ .comes) in
-      record { within = z₃ .holds; bytes = bytes-part (x / 2 ^ 32) (x % 2 ^ 32) hb; small = small-part (x / 2 ^ 32) (x % 2 ^ 32); shown = shown T t c i 0 b _ seat _ (part b (x / 2 ^ 32) (x % 2 ^ 32)) (z₃ .comes) refl }
+      record {
+        within = z₃ .holds;
+        bytes = bytes-part (x / 2 ^ 32) (x % 2 ^ 32) hb;
+        small = small-part (x / 2 ^ 32) (x % 2 ^ 32);
+        shown = shown T t c i 0 b _ seat _ (part b (x / 2 ^ 32) (x % 2 ^ 32)) (z₃ .comes) refl;
+      }
 
   zero-bit : bit b h i ≡ false → bit₀ ≡ 0
   zero-bit e = go bit₀ (omega arith) (eqb-false bit₀ 1 (bit-is ∙ e))
@@ -141,14 +154,19 @@ module _ (T t : Ty) (c : Cell) (h w n i : ℕ) (b : List ℕ) (k : i < n) (hb : 
   unfolding byFlag
   there-child e =
       let a = by-slot (codec t .wide) (rw (zero-bit e) at by-bit) in
-      record { here = a .shown .here; own = record { within = a .within; holds = holds-lays t (partOf i c) _ (a .bytes) (a .small) (a .shown .lays) }; lays = a .shown .lays }
+      record {
+        here = a .shown .here;
+        own = record { within = a .within; holds = holds-lays t (partOf i c) _ (a .bytes) (a .small) (a .shown .lays) };
+        lays = a .shown .lays;
+      }
 
   -- what it lists
   pub lines-child : onNull (λ _. nu) (mark t ++ script t .put (partOf i c)) (partOf i c) ≡ childLines t b h i slot
-  unfolding childLines
+  unfolding childLines ownLines
   lines-child = go (bit b h i) refl
     where
-      go : (v : Bool) → bit b h i ≡ v → onNull (λ _. nu) (mark t ++ script t .put (partOf i c)) (partOf i c) ≡ cond v nu (lines t (ownBytes (codec t .wide) b slot))
+      go : (v : Bool) → bit b h i ≡ v
+          → onNull (λ _. nu) (mark t ++ script t .put (partOf i c)) (partOf i c) ≡ cond v nu (ownLines t b slot)
       go true e = missing _ nu (partOf i c) (null-child e)
       go false e =
           let a = there-child e in

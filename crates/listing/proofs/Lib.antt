@@ -1,10 +1,12 @@
 pub mod Wrote
+pub mod Numbers
 pub mod Held
 pub mod Found
 pub mod Turns
+pub mod Seats
 pub mod Children
+pub mod Items
 pub mod Structs
-pub mod ByKind
+pub mod Maps
 pub mod Containers
 pub mod Root
-pub mod Numbers

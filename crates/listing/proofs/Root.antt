@@ -1,5 +1,5 @@
 -- A row that was checked: what the lister of a container asks of it, and that its records are the row's listing. Assumes nothing.
-use mathlib.Core.Path.{_≡_, refl, sym, ap, _∙_}
+use mathlib.Core.Path.{_≡_, refl, sym, ap, _∙_, subst}
 use mathlib.Core.Bool.{true}
 use mathlib.Core.Option.{Option, none, some}
 use mathlib.Core.List.{List}
@@ -8,9 +8,10 @@ use native.Mathlib.Omega.{arith}
 use lib.ListN.{length}
 use Rattle.words.specs.Bytes.{Bytes}
 use Rattle.schema.specs.Types.{Ty, ro, Tys, end, _then_, count, place}
-use Rattle.schema.specs.Walk.{typeAt, fieldsOf}
+use Rattle.schema.specs.Walk.{Typed, typeAt, fieldsOf}
 use Rattle.schema.proofs.Judging.{Root, accepted-root}
 use Rattle.schema.proofs.Places.{typed-place}
+use Rattle.table.specs.Tables.{schemaOf, posOf}
 use Rattle.layout.specs.Reader.{_>>=_}
 use Rattle.layout.specs.Cells.{Cell}
 use Rattle.layout.specs.Layout.{Fits, content, decode}
@@ -20,7 +21,7 @@ use Rattle.layout.specs.Entries.{listingOf}
 use Rattle.layout.proofs.Containers.{lays-fits, lays-size}
 use Rattle.layout.proofs.Listed.{listing-short}
 use Rattle.listing.specs.Lines.{cellOf, lines}
-use Rattle.listing.specs.Room.{Holds, Container, Checked}
+use Rattle.listing.specs.Room.{tyAt, Holds, Container, Checked}
 use Rattle.listing.proofs.Held.{holds-sound}
 
 -- a root has a field or more, so its listing is at most three times as long
@@ -38,26 +39,43 @@ unfolding lines cellOf
 sound-lines t b none q s = absurd (let z : _≡_ {A = ℕ} 0 1 = cc in omega arith)
 sound-lines t b (some c) q s = rw q
 
-module _ {s row : List ℕ} (r : Checked s row) where
+-- a table's first entry stands at the schema's first byte
+first-pos : (t : List ℕ) → posOf t 0 ≡ 0
+unfolding posOf schemaOf
+first-pos t = refl
+
+module _ {t row : List ℕ} (r : Checked t row) where
+  abbrev s : List ℕ
+  s = schemaOf t
+
   root : Root s
-  root = accepted-root s (r .accepted)
+  root = accepted-root s (r .table .accepted)
 
-  pub row-lines : lines (typeAt s 0 8) row ≡ orEmpty (listingOf s row)
-  unfolding listingOf
-  row-lines = rw (root .whole) (sound-lines (ro (fieldsOf s)) row _ refl (r .sound))
+  root-typed : Typed s (posOf t 0) 8
+  root-typed = subst (λ (x : ℕ). Typed s x 8) (sym (first-pos t)) (root .typed)
 
-  pub row-container : Bytes row → Container s 0 8 11 row 0
+  whole : tyAt t 0 8 ≡ ro (fieldsOf s)
+  whole = ap (λ (x : ℕ). typeAt s x 8) (first-pos t) ∙ root .whole
+
+  struct : place (tyAt t 0 8) ≡ 11
   unfolding place
-  row-container hb =
-      let h = holds-sound (ro (fieldsOf s)) row hb (r .short) (r .sound) in
-      record {
-        typed = root .typed;
-        place = sym (typed-place s 0 8 (root .typed) ∙ ap place (root .whole));
-        high = omega arith;
-        holds = rw (root .whole) h;
-        room = rw (root .whole) (omega (arith, root-lines (fieldsOf s) row (root .low) h, r .short));
-      }
+  struct = ap place whole
+
+  pub row-lines : lines (tyAt t 0 8) row ≡ orEmpty (listingOf s row)
+  unfolding listingOf
+  row-lines = rw whole (sound-lines (ro (fieldsOf s)) row _ refl (r .sound))
+
+  holds : Bytes row → Holds (ro (fieldsOf s)) row
+  holds hb = holds-sound (ro (fieldsOf s)) row hb (r .short) (r .sound)
+
+  pub row-container : Bytes row → Container t 0 8 row 0
+  row-container hb = record {
+    stands = record { table = r .table; typed = root-typed };
+    high = omega (arith, typed-place s (posOf t 0) 8 root-typed, struct);
+    holds = rw whole (holds hb);
+    room = rw whole (omega (arith, root-lines (fieldsOf s) row (root .low) (holds hb), r .short));
+  }
 
   -- three times the row's length is room enough
   pub row-short : Bytes row → length (orEmpty (listingOf s row)) ≤ 3 * length row
-  row-short hb = rw (← row-lines, root .whole) (root-lines (fieldsOf s) row (root .low) (holds-sound (ro (fieldsOf s)) row hb (r .short) (r .sound)))
+  row-short hb = rw (← row-lines, whole) (root-lines (fieldsOf s) row (root .low) (holds hb))

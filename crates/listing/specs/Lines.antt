@@ -38,9 +38,13 @@ unfoldable pub ownBytes : Option ℕ → List ℕ → ℕ → List ℕ
 ownBytes (some v) b slot = part b slot v
 ownBytes none b slot = part b (num (part b slot 8) / 2 ^ 32) (num (part b slot 8) % 2 ^ 32)
 
+-- its records where it is not null
+unfoldable pub ownLines : Ty → List ℕ → ℕ → List ℕ
+ownLines t b slot = lines t (ownBytes (codec t .wide) b slot)
+
 -- the records of child i of b, whose bitmap starts behind a header of h bytes
 unfoldable pub childLines : Ty → List ℕ → ℕ → ℕ → ℕ → List ℕ
-childLines t b h i slot = cond (bit b h i) nu (lines t (ownBytes (codec t .wide) b slot))
+childLines t b h i slot = cond (bit b h i) nu (ownLines t b slot)
 
 -- Writing v at pos of out leaves out′, and r is the place behind it. Without room for v it says only that out is as long as it was:
 -- with no byte lent a writer measures.

@@ -1,22 +1,32 @@
 -- What the functions of `listing` ask of the bytes that they list. Assumes nothing: these are definitions.
 use mathlib.Core.Path.{_≡_}
-use mathlib.Core.Bool.{true, false, cond}
+use mathlib.Core.Bool.{true, cond}
 use mathlib.Core.Option.{Option, none, some}
 use mathlib.Core.List.{List}
 use Prim.Native.Nat.{ℕ, _+_, _/_, _%_, _^_, _≤_, _<_}
 use lib.Dec.{ltb}
 use lib.ListN.{length}
 use Rattle.words.specs.Bytes.{Bytes, num, part}
-use Rattle.words.specs.Bits.{bit}
 use Rattle.schema.specs.Marks.{line}
-use Rattle.schema.specs.Types.{Ty, fix, text, li, ma, ro, fixedAt, textAt, place}
+use Rattle.schema.specs.Types.{Ty, Tys, fix, text, li, ro, fixedAt, textAt}
 use Rattle.schema.specs.Kinds.{placeAt}
-use Rattle.schema.specs.Reading.{judged}
-use Rattle.schema.specs.Walk.{Typed, TypedAll, typeAt, typesAt, fieldsOf}
-use Rattle.schema.specs.declared.Judged.the-variants.{Accepted}
+use Rattle.schema.specs.Walk.{TypedAll, typeAt, typesAt, fieldsOf}
+use Rattle.table.specs.Words.{placeIn, Lined}
+use Rattle.table.specs.Tables.{schemaOf, posOf, Table, Stands}
 use Rattle.layout.specs.Layout.{slotOf, codec, Lays, decode}
 use Rattle.layout.specs.Setting.{isSome}
-use Rattle.listing.specs.Lines.{cellOf, lines, itemLines, fieldLines, ownBytes, childLines}
+use Rattle.listing.specs.Lines.{cellOf, lines, itemLines, fieldLines, ownBytes, ownLines}
+
+-- the type, at most d deep, at a place of a table, and the n types from there on
+abbrev pub tyAt : List ℕ → ℕ → ℕ → Ty
+tyAt t at d = typeAt (schemaOf t) (posOf t at) d
+
+abbrev pub tysAt : List ℕ → ℕ → ℕ → ℕ → Tys
+tysAt t at d n = typesAt (schemaOf t) (posOf t at) d n
+
+-- the leaf at place k of the table of types
+unfoldable pub leafAt : ℕ → Ty
+leafAt k = cond (ltb k 7) (fix (fixedAt k)) (text (textAt k))
 
 -- the bytes stand for contents of the type, and are few enough for a row
 pub record Holds (t : Ty) (b : List ℕ) : Type 0 where
@@ -24,28 +34,18 @@ pub record Holds (t : Ty) (b : List ℕ) : Type 0 where
   pub small : length b ≤ 16384
   pub lays : Lays t (cellOf t b) b
 
--- the leaf at place k of the table
-unfoldable pub leafAt : ℕ → Ty
-leafAt k = cond (ltb k 7) (fix (fixedAt k)) (text (textAt k))
-
--- n bytes of b, from the one numbered at on, are written at pos
-pub record CopyRoom (b : List ℕ) (at n pos : ℕ) : Type 0 where
-  pub small : length b ≤ 16384
-  pub within : at + n ≤ length b
-  pub room : pos ≤ 131072
-
--- a number of the type at place k, from the byte of b numbered at on, is written at pos
-pub record NumberRoom (b : List ℕ) (at k pos : ℕ) : Type 0 where
+-- a number of the type that w says, from the byte of b numbered at on, is written at pos
+pub record NumberRoom (b : List ℕ) (at w pos : ℕ) : Type 0 where
+  pub lined : Lined w
   pub bytes : Bytes b
-  pub fixed : k < 7
-  pub within : at + line k .width ≤ length b
+  pub fixed : placeIn w < 7
+  pub within : at + line (placeIn w) .width ≤ length b
   pub room : pos ≤ 65536
 
--- n bytes of b, from the one numbered at on, are written at pos as a leaf of the type at place k
-pub record TextRoom (b : List ℕ) (at n k pos : ℕ) : Type 0 where
-  pub small : length b ≤ 16384
-  pub known : k < 12
-  pub within : at + n ≤ length b
+-- bytes are written at pos as a leaf of the type that w says
+pub record TextRoom (text : List ℕ) (w pos : ℕ) : Type 0 where
+  pub lined : Lined w
+  pub small : length text ≤ 16384
   pub room : pos ≤ 65536
 
 -- a value elsewhere lies in its container
@@ -53,79 +53,66 @@ abbrev pub Within : Option ℕ → List ℕ → ℕ → Type 0
 Within (some v) b slot = Unit {0}
 Within none b slot = num (part b slot 8) / 2 ^ 32 + num (part b slot 8) % 2 ^ 32 ≤ length b
 
+pub record Elsewhere (b : List ℕ) (slot : ℕ) : Type 0 where
+  pub small : length b ≤ 16384
+  pub slot-room : slot + 8 ≤ length b
+  pub within : Within none b slot
+
 -- a child that is not null, of the type, whose slot is at a position of b
 pub record Own (t : Ty) (b : List ℕ) (slot : ℕ) : Type 0 where
   pub within : Within (codec t .wide) b slot
   pub holds : Holds t (ownBytes (codec t .wide) b slot)
 
--- Child i of b, of a type whose place in the table is k, is listed at pos. Nothing is asked of a null.
-pub record Seated (t : Ty) (k : ℕ) (b : List ℕ) (h i slot pos : ℕ) : Type 0 where
-  pub place : k ≡ place t
+-- it is listed at pos
+pub record Present (t : Ty) (b : List ℕ) (slot pos : ℕ) : Type 0 where
   pub bytes : Bytes b
   pub small : length b ≤ 16384
-  pub bit-room : h + i / 8 < length b
   pub slot-room : slot + slotOf (codec t .wide) ≤ length b
-  pub present : bit b h i ≡ false → Own t b slot
-  pub room : pos + length (childLines t b h i slot) ≤ 65536
+  pub own : Own t b slot
+  pub room : pos + length (ownLines t b slot) ≤ 65536
 
-pub record Leaf (k : ℕ) (b : List ℕ) (h i slot pos : ℕ) : Type 0 where
-  pub low : k < 9
-  pub seat : Seated (leafAt k) k b h i slot pos
+pub record Leaf (w : ℕ) (b : List ℕ) (slot pos : ℕ) : Type 0 where
+  pub lined : Lined w
+  pub low : placeIn w < 9
+  pub child : Present (leafAt (placeIn w)) b slot pos
 
--- a child that is a container, whose type stands at a position of the schema
-pub record Child (s : List ℕ) (at d k : ℕ) (b : List ℕ) (h i slot pos : ℕ) : Type 0 where
-  pub typed : Typed s at d
-  pub mark : k ≡ placeAt s at
-  pub high : 9 ≤ k
-  pub seat : Seated (typeAt s at d) k b h i slot pos
+-- a container, whose type stands at a place of a table
+pub record Container (t : List ℕ) (at d : ℕ) (b : List ℕ) (pos : ℕ) : Type 0 where
+  pub stands : Stands t at d
+  pub high : 9 ≤ placeAt (schemaOf t) (posOf t at)
+  pub holds : Holds (tyAt t at d) b
+  pub room : pos + length (lines (tyAt t at d) b) ≤ 65536
 
--- a container, whose place in the table is k
-pub record Container (s : List ℕ) (at d k : ℕ) (b : List ℕ) (pos : ℕ) : Type 0 where
-  pub typed : Typed s at d
-  pub place : k ≡ placeAt s at
-  pub high : 9 ≤ k
-  pub holds : Holds (typeAt s at d) b
-  pub room : pos + length (lines (typeAt s at d) b) ≤ 65536
+-- a map
+pub record Pair (t : List ℕ) (at d : ℕ) (b : List ℕ) (pos : ℕ) : Type 0 where
+  pub container : Container t at d b pos
+  pub map : placeAt (schemaOf t) (posOf t at) ≡ 10
 
 -- the elements of a list of the type
 pub record Items (t : Ty) (b : List ℕ) (pos : ℕ) : Type 0 where
   pub holds : Holds (li t) b
   pub room : pos + length (itemLines t b) ≤ 65536
 
-pub record Leaves (k : ℕ) (b : List ℕ) (pos : ℕ) : Type 0 where
-  pub low : k < 9
-  pub items : Items (leafAt k) b pos
+pub record Leaves (w : ℕ) (b : List ℕ) (pos : ℕ) : Type 0 where
+  pub lined : Lined w
+  pub low : placeIn w < 9
+  pub items : Items (leafAt (placeIn w)) b pos
 
-pub record Numbers (k : ℕ) (b : List ℕ) (pos : ℕ) : Type 0 where
-  pub fixed : k < 7
-  pub items : Items (leafAt k) b pos
+-- a list of the type at a place of a table
+pub record Elements (t : List ℕ) (at d : ℕ) (b : List ℕ) (pos : ℕ) : Type 0 where
+  pub stands : Stands t at d
+  pub items : Items (tyAt t at d) b pos
 
-pub record Texts (k : ℕ) (b : List ℕ) (pos : ℕ) : Type 0 where
-  pub varies : 7 ≤ k
-  pub low : k < 9
-  pub items : Items (leafAt k) b pos
-
--- a list of the type at a position
-pub record Elements (s : List ℕ) (at d : ℕ) (b : List ℕ) (pos : ℕ) : Type 0 where
-  pub typed : Typed s at d
-  pub items : Items (typeAt s at d) b pos
-
--- a map of the types at two positions
-pub record Pair (s : List ℕ) (k v d : ℕ) (b : List ℕ) (pos : ℕ) : Type 0 where
-  pub keys : Typed s k d
-  pub values : Typed s v d
-  pub holds : Holds (ma (typeAt s k d) (typeAt s v d)) b
-  pub room : pos + length (lines (ma (typeAt s k d) (typeAt s v d)) b) ≤ 65536
-
--- a struct of n fields, whose types stand from a position on
-pub record Fields (s : List ℕ) (first n d : ℕ) (b : List ℕ) (pos : ℕ) : Type 0 where
-  pub typed : TypedAll s first d n
+-- a struct of n fields, whose types stand from a place of a table on
+pub record Fields (t : List ℕ) (first n d : ℕ) (b : List ℕ) (pos : ℕ) : Type 0 where
+  pub table : Table t
+  pub typed : TypedAll (schemaOf t) (posOf t first) d n
   pub high : n ≤ 128
-  pub holds : Holds (ro (typesAt s first d n)) b
-  pub room : pos + length (fieldLines (typesAt s first d n) b) ≤ 65536
+  pub holds : Holds (ro (tysAt t first d n)) b
+  pub room : pos + length (fieldLines (tysAt t first d n) b) ≤ 65536
 
--- an accepted schema, and a row that was checked against it
-pub record Checked (s row : List ℕ) : Type 0 where
-  pub accepted : judged s ≡ Accepted
+-- a schema's table, and a row that was checked against the schema
+pub record Checked (t row : List ℕ) : Type 0 where
+  pub table : Table t
   pub short : length row ≤ 16384
-  pub sound : isSome (decode (ro (fieldsOf s)) row) ≡ true
+  pub sound : isSome (decode (ro (fieldsOf (schemaOf t))) row) ≡ true

@@ -1,30 +1,31 @@
 // Listing a row that was checked, back into records: a cycle over value, struct, list and map, with remaining depth falling along the
-// calls, and loops over the children.
+// calls, and loops over the children. A type is its entry w of the schema's table t, which stands at a place there.
 ghost use mathlib.Core.Path.{_≡_};
 ghost use mathlib.Core.List.{_++_};
-ghost use Prim.Native.Nat.{_≤_, _<_};
+ghost use mathlib.Core.Option.{none};
+ghost use Prim.Native.Nat.{_≤_};
+ghost use lib.ListN.{length};
 ghost use Rattle.words.specs.Bytes.{le, part};
 ghost use Rattle.schema.specs.Marks.{markAt, line};
-ghost use Rattle.schema.specs.Types.{ma};
-ghost use Rattle.schema.specs.Walk.{typeAt, typesAt};
+ghost use Rattle.table.specs.Words.{placeIn, Lined};
+ghost use Rattle.table.specs.Tables.{schemaOf};
 ghost use Rattle.layout.specs.Listing.{nu};
 ghost use Rattle.layout.specs.Setting.{orEmpty};
 ghost use Rattle.layout.specs.Entries.{listingOf};
-ghost use Rattle.listing.specs.Lines.{lines, itemLines, fieldLines, childLines, Written, Answered};
-ghost use Rattle.listing.specs.Room.{CopyRoom, NumberRoom, TextRoom, leafAt, Leaf, Child, Container, Numbers, Texts, Leaves, Elements, Pair, Fields, Checked};
+ghost use Rattle.listing.specs.Lines.{lines, itemLines, fieldLines, ownBytes, ownLines, Written, Answered};
+ghost use Rattle.listing.specs.Room.{tyAt, tysAt, leafAt, NumberRoom, TextRoom, Elsewhere, Leaf, Leaves};
+ghost use Rattle.listing.specs.Room.{Container, Pair, Elements, Fields, Checked};
 
-// The mark at place k of the table.
-fn put_mark(out: &mut [u8], pos: usize, k: usize) -> usize
-    requires { ⌜ (k < 12) × (pos ≤ 65536) ⌝ }
-    ensures { λ r. ⌜ Written (now (out .entry)) pos (markAt k) (now (out .exit)) r ⌝ }
+// The mark of a type.
+fn put_mark(out: &mut [u8], pos: usize, w: u64) -> usize
+    requires { ⌜ (Lined w) × (pos ≤ 65536) ⌝ }
+    ensures { λ r. ⌜ Written (now (out .entry)) pos (markAt (placeIn w)) (now (out .exit)) r ⌝ }
 {
     let end = pos + 2;
     if out.len() < end {
         return end;
     }
-    let e = schema::TYPES[k];
-    out[pos] = e.first;
-    out[pos + 1] = e.second;
+    words::nums::put2(out, pos, table::mark(w) as u64);
     end
 }
 
@@ -43,11 +44,11 @@ fn put_null(out: &mut [u8], pos: usize) -> usize
 }
 
 // A mark and a 4-byte count or length behind it.
-fn put_count(out: &mut [u8], pos: usize, k: usize, n: usize) -> usize
-    requires { ⌜ (k < 12) × (pos ≤ 65536) ⌝ }
-    ensures { λ r. ⌜ Written (now (out .entry)) pos (markAt k ++ le 4 n) (now (out .exit)) r ⌝ }
+fn put_count(out: &mut [u8], pos: usize, w: u64, n: usize) -> usize
+    requires { ⌜ (Lined w) × (pos ≤ 65536) ⌝ }
+    ensures { λ r. ⌜ Written (now (out .entry)) pos (markAt (placeIn w) ++ le 4 n) (now (out .exit)) r ⌝ }
 {
-    let at = put_mark(out, pos, k);
+    let at = put_mark(out, pos, w);
     let end = at + 4;
     if out.len() < end {
         return end;
@@ -56,40 +57,26 @@ fn put_count(out: &mut [u8], pos: usize, k: usize, n: usize) -> usize
     end
 }
 
-// Bytes of the row as they stand.
-fn put_bytes(out: &mut [u8], pos: usize, b: &[u8], from: usize, n: usize) -> usize
-    requires { ⌜ CopyRoom (now b) from n pos ⌝ }
-    ensures { λ r. ⌜ Written (now (out .entry)) pos (part (now (b .entry)) from n) (now (out .exit)) r ⌝ }
+// A number. Without room for all of it nothing is written, and each width has its own load and store.
+fn put_number(out: &mut [u8], pos: usize, w: u64, b: &[u8], slot: usize) -> usize
+    requires { ⌜ NumberRoom (now b) slot w pos ⌝ }
+    ensures { λ r. ⌜ Written (now (out .entry)) pos (markAt (placeIn w) ++ part (now (b .entry)) slot (line (placeIn w) .width)) (now (out .exit)) r ⌝ }
 {
-    let end = pos + n;
+    let wide = table::width(w);
+    let end = pos + 2 + wide;
     if out.len() < end {
         return end;
     }
-    words::copies::copy(out, pos, b, from, n);
-    end
-}
-
-// A number of the type at place k of the table. Without room for all of it nothing is written, and each width has its own load and
-// store.
-fn put_number(out: &mut [u8], pos: usize, k: usize, b: &[u8], slot: usize) -> usize
-    requires { ⌜ NumberRoom (now b) slot k pos ⌝ }
-    ensures { λ r. ⌜ Written (now (out .entry)) pos (markAt k ++ part (now (b .entry)) slot (line k .width)) (now (out .exit)) r ⌝ }
-{
-    let w = schema::width_of(k);
-    let end = pos + 2 + w;
-    if out.len() < end {
-        return end;
-    }
-    let p = put_mark(out, pos, k);
-    if w == 8 {
+    let p = put_mark(out, pos, w);
+    if wide == 8 {
         words::nums::put8(out, p, words::nums::get8(b, slot));
         return end;
     }
-    if w == 4 {
+    if wide == 4 {
         words::nums::put4(out, p, words::nums::get4(b, slot) as u64);
         return end;
     }
-    if w == 2 {
+    if wide == 2 {
         words::nums::put2(out, p, words::nums::get2(b, slot) as u64);
         return end;
     }
@@ -98,208 +85,127 @@ fn put_number(out: &mut [u8], pos: usize, k: usize, b: &[u8], slot: usize) -> us
 }
 
 // A string or binary, whose length is its size without padding.
-fn put_text(out: &mut [u8], pos: usize, k: usize, b: &[u8], off: usize, size: usize) -> usize
-    requires { ⌜ TextRoom (now b) off size k pos ⌝ }
-    ensures { λ r. ⌜ Written (now (out .entry)) pos ((markAt k ++ le 4 size) ++ part (now (b .entry)) off size) (now (out .exit)) r ⌝ }
+fn put_text(out: &mut [u8], pos: usize, w: u64, text: &[u8]) -> usize
+    requires { ⌜ TextRoom (now text) w pos ⌝ }
+    ensures { λ r. ⌜ Written (now (out .entry)) pos ((markAt (placeIn w) ++ le 4 (length (now (text .entry)))) ++ now (text .entry)) (now (out .exit)) r ⌝ }
 {
+    let size = text.len();
     let end = pos + 6 + size;
     if out.len() < end {
         return end;
     }
-    let p = put_count(out, pos, k, size);
-    put_bytes(out, p, b, off, size)
+    let p = put_count(out, pos, w, size);
+    words::copies::copy(out, p, text, 0, size);
+    end
 }
 
-// Child i of the container b, a leaf. There is no look at what lies under a null.
-fn put_leaf(
-    out: &mut [u8],
-    pos: usize,
-    k: usize,
-    b: &[u8],
-    h: usize,
-    i: usize,
-    slot: usize,
-) -> usize
-    requires { ⌜ Leaf k (now b) h i slot pos ⌝ }
-    ensures { λ r. ⌜ Written (now (out .entry)) pos (childLines (leafAt k) (now (b .entry)) h i slot) (now (out .exit)) r ⌝ }
+// The bytes of a child that stands elsewhere in the container b: where its slot says.
+fn own(b: &[u8], slot: usize) -> &[u8]
+    requires { ⌜ Elsewhere (now b) slot ⌝ }
+    ensures { λ r. ⌜ now r ≡ ownBytes none (now (b .entry)) slot ⌝ }
 {
-    if words::nulls::is_null(b, h, i) {
-        return put_null(out, pos);
-    }
-    if k < 7 {
-        return put_number(out, pos, k, b, slot);
-    }
-    let x = words::nums::get8(b, slot);
-    put_text(
-        out,
-        pos,
-        k,
-        b,
-        words::slots::slot_offset(x) as usize,
-        words::slots::slot_size(x) as usize,
-    )
-}
-
-// The elements of a list of numbers.
-fn list_numbers(k: usize, b: &[u8], out: &mut [u8], pos: usize) -> usize
-    requires { ⌜ Numbers k (now b) pos ⌝ }
-    ensures { λ r. ⌜ Written (now (out .entry)) pos (itemLines (leafAt k) (now (b .entry))) (now (out .exit)) r ⌝ }
-{
-    let n = words::nums::get8(b, 0) as usize;
-    let w = schema::element_width(k);
-    let mut i: usize = 0;
-    let mut slot = 8 + words::sizes::bitmap_size(n);
-    let mut p = pos;
-    while i < n {
-        if words::nulls::is_null(b, 8, i) {
-            p = put_null(out, p);
-            slot += w;
-            i += 1;
-            continue;
-        }
-        p = put_number(out, p, k, b, slot);
-        slot += w;
-        i += 1;
-    }
-    p
-}
-
-// The elements of a list of strings or binaries.
-fn list_texts(k: usize, b: &[u8], out: &mut [u8], pos: usize) -> usize
-    requires { ⌜ Texts k (now b) pos ⌝ }
-    ensures { λ r. ⌜ Written (now (out .entry)) pos (itemLines (leafAt k) (now (b .entry))) (now (out .exit)) r ⌝ }
-{
-    let n = words::nums::get8(b, 0) as usize;
-    let mut i: usize = 0;
-    let mut slot = 8 + words::sizes::bitmap_size(n);
-    let mut p = pos;
-    while i < n {
-        if words::nulls::is_null(b, 8, i) {
-            p = put_null(out, p);
-            slot += 8;
-            i += 1;
-            continue;
-        }
-        let x = words::nums::get8(b, slot);
-        p = put_text(
-            out,
-            p,
-            k,
-            b,
-            words::slots::slot_offset(x) as usize,
-            words::slots::slot_size(x) as usize,
-        );
-        slot += 8;
-        i += 1;
-    }
-    p
-}
-
-// The elements of a list of leaves: loops of their own, with no call of the cycle.
-fn list_leaves(k: usize, b: &[u8], out: &mut [u8], pos: usize) -> usize
-    requires { ⌜ Leaves k (now b) pos ⌝ }
-    ensures { λ r. ⌜ Written (now (out .entry)) pos (itemLines (leafAt k) (now (b .entry))) (now (out .exit)) r ⌝ }
-{
-    if k < 7 {
-        return list_numbers(k, b, out, pos);
-    }
-    list_texts(k, b, out, pos)
-}
-
-// Child i of the container b, a container itself. There is no look at what lies under a null.
-fn list_child(
-    s: &[u8],
-    at: usize,
-    depth: usize,
-    k: usize,
-    b: &[u8],
-    h: usize,
-    i: usize,
-    slot: usize,
-    out: &mut [u8],
-    pos: usize,
-) -> usize
-    requires { ⌜ Child (now s) at depth k (now b) h i slot pos ⌝ }
-    ensures { λ r. ⌜ Written (now (out .entry)) pos (childLines (typeAt (now (s .entry)) at depth) (now (b .entry)) h i slot) (now (out .exit)) r ⌝ }
-{
-    if words::nulls::is_null(b, h, i) {
-        return put_null(out, pos);
-    }
     let x = words::nums::get8(b, slot);
     let off = words::slots::slot_offset(x) as usize;
     let end = off + words::slots::slot_size(x) as usize;
-    list_value(s, at, depth, k, &b[off..end], out, pos)
+    &b[off..end]
 }
 
-// A container, whose place in the table is k.
-fn list_value(
-    s: &[u8],
-    at: usize,
-    depth: usize,
-    k: usize,
-    b: &[u8],
-    out: &mut [u8],
-    pos: usize,
-) -> usize
-    requires { ⌜ Container (now s) at depth k (now b) pos ⌝ }
-    ensures { λ r. ⌜ Written (now (out .entry)) pos (lines (typeAt (now (s .entry)) at depth) (now (b .entry))) (now (out .exit)) r ⌝ }
+// A leaf that is not null, whose slot is at a position of the container b.
+fn put_leaf(out: &mut [u8], pos: usize, w: u64, b: &[u8], slot: usize) -> usize
+    requires { ⌜ Leaf w (now b) slot pos ⌝ }
+    ensures { λ r. ⌜ Written (now (out .entry)) pos (ownLines (leafAt (placeIn w)) (now (b .entry)) slot) (now (out .exit)) r ⌝ }
 {
+    if table::place(w) < table::STRING {
+        return put_number(out, pos, w, b, slot);
+    }
+    put_text(out, pos, w, own(b, slot))
+}
+
+// The elements of a list of leaves: a loop of its own, with no call of the cycle. There is no look at what lies under a null.
+fn list_leaves(w: u64, b: &[u8], out: &mut [u8], pos: usize) -> usize
+    requires { ⌜ Leaves w (now b) pos ⌝ }
+    ensures { λ r. ⌜ Written (now (out .entry)) pos (itemLines (leafAt (placeIn w)) (now (b .entry))) (now (out .exit)) r ⌝ }
+{
+    let n = words::nums::get8(b, 0) as usize;
+    let wide = table::element_width(w);
+    let mut i: usize = 0;
+    let mut slot = 8 + words::sizes::bitmap_size(n);
+    let mut p = pos;
+    while i < n {
+        if words::nulls::is_null(b, 8, i) {
+            p = put_null(out, p);
+        } else {
+            p = put_leaf(out, p, w, b, slot);
+        }
+        slot += wide;
+        i += 1;
+    }
+    p
+}
+
+// A container.
+fn list_value(t: &[u64], at: usize, depth: usize, b: &[u8], out: &mut [u8], pos: usize) -> usize
+    requires { ⌜ Container (now t) at depth (now b) pos ⌝ }
+    ensures { λ r. ⌜ Written (now (out .entry)) pos (lines (tyAt (now (t .entry)) at depth) (now (b .entry))) (now (out .exit)) r ⌝ }
+{
+    let w = table::entry_at(t, at, depth);
+    let k = table::place(w);
     let d = depth - 1;
-    if k == 9 {
-        let p = put_count(out, pos, 9, words::nums::get8(b, 0) as usize);
-        return list_items(s, at + 2, d, b, out, p);
+    if k == table::LIST {
+        let p = put_count(out, pos, w, words::nums::get8(b, 0) as usize);
+        return list_items(t, at + 1, d, b, out, p);
     }
-    if k == 10 {
-        return list_map(s, at + 2, schema::next(s, at + 2, d), d, b, out, pos);
+    if k == table::MAP {
+        return list_map(t, at, depth, b, out, pos);
     }
-    let p = put_mark(out, pos, 11);
-    list_fields(s, at + 3, schema::wide(s[at + 2]), d, b, out, p)
+    let p = put_mark(out, pos, w);
+    list_fields(t, at + 1, table::count(w), d, b, out, p)
 }
 
 // A map: its count, the keys, then the values.
-fn list_map(
-    s: &[u8],
-    k: usize,
-    v: usize,
-    depth: usize,
-    b: &[u8],
-    out: &mut [u8],
-    pos: usize,
-) -> usize
-    requires { ⌜ Pair (now s) k v depth (now b) pos ⌝ }
-    ensures { λ r. ⌜ Written (now (out .entry)) pos (lines (ma (typeAt (now (s .entry)) k depth) (typeAt (now (s .entry)) v depth)) (now (b .entry))) (now (out .exit)) r ⌝ }
+fn list_map(t: &[u64], at: usize, depth: usize, b: &[u8], out: &mut [u8], pos: usize) -> usize
+    requires { ⌜ Pair (now t) at depth (now b) pos ⌝ }
+    ensures { λ r. ⌜ Written (now (out .entry)) pos (lines (tyAt (now (t .entry)) at depth) (now (b .entry))) (now (out .exit)) r ⌝ }
 {
+    let w = table::entry_at(t, at, depth);
+    let d = depth - 1;
+    let keys = at + 1;
+    let values = table::after(table::entry_at(t, keys, d));
     let size = words::nums::get8(b, 0) as usize;
     let end = 8 + size;
-    let p = put_count(out, pos, 10, words::nums::get8(b, 8) as usize);
-    let q = list_items(s, k, depth, &b[8..end], out, p);
-    list_items(s, v, depth, &b[end..], out, q)
+    let p = put_count(out, pos, w, words::nums::get8(b, 8) as usize);
+    let q = list_items(t, keys, d, &b[8..end], out, p);
+    list_items(t, values, d, &b[end..], out, q)
 }
 
-// The elements of a list, whose type stands at a position of the schema.
-fn list_items(s: &[u8], at: usize, depth: usize, b: &[u8], out: &mut [u8], pos: usize) -> usize
-    requires { ⌜ Elements (now s) at depth (now b) pos ⌝ }
-    ensures { λ r. ⌜ Written (now (out .entry)) pos (itemLines (typeAt (now (s .entry)) at depth) (now (b .entry))) (now (out .exit)) r ⌝ }
+// The elements of a list, whose type stands at a place of the table.
+fn list_items(t: &[u64], at: usize, depth: usize, b: &[u8], out: &mut [u8], pos: usize) -> usize
+    requires { ⌜ Elements (now t) at depth (now b) pos ⌝ }
+    ensures { λ r. ⌜ Written (now (out .entry)) pos (itemLines (tyAt (now (t .entry)) at depth) (now (b .entry))) (now (out .exit)) r ⌝ }
 {
-    let k = schema::marks::place_at(s, at);
-    if k < 9 {
-        return list_leaves(k, b, out, pos);
+    let w = table::entry_at(t, at, depth);
+    if table::place(w) < table::LIST {
+        return list_leaves(w, b, out, pos);
     }
     let n = words::nums::get8(b, 0) as usize;
     let mut i: usize = 0;
     let mut slot = 8 + words::sizes::bitmap_size(n);
     let mut p = pos;
     while i < n {
-        p = list_child(s, at, depth, k, b, 8, i, slot, out, p);
+        if words::nulls::is_null(b, 8, i) {
+            p = put_null(out, p);
+        } else {
+            p = list_value(t, at, depth, own(b, slot), out, p);
+        }
         slot += 8;
         i += 1;
     }
     p
 }
 
-// The fields of a struct, whose n types stand from a position of the schema on: only containers are listed by a call of the cycle.
+// The fields of a struct, whose n types stand from a place of the table on: only containers are listed by a call of the cycle.
 fn list_fields(
-    s: &[u8],
+    t: &[u64],
     first: usize,
     n: usize,
     depth: usize,
@@ -307,24 +213,23 @@ fn list_fields(
     out: &mut [u8],
     pos: usize,
 ) -> usize
-    requires { ⌜ Fields (now s) first n depth (now b) pos ⌝ }
-    ensures { λ r. ⌜ Written (now (out .entry)) pos (fieldLines (typesAt (now (s .entry)) first depth n) (now (b .entry))) (now (out .exit)) r ⌝ }
+    requires { ⌜ Fields (now t) first n depth (now b) pos ⌝ }
+    ensures { λ r. ⌜ Written (now (out .entry)) pos (fieldLines (tysAt (now (t .entry)) first depth n) (now (b .entry))) (now (out .exit)) r ⌝ }
 {
     let mut at = first;
     let mut i: usize = 0;
     let mut slot = words::sizes::bitmap_size(n);
     let mut p = pos;
     while i < n {
-        let k = schema::marks::place_at(s, at);
-        if k < 9 {
-            p = put_leaf(out, p, k, b, 0, i, slot);
-            at += 2;
-            slot += 8;
-            i += 1;
-            continue;
+        let w = table::entry_at(t, at, depth);
+        if words::nulls::is_null(b, 0, i) {
+            p = put_null(out, p);
+        } else if table::place(w) < table::LIST {
+            p = put_leaf(out, p, w, b, slot);
+        } else {
+            p = list_value(t, at, depth, own(b, slot), out, p);
         }
-        p = list_child(s, at, depth, k, b, 0, i, slot, out, p);
-        at = schema::next(s, at, depth);
+        at = table::after(w);
         slot += 8;
         i += 1;
     }
@@ -333,16 +238,16 @@ fn list_fields(
 
 // The listing of a row that was checked, at the start of out where it fits; its length in any case. It is at most three times as long
 // as the row: with that much room there is nothing to measure first. A call that is lent no byte measures.
-pub fn list_row(schema: &[u8], row: &[u8], out: &mut [u8]) -> usize
-    requires { ⌜ Checked (now schema) (now row) ⌝ }
-    ensures { λ r. ⌜ Answered (now (out .entry)) (orEmpty (listingOf (now (schema .entry)) (now (row .entry)))) (now (out .exit)) r ⌝ }
+pub fn list_row(t: &[u64], row: &[u8], out: &mut [u8]) -> usize
+    requires { ⌜ Checked (now t) (now row) ⌝ }
+    ensures { λ r. ⌜ Answered (now (out .entry)) (orEmpty (listingOf (schemaOf (now (t .entry))) (now (row .entry)))) (now (out .exit)) r ⌝ }
 {
     if 3 * row.len() <= out.len() {
-        return list_value(schema, 0, 8, 11, row, out, 0);
+        return list_value(t, 0, 8, row, out, 0);
     }
-    let need = list_value(schema, 0, 8, 11, row, &mut out[..0], 0);
+    let need = list_value(t, 0, 8, row, &mut out[..0], 0);
     if out.len() < need {
         return need;
     }
-    list_value(schema, 0, 8, 11, row, out, 0)
+    list_value(t, 0, 8, row, out, 0)
 }

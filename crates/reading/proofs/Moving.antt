@@ -1,220 +1,227 @@
 -- A step in the row, as the code takes it, is the walk's step. Assumes nothing.
 use mathlib.Core.Path.{_≡_, refl, sym, ap, _∙_, subst}
 use mathlib.Core.Logic.{_⊎_, inl, inr}
-use mathlib.Core.Bool.{Bool, true, false}
-use mathlib.Core.Option.{Option, none, some}
+use mathlib.Core.Bool.{true}
+use mathlib.Core.Option.{none, some}
 use mathlib.Core.List.{List, [], _∷_}
 use Prim.Native.Nat.{ℕ, zero, suc, _+_, _-_, _≤_, _<_}
 use native.Mathlib.Omega.{arith}
-use native.Mathlib.Decide.{decLt}
+use native.Mathlib.Decide.{decLt, ℕ-discrete}
 use lib.ListN.{length, take, drop, length-drop}
 use lib.Seq.{take-length}
+use mir.Syntax.{w64}
+use mir.Val.{Fits}
 use borrow.Author.Tests.{leb-true}
 use Rattle.words.specs.Bytes.{num, part}
-use Rattle.words.proofs.Parts.{length-part, part-part}
-use Rattle.schema.specs.Types.{Ty, fix, text, li, ma, ro, count, field}
-use Rattle.schema.specs.Walk.{typeAt, typesAt}
-use Rattle.schema.specs.declared.Opened.{Opened}
-use Rattle.schema.specs.declared.Opened.the-variants.{Fixed as OFixed, Text as OText, List as OList, Map as OMap, Struct as OStruct, Nothing as ONothing}
+use Rattle.words.proofs.Parts.{part-part}
+use Rattle.schema.specs.Types.{Ty, fix, text, li, ma, ro, Tys, count, field}
+use Rattle.schema.specs.Walk.{typesAt}
 use Rattle.schema.proofs.Typing.{typed-count}
 use Rattle.layout.specs.Layout.{front, slotOf, codec}
 use Rattle.layout.specs.Refusals.{numbered}
 use Rattle.layout.specs.Walk as W
-use Rattle.layout.specs.Walk.{stop, into, stepIn}
+use Rattle.layout.specs.Walk.{stop, stepIn}
 use Rattle.layout.specs.Reading.{typeAt as typeOn}
-use Rattle.reading.specs.Children.{seatAs, wideOf, childAs, SeatIn, ChildIn, IsChild, Comes}
-use Rattle.reading.specs.Places.{openTy, OpenIs, Fields, OpenSmall, wideX, slotWidth, holdsOf, brokenX, structHolds, Row, placeTy, bytesOf, Sized}
-use Rattle.reading.specs.Places.{Seated, Rests, Stands, Lots, entering, nextAs, Tells, Moves, Steps, Enters, Into, IntoList, IntoMap, IntoStruct}
+use Rattle.table.specs.Words.{widthIn, countIn}
+use Rattle.table.specs.Tables.{schemaOf, posOf}
+use Rattle.reading.specs.Children.{seatAs, wideOf, childAs, ChildIn, IsChild, Comes}
+use Rattle.reading.specs.Opening.{heldTy, valuesTy, openTy, Kinded, Kin, OfKind, OfMap, OfStruct}
+use Rattle.reading.specs.Places.{slotWidth, holdsOf, structHolds, placeTy, bytesOf, Sized, Rests, Stands, nextAs, Tells, Enters, Entered, Steps, From}
+use Rattle.reading.specs.Places.{arrayPlace, arrayAt}
+use Rattle.reading.specs.declared.Opened.{Opened}
 use Rattle.reading.specs.declared.Seat.{Seat}
 use Rattle.reading.specs.declared.Place.{Place}
 use Rattle.reading.specs.declared.Child.{Child}
 use Rattle.reading.specs.declared.Child.the-variants.{Broken as CBroken, Null as CNull, At}
-use Rattle.reading.specs.declared.Lot.{Lot}
-use Rattle.reading.specs.declared.Lot.the-variants.{Nowhere as LNowhere, Of}
 use Rattle.reading.specs.declared.Next.{Next}
 use Rattle.reading.specs.declared.Next.the-variants.{Nowhere, Broken, Null, To}
 use Rattle.reading.proofs.Pointing.{wide-8, slot-codec, step-no}
-use Rattle.reading.proofs.Rules.{broken-is, fixed-some, wide-open, open-small, list-says, map-says, header-is, slot-some, slot-enough, slot-most}
-use Rattle.reading.proofs.Rules.{slot-zero}
-use Rattle.reading.proofs.Kin.{assert-some, assert-none}
+use Rattle.reading.proofs.Opening.{ty-fixed, ty-text, ty-list, ty-map, ty-struct, struct-left, leaf-width, wide-open}
+use Rattle.reading.proofs.Opening.{assert-same, assert-none, no-leaf, no-array, no-count, of-struct}
+use Rattle.reading.proofs.Rules.{fixed-some, list-says, map-says, header-is, slot-some, slot-enough, slot-most, slot-zero, rest-row, rest-size}
 
--- ---- into a place
+-- ---- a child
 
-module _ (s row : List ℕ) (p : Place) (R : Rests s row p) (t : Bool) (e : t ≡ holdsOf (placeTy s p) (bytesOf row p)) where
-  pub settled : t ≡ true → Moves s row (To p) (into (placeTy s p) (seatAs (p .seat)) (p .start) (bytesOf row p)) (some (placeTy s p))
-  unfolding nextAs entering
-  settled g = record { means = rw (sym e ∙ g); lands = record { rests = R; holds = sym e ∙ g }; tells = refl }
+sized-at : {y : Opened} → Kinded y → (k : ℕ) → (widthIn (y .entry) ≡ 0) ⊎ (k ≡ widthIn (y .entry)) → Sized y k
+sized-at K k (inr q) = λ h. q
+sized-at {y} K k (inl q) = λ h. absurd (omega (arith, leaf-width K (λ e. omega arith), fixed-some (y .kind) h))
 
-  pub unsettled : t ≡ false → (q : ℕ) → q ≡ brokenX (p .opened) (p .seat .slot) (p .start) (p .len)
-      → Moves s row (Broken q) (into (placeTy s p) (seatAs (p .seat)) (p .start) (bytesOf row p)) (some (placeTy s p))
-  unfolding nextAs entering
-  unsettled g q eq = record { means = rw (sym e ∙ g, eq, broken-is s row p R); lands = tt; tells = tt }
+module _ (y : Opened) (c : Child) where
+  pub enter-broken : (j : ℕ) → c ≡ CBroken j → Entered y c (Broken j)
+  unfolding nextAs childAs
+  enter-broken j q t row E = rw q (record { means = refl; lands = tt; tells = tt })
 
--- ---- into a child
-
-sized-at : (y : Opened) (k : ℕ) → (wideX y ≡ 0) ⊎ (k ≡ wideX y) → (s : List ℕ) (e : ℕ) → OpenIs s e y → Sized y k
-sized-at (OFixed j) k (inr q) s e h = q
-sized-at (OFixed j) k (inl q) s e h = absurd (omega (arith, fixed-some j h))
-sized-at (OText j) k q s e h = tt
-sized-at (OList c) k q s e h = tt
-sized-at (OMap a b) k q s e h = tt
-sized-at (OStruct f n) k q s e h = tt
-sized-at ONothing k q s e h = tt
-
-seated-at : (row : List ℕ) (y : Opened) (z : Seat) → SeatIn row (wideX y) z → Seated row y z
-seated-at row (OFixed j) z h = h
-seated-at row (OText j) z h = h
-seated-at row (OList c) z h = tt
-seated-at row (OMap a b) z h = tt
-seated-at row (OStruct f n) z h = tt
-seated-at row ONothing z h = tt
-
-module _ (s row : List ℕ) (y : Opened) (e : ℕ) (c : Child) (E : Enters s row y e c) where
-  pub enter-broken : (j : ℕ) → c ≡ CBroken j → Moves s row (Broken j) (childAs (openTy s e y) row c) (some (openTy s e y))
-  unfolding nextAs entering childAs
-  enter-broken j q = rw q (record { means = refl; lands = tt; tells = tt })
-
-  pub enter-null : (z : Seat) → c ≡ CNull z → Moves s row (Null y e z) (childAs (openTy s e y) row c) (some (openTy s e y))
-  unfolding nextAs entering childAs
-  enter-null z q =
-      let l : ChildIn row (wideX y) (CNull z) = rw q at (E .lands) in
+  pub enter-null : (z : Seat) → c ≡ CNull z → Entered y c (Null y z)
+  unfolding nextAs childAs
+  enter-null z q t row E =
+      let l : ChildIn row (widthIn (y .entry)) (CNull z) = rw q at (E .lands) in
       rw q (record { means = refl; lands = record { is = E .is; seated = l }; tells = refl })
 
-  module _ (z : Seat) (o k : ℕ) (q : c ≡ At z o k) where
-    pub enter-rests : Rests s row (record { opened = y; depth = e; seat = z; start = o; len = k })
-    enter-rests =
-        let l : ChildIn row (wideX y) (At z o k) = rw q at (E .lands) in
-        record { is = E .is; within = l .within; short = E .short; sized = sized-at y k (l .sized) s e (E .is); seated = seated-at row y z (l .seated) }
+  pub enter-at : (z : Seat) (o k : ℕ) → c ≡ At z o k → Entered y c (To (record { opened = y; seat = z; start = o; len = k }))
+  unfolding nextAs childAs
+  enter-at z o k q t row E =
+      let l : ChildIn row (widthIn (y .entry)) (At z o k) = rw q at (E .lands) in
+      rw q (record {
+        means = refl;
+        lands = record {
+          is = E .is;
+          within = l .within;
+          short = E .short;
+          sized = sized-at (E .is .kinded) k (l .sized);
+          seated = λ h. l .seated;
+        };
+        tells = refl;
+      })
 
-    pub enter-at : (r : Next) → Moves s row r (into (openTy s e y) (seatAs z) o (part row o k)) (some (openTy s e y)) → Moves s row r (childAs (openTy s e y) row c) (some (openTy s e y))
-    unfolding childAs
-    enter-at r m = rw q m
+-- ---- no step
+
+stopped : (t row : List ℕ) (p : Place) (i : ℕ)
+    → stepIn (placeTy t p) i (seatAs (p .seat)) (p .start) (bytesOf row p) ≡ stop (numbered 5) → Steps t row p i Nowhere
+unfolding nextAs
+stopped t row p i e = record { means = sym e; lands = tt; tells = tt }
+
+-- where the schema has no such place, the step is refused with 5
+no-kin : (y : Ty) (i : ℕ) (z : W.Seat) (o : ℕ) (b : List ℕ) → none ≡ typeOn (i ∷ []) y → stepIn y i z o b ≡ stop (numbered 5)
+unfolding typeOn stepIn W.child
+no-kin (fix f) i z o b e = refl
+no-kin (text f) i z o b e = refl
+no-kin (li y) i z o b e = let x : _≡_ {A = ℕ} 0 1 = cc in absurd (omega arith)
+no-kin (ma k v) zero z o b e = let x : _≡_ {A = ℕ} 0 1 = cc in absurd (omega arith)
+no-kin (ma k v) (suc zero) z o b e = let x : _≡_ {A = ℕ} 0 1 = cc in absurd (omega arith)
+no-kin (ma k v) (suc (suc i)) z o b e = refl
+no-kin (ro ts) i z o b e = step-no (decLt i (count ts)) (numbered 5) _ (assert-none (decLt i (count ts)) _ e)
+
+module _ {t row : List ℕ} {p : Place} (S : Stands t row p) (i : ℕ) where
+  pub leaf-stop : p .opened .kind < 9 → Steps t row p i Nowhere
+  leaf-stop h = stopped t row p i (no-kin (placeTy t p) i _ _ _ (no-leaf (S .rests .is) i h))
+
+  pub map-stop : p .opened .kind ≡ 10 → 2 ≤ i → Steps t row p i Nowhere
+  map-stop e h = stopped t row p i (no-kin (placeTy t p) i _ _ _ (no-array (S .rests .is) i e h))
+
+  pub struct-stop : p .opened .kind ≡ 11 → {n : ℕ} → n ≡ countIn (p .opened .entry) → n ≤ i → Steps t row p i Nowhere
+  struct-stop e q h = stopped t row p i (no-kin (placeTy t p) i _ _ _ (no-count (S .rests .is) i e q h))
 
 -- ---- a step from a place
-
--- the same step, of another form
-moved : {s row : List ℕ} {r : Next} {z z′ : W.Step} {o o′ : Option Ty} → Moves s row r z o → z ≡ z′ → o ≡ o′ → Moves s row r z′ o′
-moved {s} {row} {r} {z} {z′} {o} {o′} m e f = record { means = m .means ∙ ap entering e; lands = m .lands; tells = subst (Tells s r) f (m .tells) }
-
-stopped : (s row : List ℕ) (z : W.Step) (o : Option Ty) → z ≡ stop (numbered 5) → Moves s row Nowhere z o
-unfolding nextAs entering
-stopped s row z o e = rw e (record { means = refl; lands = tt; tells = tt })
 
 some-one : {A : Type 0} {a b : A} → some a ≡ some b → a ≡ b
 some-one e = cc
 
-stands-row : (s row : List ℕ) (p : Place) → Stands s row p → Row row (p .start) (p .len)
-stands-row s row p S = record { within = S .rests .within; short = S .rests .short }
-
 -- a child's type has the child's bytes
-module _ (s row : List ℕ) (p : Place) (i : ℕ) (y : Opened) (e : ℕ) (I : Into s row p i y e) where
-  pub into-small : OpenSmall y
-  into-small = open-small s e y (I .is)
+module _ {t : List ℕ} {x : Opened} {i : ℕ} {y : Opened} (K : Kin t x i y) {v : ℕ} (u : v ≡ widthIn (y .entry)) where
+  wide-is : wideOf (openTy t y) ≡ v
+  wide-is = sym (u ∙ wide-open (K .is .kinded) t)
 
-  wide-is : (v : ℕ) → v ≡ wideX y → wideOf (openTy s e y) ≡ v
-  wide-is v q = sym (q ∙ wide-open s e y (I .is))
+  small : v ≤ 8
+  small = rw wide-is at (wide-8 (openTy t y))
 
-  pub into-enters : (h n w v : ℕ) → v ≡ wideX y → (c : Child) → Comes row (p .start) (p .len) h n w v i c → Enters s row y e c
-  into-enters h n w v q c k = record { is = I .is; short = I .stands .rests .short; lands = subst (λ (u : ℕ). ChildIn row u c) q (k .lands) }
+  enters : {row : List ℕ} {c : Child} → length row ≤ 16384 → ChildIn row v c → Enters t row y c
+  enters {row} {c} h l = record { is = K .is; short = h; lands = subst (λ (w : ℕ). ChildIn row w c) u l }
 
 -- an element
-module _ (s row : List ℕ) (p : Place) (i : ℕ) (y : Opened) (e : ℕ) (L : IntoList s row p i y e) where
-  list-ty : placeTy s p ≡ li (typeAt s (L .element) (p .depth))
-  list-ty = rw (L .list)
+module _ {t row : List ℕ} {p : Place} (F : From t row 9 p) where
+  list-ty : placeTy t p ≡ li (heldTy t (p .opened .first))
+  list-ty = ty-list t (p .opened) (F .kind)
 
-  list-holds : holdsOf (li (typeAt s (L .element) (p .depth))) (bytesOf row p) ≡ true
-  list-holds = rw list-ty at (L .into .stands .holds)
-
-  whole : length (bytesOf row p) ≡ p .len
-  whole = length-part row (p .start) (p .len) (L .into .stands .rests .within)
+  list-holds : holdsOf (li (heldTy t (p .opened .first))) (bytesOf row p) ≡ true
+  list-holds = rw list-ty at (F .stands .holds)
 
   header : 8 ≤ p .len
-  header = rw whole at (list-says _ _ list-holds .header)
+  header = rw (rest-size (F .stands .rests)) at (list-says _ _ list-holds .header)
 
   pub header-room : p .start + 8 ≤ length row
-  header-room = omega (arith, header, L .into .stands .rests .within)
+  header-room = omega (arith, header, F .stands .rests .within)
 
-  same-ty : openTy s e y ≡ typeAt s (L .element) (p .depth)
-  unfolding typeOn
-  same-ty = some-one (rw list-ty at (L .into .kin))
+  pub list-of : OfKind t 9 (p .opened)
+  list-of = record { is = F .stands .rests .is; kind = F .kind }
 
-  module _ (n : ℕ) (q : n ≡ num (part row (p .start) 8)) where
+  module _ {n : ℕ} (q : n ≡ num (part row (p .start) 8)) where
     counted : num (take 8 (bytesOf row p)) ≡ n
-    counted = header-is row (p .start) (p .len) (stands-row s row p (L .into .stands)) header n q
+    counted = header-is (rest-row (F .stands .rests)) header q
 
-    pub list-stop : n ≤ i → Steps s row p i Nowhere
+    pub list-stop : {i : ℕ} → n ≤ i → Steps t row p i Nowhere
     unfolding stepIn W.child
-    list-stop h = stopped s row _ _ (rw (list-ty, counted) (step-no (decLt i n) (numbered 5) _ (λ l. omega arith)))
+    list-stop {i} h = stopped t row p i (rw (list-ty, counted) (step-no (decLt i n) (numbered 5) _ (λ l. omega arith)))
 
-    module _ (h : i < n) (v : ℕ) (u : v ≡ wideX y) (w : ℕ) (g : w ≡ slotWidth v) where
-      slot-is : slotOf (codec (typeAt s (L .element) (p .depth)) .wide) ≡ w
-      slot-is = slot-codec _ ∙ ap (λ (t : Ty). slotWidth (wideOf t)) (sym same-ty) ∙ ap slotWidth (wide-is s row p i y e (L .into) v u) ∙ sym g
+    module _ {i : ℕ} (h : i < n) {y : Opened} (K : Kin t (p .opened) i y) {v : ℕ} (u : v ≡ widthIn (y .entry)) {w : ℕ} (g : w ≡ slotWidth v) where
+      same-ty : openTy t y ≡ heldTy t (p .opened .first)
+      unfolding typeOn
+      same-ty = some-one (rw list-ty at (K .same))
+
+      slot-is : slotOf (codec (heldTy t (p .opened .first)) .wide) ≡ w
+      slot-is = slot-codec _ ∙ ap (λ (y : Ty). slotWidth (wideOf y)) (sym same-ty) ∙ ap slotWidth (wide-is K u) ∙ sym g
 
       fixed : front 8 w n ≤ p .len
-      fixed = rw (slot-is, counted, whole) at (list-says _ _ list-holds .fixed)
-
-      small : v ≤ 8
-      small = rw (wide-is s row p i y e (L .into) v u) at (wide-8 (openTy s e y))
+      fixed = rw (slot-is, counted, rest-size (F .stands .rests)) at (list-says _ _ list-holds .fixed)
 
       pub list-child : IsChild row (p .start) (p .len) 8 n w v i
       list-child = record {
-        within = L .into .stands .rests .within;
-        short = L .into .stands .rests .short;
+        within = F .stands .rests .within;
+        short = F .stands .rests .short;
         child = h;
         fixed = fixed;
         slot = rw g (slot-enough v);
-        wide = rw g (slot-most v small);
+        wide = rw g (slot-most v (small K u));
         some = rw g (slot-some v);
         points = λ z. g ∙ sym (slot-zero v z);
       }
 
-      pub list-step : (c : Child) → Comes row (p .start) (p .len) 8 n w v i c → (r : Next) → Moves s row r (childAs (openTy s e y) row c) (some (openTy s e y)) → Steps s row p i r
+      pub list-step : {c : Child} → Comes row (p .start) (p .len) 8 n w v i c → {r : Next} → Entered y c r → Steps t row p i r
       unfolding stepIn
-      list-step c k r m =
-          moved m (k .means (openTy s e y) (wide-is s row p i y e (L .into) v u) ∙ rw (list-ty, slot-is, counted, same-ty)) (L .into .kin)
+      list-step {c} k {r} m =
+          let e = m t row (enters K u (F .stands .rests .short) (k .lands)) in
+          record {
+            means = e .means ∙ k .means (openTy t y) (wide-is K u) ∙ rw (list-ty, slot-is, counted, same-ty);
+            lands = e .lands;
+            tells = subst (λ o. Tells t r o) (K .same) (e .tells);
+          }
 
 -- a field
-module _ (s row : List ℕ) (p : Place) (n i : ℕ) (y : Opened) (e : ℕ) (L : IntoStruct s row p n i y e) where
-  struct-ty : placeTy s p ≡ ro (typesAt s (L .first) (p .depth) n)
-  struct-ty = rw (L .struct)
+module _ {t row : List ℕ} {p : Place} (F : From t row 11 p) {n : ℕ} (q : n ≡ countIn (p .opened .entry)) where
+  abbrev types : Tys
+  types = typesAt (schemaOf t) (posOf t (p .opened .first)) 7 (countIn (p .opened .entry))
 
-  fields-is : Fields s (p .depth) (L .first) n
-  fields-is = rw (L .struct) at (L .into .stands .rests .is)
+  struct-ty : placeTy t p ≡ ro types
+  struct-ty = ty-struct t (p .opened) (F .kind)
 
-  fields-count : count (typesAt s (L .first) (p .depth) n) ≡ n
-  fields-count = typed-count s (L .first) (p .depth) n (fields-is .types)
+  fields-count : count types ≡ n
+  fields-count = typed-count _ _ 7 _ (F .stands .rests .is .struct (F .kind) .types) ∙ sym q
 
   struct-fixed : front 0 8 n ≤ p .len
   unfolding holdsOf structHolds
   struct-fixed =
-      let h : holdsOf (ro (typesAt s (L .first) (p .depth) n)) (bytesOf row p) ≡ true = rw struct-ty at (L .into .stands .holds) in
-      leb-true _ _ (rw (fields-count, length-part row (p .start) (p .len) (L .into .stands .rests .within)) at h)
+      let h : holdsOf (ro types) (bytesOf row p) ≡ true = rw struct-ty at (F .stands .holds) in
+      leb-true _ _ (rw (fields-count, rest-size (F .stands .rests)) at h)
 
-  in-range : i < n
-  unfolding typeOn
-  in-range = rw fields-count at (assert-some (decLt i _) _ _ (rw struct-ty at (L .into .kin)) .holds)
+  module _ {i : ℕ} (h : i < n) where
+    pub struct-of : OfStruct t (p .opened) i
+    struct-of = of-struct (F .stands .rests .is) (F .kind) q h
 
-  field-ty : openTy s e y ≡ field (typesAt s (L .first) (p .depth) n) i
-  unfolding typeOn
-  field-ty = some-one (assert-some (decLt i _) _ _ (rw struct-ty at (L .into .kin)) .same)
+    module _ {y : Opened} (K : Kin t (p .opened) i y) {v : ℕ} (u : v ≡ widthIn (y .entry)) where
+      field-ty : openTy t y ≡ field types i
+      unfolding typeOn
+      field-ty = assert-same (decLt i _) _ _ (rw struct-ty at (K .same))
 
-  module _ (v : ℕ) (u : v ≡ wideX y) where
-    pub struct-child : IsChild row (p .start) (p .len) 0 n 8 v i
-    struct-child = record {
-      within = L .into .stands .rests .within;
-      short = L .into .stands .rests .short;
-      child = in-range;
-      fixed = struct-fixed;
-      slot = rw (wide-is s row p i y e (L .into) v u) at (wide-8 (openTy s e y));
-      wide = omega arith;
-      some = omega arith;
-      points = λ _. refl;
-    }
+      pub struct-child : IsChild row (p .start) (p .len) 0 n 8 v i
+      struct-child = record {
+        within = F .stands .rests .within;
+        short = F .stands .rests .short;
+        child = h;
+        fixed = struct-fixed;
+        slot = small K u;
+        wide = omega arith;
+        some = omega arith;
+        points = λ _. refl;
+      }
 
-    pub struct-step : (c : Child) → Comes row (p .start) (p .len) 0 n 8 v i c → (r : Next) → Moves s row r (childAs (openTy s e y) row c) (some (openTy s e y)) → Steps s row p i r
-    unfolding stepIn
-    struct-step c k r m =
-        moved m (k .means (openTy s e y) (wide-is s row p i y e (L .into) v u) ∙ rw (struct-ty, fields-count, field-ty)) (L .into .kin)
+      pub struct-step : {c : Child} → Comes row (p .start) (p .len) 0 n 8 v i c → {r : Next} → Entered y c r → Steps t row p i r
+      unfolding stepIn
+      struct-step {c} k {r} m =
+          let e = m t row (enters K u (F .stands .rests .short) (k .lands)) in
+          record {
+            means = e .means ∙ k .means (openTy t y) (wide-is K u) ∙ rw (struct-ty, fields-count, field-ty);
+            lands = e .lands;
+            tells = subst (λ o. Tells t r o) (K .same) (e .tells);
+          }
 
 -- a map's arrays
 drop-part : (b : List ℕ) (k : ℕ) → drop k b ≡ part b k (length b - k)
@@ -228,112 +235,96 @@ Holder (li t) = Unit {0}
 Holder (ma k v) = Unit {0}
 Holder (ro ts) = Unit {0}
 
-pub holder : (s row : List ℕ) (e : ℕ) (y : Opened) (z : Seat) (n : ℕ) → OpenIs s e y → Holder (openTy s e y) → Sized y n × Seated row y z
-holder s row e (OFixed k) z n o h = absurd h
-holder s row e (OText k) z n o h = absurd h
-holder s row e (OList c) z n o h = (tt, tt)
-holder s row e (OMap k v) z n o h = (tt, tt)
-holder s row e (OStruct f m) z n o h = (tt, tt)
-holder s row e ONothing z n o h = absurd h
+pub holder : (t : List ℕ) (y : Opened) → Holder (openTy t y) → y .kind < 9 → ⊥
+holder t y h l = go (decLt (y .kind) 7)
+  where
+    go : Dec (y .kind < 7) → ⊥
+    go (yes g) = rw (ty-fixed t y g) at h
+    go (no g) = rw (ty-text t y (omega arith) l) at h
 
-map-kin : (t : Ty) (a b : Ty) (i : ℕ) → some t ≡ typeOn (i ∷ []) (ma a b) → ((i ≡ 0) × (t ≡ li a)) ⊎ ((i ≡ 1) × (t ≡ li b))
+pub held-kind : {y : Opened} → Kinded y → (t : List ℕ) → 9 ≤ y .kind → Holder (openTy t y)
+held-kind {y} k t h = go (ℕ-discrete (y .kind) 9) (ℕ-discrete (y .kind) 10)
+  where
+    go : Dec (y .kind ≡ 9) → Dec (y .kind ≡ 10) → Holder (openTy t y)
+    go (yes e) q = rw (ty-list t y e) tt
+    go (no n) (yes e) = rw (ty-map t y e) tt
+    go (no n) (no m) = rw (ty-struct t y (struct-left k h n m)) tt
+
+map-kin : (y : Ty) (a b : Ty) (i : ℕ) → some y ≡ typeOn (i ∷ []) (ma a b) → ((i ≡ 0) × (y ≡ li a)) ⊎ ((i ≡ 1) × (y ≡ li b))
 unfolding typeOn
-map-kin t a b zero q = inl (refl, some-one q)
-map-kin t a b (suc zero) q = inr (refl, some-one q)
-map-kin t a b (suc (suc i)) q = let x : _≡_ {A = ℕ} 0 1 = cc in absurd (omega arith)
+map-kin y a b zero q = inl (refl, some-one q)
+map-kin y a b (suc zero) q = inr (refl, some-one q)
+map-kin y a b (suc (suc i)) q = let x : _≡_ {A = ℕ} 0 1 = cc in absurd (omega arith)
 
-module _ (s row : List ℕ) (p : Place) (i : ℕ) (y : Opened) (e : ℕ) (L : IntoMap s row p i y e) where
-  map-ty : placeTy s p ≡ ma (typeAt s (L .keys) (p .depth)) (typeAt s (L .values) (p .depth))
-  map-ty = rw (L .map)
+module _ {t row : List ℕ} {p : Place} (F : From t row 10 p) where
+  map-ty : placeTy t p ≡ ma (heldTy t (p .opened .first)) (valuesTy t (p .opened .first))
+  map-ty = ty-map t (p .opened) (F .kind)
 
-  map-holds : holdsOf (ma (typeAt s (L .keys) (p .depth)) (typeAt s (L .values) (p .depth))) (bytesOf row p) ≡ true
-  map-holds = rw map-ty at (L .into .stands .holds)
-
-  map-whole : length (bytesOf row p) ≡ p .len
-  map-whole = length-part row (p .start) (p .len) (L .into .stands .rests .within)
+  map-holds : holdsOf (ma (heldTy t (p .opened .first)) (valuesTy t (p .opened .first))) (bytesOf row p) ≡ true
+  map-holds = rw map-ty at (F .stands .holds)
 
   map-header : 8 ≤ p .len
-  map-header = rw map-whole at (map-says _ _ _ map-holds .header)
+  map-header = rw (rest-size (F .stands .rests)) at (map-says _ _ _ map-holds .header)
 
   pub map-room : p .start + 8 ≤ length row
-  map-room = omega (arith, map-header, L .into .stands .rests .within)
+  map-room = omega (arith, map-header, F .stands .rests .within)
 
-  arrays : ((i ≡ 0) × (openTy s e y ≡ li (typeAt s (L .keys) (p .depth)))) ⊎ ((i ≡ 1) × (openTy s e y ≡ li (typeAt s (L .values) (p .depth))))
-  arrays = map-kin (openTy s e y) _ _ i (rw map-ty at (L .into .kin))
+  pub map-of : {i : ℕ} → i < 2 → OfMap t (p .opened) i
+  map-of h = record { of = record { is = F .stands .rests .is; kind = F .kind }; within = h }
 
-  module _ (z : ℕ) (q : z ≡ num (part row (p .start) 8)) where
+  module _ {z : ℕ} (q : z ≡ num (part row (p .start) 8)) where
     keys-size : num (take 8 (bytesOf row p)) ≡ z
-    keys-size = header-is row (p .start) (p .len) (stands-row s row p (L .into .stands)) map-header z q
+    keys-size = header-is (rest-row (F .stands .rests)) map-header q
 
     pub keys-room : 8 + z ≤ p .len
-    keys-room = rw (keys-size, map-whole) at (map-says _ _ _ map-holds .keys)
+    keys-room = rw (keys-size, rest-size (F .stands .rests)) at (map-says _ _ _ map-holds .keys)
 
-    -- an array has its first byte for a slot
-    abbrev pub arraySeat : ℕ → Seat
-    arraySeat o = record { bits = 0; number = 0; slot = o; wide = 0 }
+    pub before-fits : Fits w64 (8 + z)
+    before-fits = omega (arith, keys-room, F .stands .rests .within, F .stands .rests .short)
 
-    pub array-rests : (o k : ℕ) → o + k ≤ length row → Rests s row (record { opened = y; depth = e; seat = arraySeat o; start = o; len = k })
-    array-rests o k h = go arrays
-      where
-        made : (t : Ty) → openTy s e y ≡ li t → Rests s row (record { opened = y; depth = e; seat = arraySeat o; start = o; len = k })
-        made t u =
-            let l = holder s row e y (arraySeat o) k (L .into .is) (rw u tt) in
-            record { is = L .into .is; within = h; short = L .into .stands .rests .short; sized = l .0; seated = l .1 }
+    pub values-fits : Fits w64 (p .start + (8 + z))
+    values-fits = omega (arith, keys-room, F .stands .rests .within, F .stands .rests .short)
 
-        go : ((i ≡ 0) × (openTy s e y ≡ li (typeAt s (L .keys) (p .depth)))) ⊎ ((i ≡ 1) × (openTy s e y ≡ li (typeAt s (L .values) (p .depth))))
-            → Rests s row (record { opened = y; depth = e; seat = arraySeat o; start = o; len = k })
-        go (inl x) = made _ (x .1)
-        go (inr x) = made _ (x .1)
+    module _ {i : ℕ} {y : Opened} (K : Kin t (p .opened) i y) where
+      arrays : ((i ≡ 0) × (openTy t y ≡ li (heldTy t (p .opened .first)))) ⊎ ((i ≡ 1) × (openTy t y ≡ li (valuesTy t (p .opened .first))))
+      arrays = map-kin (openTy t y) _ _ i (rw map-ty at (K .same))
 
-    pub keys-step : i ≡ 0 → (r : Next)
-        → Moves s row r (into (openTy s e y) (seatAs (arraySeat (p .start + 8))) (p .start + 8) (part row (p .start + 8) z)) (some (openTy s e y))
-        → Steps s row p i r
-    unfolding stepIn
-    keys-step j r m = go arrays
-      where
-        go : ((i ≡ 0) × (openTy s e y ≡ li (typeAt s (L .keys) (p .depth)))) ⊎ ((i ≡ 1) × (openTy s e y ≡ li (typeAt s (L .values) (p .depth)))) → Steps s row p i r
-        go (inl x) = moved m (rw (map-ty, j, keys-size, part-part row (p .start) (p .len) 8 z keys-room, x .1)) (L .into .kin)
-        go (inr x) = absurd (omega (arith, x .0))
+      array-rests : (e : Ty) → openTy t y ≡ li e → (o k : ℕ) → o + k ≤ length row → Rests t row (arrayPlace y o k)
+      array-rests e u o k h = record {
+        is = K .is;
+        within = h;
+        short = F .stands .rests .short;
+        sized = λ l. absurd (holder t y (rw u tt) (omega arith));
+        seated = λ l. absurd (holder t y (rw u tt) l);
+      }
 
-    values-bytes : drop (8 + z) (bytesOf row p) ≡ part row (p .start + (8 + z)) (p .len - (8 + z))
-    values-bytes = drop-part (bytesOf row p) (8 + z) ∙ rw map-whole (part-part row (p .start) (p .len) (8 + z) (p .len - (8 + z)) (omega (arith, keys-room)))
+      pub keys-step : i ≡ 0 → {r : Next} → r ≡ arrayAt y (p .start + 8) z → Steps t row p i r
+      unfolding stepIn nextAs
+      keys-step j {r} e = rw e (go arrays)
+        where
+          go : ((i ≡ 0) × (openTy t y ≡ li (heldTy t (p .opened .first)))) ⊎ ((i ≡ 1) × (openTy t y ≡ li (valuesTy t (p .opened .first))))
+              → Steps t row p i (arrayAt y (p .start + 8) z)
+          go (inl x) = record {
+            means = rw (map-ty, j, keys-size, part-part row (p .start) (p .len) 8 z keys-room, x .1);
+            lands = array-rests _ (x .1) _ _ (omega (arith, keys-room, F .stands .rests .within));
+            tells = K .same;
+          }
+          go (inr x) = absurd (omega (arith, x .0))
 
-    pub values-step : (i ≡ 0 → ⊥) → (r : Next)
-        → Moves s row r (into (openTy s e y) (seatAs (arraySeat (p .start + (8 + z)))) (p .start + (8 + z))
-        (part row (p .start + (8 + z)) (p .len - (8 + z)))) (some (openTy s e y)) → Steps s row p i r
-    unfolding stepIn
-    values-step j r m = go arrays
-      where
-        go : ((i ≡ 0) × (openTy s e y ≡ li (typeAt s (L .keys) (p .depth)))) ⊎ ((i ≡ 1) × (openTy s e y ≡ li (typeAt s (L .values) (p .depth)))) → Steps s row p i r
-        go (inl x) = absurd (j (x .0))
-        go (inr x) = moved m (rw (map-ty, x .0, keys-size, values-bytes, x .1)) (L .into .kin)
+      values-bytes : drop (8 + z) (bytesOf row p) ≡ part row (p .start + (8 + z)) (p .len - (8 + z))
+      values-bytes =
+          drop-part (bytesOf row p) (8 + z)
+          ∙ rw (rest-size (F .stands .rests)) (part-part row (p .start) (p .len) (8 + z) (p .len - (8 + z)) (omega (arith, keys-room)))
 
--- ---- no step
-
-pub leaf-step : (s row : List ℕ) (p : Place) (i : ℕ) (y : Opened) (e : ℕ) → Into s row p i y e → (f : ℕ) → p .opened ≡ OFixed f → Steps s row p i Nowhere
-unfolding stepIn
-leaf-step s row p i y e I f q = stopped s row _ _ (rw q)
-
-pub text-step : (s row : List ℕ) (p : Place) (i : ℕ) (y : Opened) (e : ℕ) → Into s row p i y e → (f : ℕ) → p .opened ≡ OText f → Steps s row p i Nowhere
-unfolding stepIn
-text-step s row p i y e I f q = stopped s row _ _ (rw q)
-
-pub no-step : (s row : List ℕ) (p : Place) (i : ℕ) (y : Opened) (e : ℕ) → Into s row p i y e → p .opened ≡ ONothing → ⊥
-no-step s row p i y e I q = rw q at (I .stands .rests .is)
-
--- where the schema has no such place, the step is refused with 5
-no-kin : (t : Ty) (i : ℕ) (z : W.Seat) (o : ℕ) (b : List ℕ) → none ≡ typeOn (i ∷ []) t → stepIn t i z o b ≡ stop (numbered 5)
-unfolding typeOn stepIn W.child
-no-kin (fix f) i z o b e = refl
-no-kin (text f) i z o b e = refl
-no-kin (li t) i z o b e = let x : _≡_ {A = ℕ} 0 1 = cc in absurd (omega arith)
-no-kin (ma k v) zero z o b e = let x : _≡_ {A = ℕ} 0 1 = cc in absurd (omega arith)
-no-kin (ma k v) (suc zero) z o b e = let x : _≡_ {A = ℕ} 0 1 = cc in absurd (omega arith)
-no-kin (ma k v) (suc (suc i)) z o b e = refl
-no-kin (ro ts) i z o b e = step-no (decLt i (count ts)) (numbered 5) _ (assert-none (decLt i (count ts)) _ e)
-
-pub nowhere-step : (s row : List ℕ) (p : Place) (i : ℕ) (r : Lot) → Lots s r (typeOn (i ∷ []) (placeTy s p)) → r ≡ LNowhere → Steps s row p i Nowhere
-nowhere-step s row p i r l q = stopped s row _ _ (no-kin (placeTy s p) i _ _ _ (rw q at (l .means)))
-
-pub kin-into : (s row : List ℕ) (p : Place) (i : ℕ) → Stands s row p → (r : Lot) → Lots s r (typeOn (i ∷ []) (placeTy s p)) → (y : Opened) (e : ℕ) → r ≡ Of y e → Into s row p i y e
-kin-into s row p i S r l y e q = record { stands = S; is = rw q at (l .is); kin = rw q at (l .means) }
+      pub values-step : (i ≡ 0 → ⊥) → {r : Next} → r ≡ arrayAt y (p .start + (8 + z)) (p .len - (8 + z)) → Steps t row p i r
+      unfolding stepIn nextAs
+      values-step j {r} e = rw e (go arrays)
+        where
+          go : ((i ≡ 0) × (openTy t y ≡ li (heldTy t (p .opened .first)))) ⊎ ((i ≡ 1) × (openTy t y ≡ li (valuesTy t (p .opened .first))))
+              → Steps t row p i (arrayAt y (p .start + (8 + z)) (p .len - (8 + z)))
+          go (inl x) = absurd (j (x .0))
+          go (inr x) = record {
+            means = rw (map-ty, x .0, keys-size, values-bytes, x .1);
+            lands = array-rests _ (x .1) _ _ (omega (arith, keys-room, F .stands .rests .within));
+            tells = K .same;
+          }

@@ -1,28 +1,23 @@
 -- A path walked a step at a time, by the schema alone and in the row: what is left of it leads to the same end. Assumes nothing.
-use mathlib.Core.Path.{_≡_, refl, sym, _∙_}
-use mathlib.Core.Bool.{Bool, true, false}
+use mathlib.Core.Path.{_≡_, refl, sym, ap, _∙_}
+use mathlib.Core.Bool.{Bool, true, false, not}
 use mathlib.Core.Option.{Option, none, some}
 use mathlib.Core.List.{List, [], _∷_}
-use Prim.Native.Nat.{ℕ, zero, suc, _+_, _-_, _≤_, _<_}
+use Prim.Native.Nat.{ℕ, zero, suc, _+_, _≤_, _<_}
 use native.Mathlib.Numerals.{add-one}
 use native.Mathlib.Omega.{arith}
 use native.Mathlib.Decide.{decLe, decLt}
-use lib.Dec.{eqb}
 use lib.ListN.{length, drop, getD, drop-of-length-le}
 use lib.Seq.{drop-cons}
-use borrow.Author.Tests.{eqb-true, eqb-false}
+use borrow.Author.Tests.{not-true, not-false}
+use mir.Syntax.{w64}
+use mir.Val.{Fits}
 use Rattle.words.proofs.Parts.{part-whole}
-use Rattle.schema.specs.Kinds.{pick}
 use Rattle.schema.specs.Types.{Ty, fix, text, li, ma, ro, count, field}
-use Rattle.schema.specs.Reading.{judged}
-use Rattle.schema.specs.Walk.{openAt, fieldsOf}
-use Rattle.schema.specs.declared.Judged.the-variants.{Accepted}
-use Rattle.schema.specs.declared.Opened.{Opened}
-use Rattle.schema.proofs.Judging.{accepted-root}
 use Rattle.layout.specs.Reader.{_>>_, assert}
 use Rattle.layout.specs.Refusals.{Refusal, numbered, brokenAt}
 use Rattle.layout.specs.Walk as W
-use Rattle.layout.specs.Walk.{Seen, bad, seen, stop, toNull, into, own, stepIn, goOn, rootSeat, walk}
+use Rattle.layout.specs.Walk.{Seen, bad, seen, stop, into, own, stepIn, goOn, walk}
 use Rattle.layout.specs.Reading.{typeAt as typeOn, placed}
 use Rattle.layout.specs.Setting.{isSome}
 use Rattle.layout.proofs.Reader.{assert-yes}
@@ -30,8 +25,10 @@ use Rattle.answers.specs.declared.Path.{Path}
 use Rattle.answers.specs.Paths.{pathOf}
 use Rattle.answers.proofs.PathLaws.{length-path, path-at}
 use Rattle.reading.specs.Children.{seatAs}
-use Rattle.reading.specs.Places.{openTy, OpenIs, holdsOf, brokenIn, brokenX, placeTy, bytesOf, Rests, Stands, Lots, NullIn, entering, nextAs, Steps}
-use Rattle.reading.specs.Finding.{foundAs, nullAs, Asks, From, Goes, Walks, seenIn, Finds}
+use Rattle.reading.specs.Opening.{openTy, OpenIs, Opens, Lots}
+use Rattle.reading.specs.Places.{holdsOf, brokenIn, placeTy, bytesOf, Rests, Stands, Breaks, NullIn, nextAs, Steps}
+use Rattle.reading.specs.Finding.{foundAs, FoundTells, FoundLands, Open, Asked, Asks, isOn, orNoPlace, seenIn, Goes, rootTy, Finds}
+use Rattle.reading.specs.declared.Opened.{Opened}
 use Rattle.reading.specs.declared.Seat.{Seat}
 use Rattle.reading.specs.declared.Place.{Place}
 use Rattle.reading.specs.declared.Lot.{Lot}
@@ -39,9 +36,9 @@ use Rattle.reading.specs.declared.Lot.the-variants.{Nowhere as LNowhere,
 use Rattle.reading.specs.declared.Next.{Next}
 use Rattle.reading.specs.declared.Next.the-variants.{Nowhere, Broken, Null, To}
 use Rattle.reading.specs.declared.Found.{Found}
-use Rattle.reading.specs.declared.Found.the-variants.{NoPlace, Broken as FBroken, At}
-use Rattle.reading.proofs.Rules.{own-is, broken-is, open-type, open-is}
-use Rattle.reading.proofs.Kin.{assert-no}
+use Rattle.reading.specs.declared.Found.the-variants.{NoPlace, NullBefore, Broken as FBroken, Null as FNull, At}
+use Rattle.reading.proofs.Opening.{assert-no, root-type}
+use Rattle.reading.proofs.Rules.{own-is}
 use Rattle.reading.proofs.Moving.{holder}
 
 -- ---- one step more, by the schema
@@ -86,40 +83,43 @@ module _ (path : Path) (k : ℕ) where
 
 -- ---- the walk by the schema: the invariant, its start, its step and its end
 
-pub record OnKin (s : List ℕ) (path : Path) (x : Opened) (d k : ℕ) : Type 0 where
+pub record OnKin (t : List ℕ) (path : Path) (from : Opened) (done : ℕ) (x : Opened) (k : ℕ) : Type 0 where
   pub few : path .len ≤ 16
-  pub most : k ≤ path .len
-  pub is : OpenIs s d x
-  pub same : typeOn (pathOf path) (ro (fieldsOf s)) ≡ typeOn (drop k (pathOf path)) (openTy s d x)
+  pub is : OpenIs t x
+  pub same : typeOn (drop done (pathOf path)) (openTy t from) ≡ typeOn (drop k (pathOf path)) (openTy t x)
 
-module _ (s : List ℕ) (a : judged s ≡ Accepted) (x : Opened) (e : x ≡ openAt s 0 8) where
-  pub root-is : OpenIs s 7 x
-  root-is = open-is s 0 8 (accepted-root s a .typed) x e
+pub kin-start : {t : List ℕ} {path : Path} {from : Opened} → Asked t from path → (done : ℕ) → OnKin t path from done from done
+kin-start A done = record { few = A .few; is = A .is; same = refl }
 
-  pub root-type : openTy s 7 x ≡ ro (fieldsOf s)
-  root-type = open-type s 0 8 (accepted-root s a .typed) x e ∙ accepted-root s a .whole
-
-  pub kin-start : (path : Path) → path .len ≤ 16 → OnKin s path x 7 0
-  kin-start path h = record { few = h; most = omega arith; is = root-is; same = rw root-type }
-
-module _ (s : List ℕ) (path : Path) (x : Opened) (d k : ℕ) (O : OnKin s path x d k) where
-  pub kin-end : path .len ≤ k → true ≡ isSome (typeOn (pathOf path) (ro (fieldsOf s)))
+module _ {t : List ℕ} {path : Path} {from : Opened} {done : ℕ} {x : Opened} {k : ℕ} (O : OnKin t path from done x k) where
+  pub kin-end : path .len ≤ k → true ≡ isOn t from path done
   unfolding typeOn
   kin-end h = rw (O .same, step-end path k h)
 
-  module _ (h : k < path .len) (i : ℕ) (q : i ≡ getD (path .steps) k 0) (r : Lot) (l : Lots s r (typeOn (i ∷ []) (openTy s d x))) where
-    pub kin-off : r ≡ LNowhere → false ≡ isSome (typeOn (pathOf path) (ro (fieldsOf s)))
-    kin-off u =
-        let z : typeOn (pathOf path) (ro (fieldsOf s)) ≡ none = O .same ∙ rw (step-on path k h i q) (type-off (openTy s d x) i _ (rw u at (l .means))) in
-        rw z
+  module _ (h : k < path .len) where
+    pub kin-fits : Fits w64 (k + 1)
+    kin-fits = omega (arith, O .few)
 
-    pub kin-on : (y : Opened) (e : ℕ) → r ≡ Of y e → OnKin s path y e (k + 1)
-    kin-on y e u = record {
-      few = O .few;
-      most = omega arith;
-      is = rw u at (l .is);
-      same = O .same ∙ rw (step-on path k h i q, add-one) (type-on (openTy s d x) (openTy s e y) i _ (rw u at (l .means)));
-    }
+    module _ {i : ℕ} (q : i ≡ getD (path .steps) k 0) {r : Lot} (l : Lots t r (typeOn (i ∷ []) (openTy t x))) where
+      pub kin-off : r ≡ LNowhere → false ≡ isOn t from path done
+      kin-off u =
+          let n = type-off (openTy t x) i _ (rw u at (l .means)) in
+          let z : typeOn (drop done (pathOf path)) (openTy t from) ≡ none = O .same ∙ rw (step-on path k h i q) n in
+          rw z
+
+      pub kin-on : {y : Opened} → r ≡ Of y → OnKin t path from done y (k + 1)
+      kin-on {y} u = record {
+        few = O .few;
+        is = rw u at (l .is);
+        same = O .same ∙ rw (step-on path k h i q, add-one) (type-on (openTy t x) (openTy t y) i _ (rw u at (l .means)));
+      }
+
+module _ {b q : Bool} (f : Found) (e : b ≡ q) where
+  pub or-found : b ≡ true → f ≡ orNoPlace q f
+  or-found h = rw (sym e ∙ h)
+
+  pub or-none : b ≡ false → NoPlace ≡ orNoPlace q f
+  or-none h = rw (sym e ∙ h)
 
 -- ---- the walk in the row
 
@@ -141,20 +141,9 @@ walk-end t z o b e = own-yes t z o b _ e
 abbrev onward : List ℕ → W.Step → Seen
 onward p z = goOn p (λ t s o b. walk p t s o b) z
 
-enters : (p : List ℕ) (z : W.Step) → onward p z ≡ onward p (entering z)
-unfolding goOn entering
-enters p (stop n) = refl
-enters p (toNull x) = refl
-enters p (into t x o b) = go p (holdsOf t b) refl
-  where
-    go : (p : List ℕ) (h : Bool) → holdsOf t b ≡ h → onward p (into t x o b) ≡ onward p (pick h (into t x o b) (stop (brokenAt (brokenIn t x o b))))
-    go p true e = refl
-    go [] false e = walk-no [] t x o b e
-    go (i ∷ p) false e = walk-no (i ∷ p) t x o b e
-
-walk-on : (i : ℕ) (p : List ℕ) (t : Ty) (z : W.Seat) (o : ℕ) (b : List ℕ) → holdsOf t b ≡ true → walk (i ∷ p) t z o b ≡ onward p (entering (stepIn t i z o b))
+walk-on : (i : ℕ) (p : List ℕ) (t : Ty) (z : W.Seat) (o : ℕ) (b : List ℕ) → holdsOf t b ≡ true → walk (i ∷ p) t z o b ≡ onward p (stepIn t i z o b)
 unfolding walk
-walk-on i p t z o b e = own-yes t z o b _ e ∙ enters p (stepIn t i z o b)
+walk-on i p t z o b e = own-yes t z o b _ e
 
 on-stop : (p : List ℕ) (n : Refusal) → onward p (stop n) ≡ bad n
 unfolding goOn
@@ -166,121 +155,151 @@ unfolding goOn
 on-into [] t z o b = refl
 on-into (i ∷ p) t z o b = refl
 
-pub record OnWalk (s row : List ℕ) (path : Path) (from at : Place) (k : ℕ) : Type 0 where
+-- the path's walk from a place, as the layout has it
+abbrev walked : List ℕ → List ℕ → Place → List ℕ → Seen
+walked t row p path = walk path (placeTy t p) (seatAs (p .seat)) (p .start) (bytesOf row p)
+
+pub record OnWalk (t row : List ℕ) (path : Path) (from at : Place) (k : ℕ) : Type 0 where
   pub few : path .len ≤ 16
   pub most : k ≤ path .len
-  pub stands : Stands s row at
-  pub same : walk (pathOf path) (placeTy s from) (seatAs (from .seat)) (from .start) (bytesOf row from)
-      ≡ walk (drop k (pathOf path)) (placeTy s at) (seatAs (at .seat)) (at .start) (bytesOf row at)
-  pub kin : typeOn (pathOf path) (placeTy s from) ≡ typeOn (drop k (pathOf path)) (placeTy s at)
+  pub rests : Rests t row at
+  pub same : walked t row from (pathOf path) ≡ walked t row at (drop k (pathOf path))
+  pub kin : typeOn (pathOf path) (placeTy t from) ≡ typeOn (drop k (pathOf path)) (placeTy t at)
 
-pub walk-start : (s row : List ℕ) (path : Path) (from : Place) → From s row from path → OnWalk s row path from from 0
-walk-start s row path from F = record { few = F .few; most = omega arith; stands = F .stands; same = refl; kin = refl }
+-- at a step: the place's own rules hold, and the path goes on
+pub record OnStep (t row : List ℕ) (path : Path) (from at : Place) (k : ℕ) : Type 0 where
+  pub walk : OnWalk t row path from at k
+  pub stands : Stands t row at
+  pub more : k < path .len
 
-module _ (s row : List ℕ) (path : Path) (from at : Place) (k : ℕ) (O : OnWalk s row path from at k) where
-  pub walk-done : path .len ≤ k → Goes s row from (pathOf path) (At at)
-  unfolding foundAs typeOn
-  walk-done h = record {
-    means = sym (O .same ∙ rw (step-end path k h) (walk-end _ _ _ _ (O .stands .holds)));
-    tells = sym (O .kin ∙ rw (step-end path k h));
-    lands = O .stands;
-  }
+pub walk-start : {t row : List ℕ} {path : Path} {from : Place} → Asks t row from path → OnWalk t row path from from 0
+walk-start A = record { few = A .few; most = omega arith; rests = A .rests; same = refl; kin = refl }
 
-  module _ (h : k < path .len) (i : ℕ) (q : i ≡ getD (path .steps) k 0) (r : Next) (m : Steps s row at i r) where
-    goes : walk (pathOf path) (placeTy s from) (seatAs (from .seat)) (from .start) (bytesOf row from) ≡ onward (drop (suc k) (pathOf path)) (nextAs s row r)
-    goes = O .same ∙ rw (step-on path k h i q, m .means) (walk-on i _ _ _ _ _ (O .stands .holds))
+-- what the row shows, and before it what the schema alone does
+refused-goes : {t row : List ℕ} {from : Place} (p : List ℕ) (o : Option Ty) → typeOn p (placeTy t from) ≡ o → (f : Found)
+    → ((q : Option Ty) → FoundTells t f q) → FoundLands t row f → foundAs row f ≡ walked t row from p → Goes t row from p (orNoPlace (isSome o) f)
+unfolding foundAs
+refused-goes p none e f h l m = record { means = rw e; tells = tt; lands = tt }
+refused-goes p (some y) e f h l m = record { means = rw e m; tells = h _; lands = l }
 
-    pub walk-nowhere : r ≡ Nowhere → Goes s row from (pathOf path) NoPlace
+some-seen : {o : Option Ty} {y : Ty} → o ≡ some y → (w : Seen) → w ≡ seenIn o w
+some-seen e w = rw e
+
+five-seen : (o : Option Ty) → bad (numbered 5) ≡ seenIn o (bad (numbered 5))
+five-seen none = refl
+five-seen (some y) = refl
+
+module _ {t row : List ℕ} {path : Path} {from at : Place} {k : ℕ} (O : OnWalk t row path from at k) where
+  pub walk-asked : Asked t (at .opened) path
+  walk-asked = record { is = O .rests .is; few = O .few }
+
+  -- f, or what the schema alone shows
+  refused : {r : Found} (f : Found) → r ≡ orNoPlace (isOn t (at .opened) path k) f → ((q : Option Ty) → FoundTells t f q) → FoundLands t row f
+      → foundAs row f ≡ walked t row from (pathOf path) → Goes t row from (pathOf path) r
+  refused f e h l m = rw (e, ← (O .kin)) (refused-goes (pathOf path) (typeOn (pathOf path) (placeTy t from)) refl f h l m)
+
+  pub walk-fails : {b : Bool} → b ≡ holdsOf (placeTy t at) (bytesOf row at) → not b ≡ true → {q : ℕ} → Breaks at q
+      → {r : Found} → r ≡ orNoPlace (isOn t (at .opened) path k) (FBroken q) → Goes t row from (pathOf path) r
+  unfolding foundAs
+  walk-fails g h u e =
+      let w = walk-no (drop k (pathOf path)) _ _ _ _ (sym g ∙ not-true _ h) in
+      refused _ e (λ _. tt) tt (ap (λ (n : ℕ). bad (brokenAt n)) (u t row (O .rests)) ∙ sym (O .same ∙ w))
+
+  module _ {b : Bool} (g : b ≡ holdsOf (placeTy t at) (bytesOf row at)) (h : not b ≡ false) where
+    stands : Stands t row at
+    stands = record { rests = O .rests; holds = sym g ∙ not-false _ h }
+
+    pub walk-done : path .len ≤ k → Goes t row from (pathOf path) (At at)
+    unfolding foundAs typeOn
+    walk-done n =
+        let y : typeOn (pathOf path) (placeTy t from) ≡ some (placeTy t at) = O .kin ∙ rw (step-end path k n) in
+        record {
+          means = sym (O .same ∙ rw (step-end path k n) (walk-end _ _ _ _ (stands .holds))) ∙ some-seen y _;
+          tells = sym y;
+          lands = stands;
+        }
+
+    pub at-step : k < path .len → OnStep t row path from at k
+    at-step n = record { walk = O; stands = stands; more = n }
+
+module _ {t row : List ℕ} {path : Path} {from at : Place} {k : ℕ} (S : OnStep t row path from at k) where
+  pub step-fits : Fits w64 (k + 1)
+  step-fits = omega (arith, S .walk .few, S .more)
+
+  module _ {i : ℕ} (q : i ≡ getD (path .steps) k 0) {r : Next} (m : Steps t row at i r) where
+    goes : walked t row from (pathOf path) ≡ onward (drop (suc k) (pathOf path)) (nextAs t row r)
+    goes = S .walk .same ∙ rw (step-on path k (S .more) i q, m .means) (walk-on i _ _ _ _ _ (S .stands .holds))
+
+    pub walk-nowhere : r ≡ Nowhere → Goes t row from (pathOf path) NoPlace
     unfolding foundAs nextAs
-    walk-nowhere u = record { means = sym (goes ∙ rw u (on-stop _ (numbered 5))); tells = tt; lands = tt }
+    walk-nowhere u =
+        let w : walked t row from (pathOf path) ≡ bad (numbered 5) = goes ∙ rw u (on-stop _ (numbered 5)) in
+        record { means = rw w (five-seen (typeOn (pathOf path) (placeTy t from))); tells = tt; lands = tt }
 
-    pub walk-broken : (j : ℕ) → r ≡ Broken j → Goes s row from (pathOf path) (FBroken j)
+    pub walk-broken : {j : ℕ} → r ≡ Broken j → {f : Found} → f ≡ orNoPlace (isOn t (at .opened) path k) (FBroken j) → Goes t row from (pathOf path) f
     unfolding foundAs nextAs
-    walk-broken j u = record { means = sym (goes ∙ rw u (on-stop _ (brokenAt j))); tells = tt; lands = tt }
+    walk-broken {j} u e = refused (S .walk) _ e (λ _. tt) tt (sym (goes ∙ rw u (on-stop _ (brokenAt j))))
 
-    module _ (x : Opened) (d : ℕ) (z : Seat) (u : r ≡ Null x d z) where
-      null-in : NullIn s row x d z
+    module _ {x : Opened} {z : Seat} (u : r ≡ Null x z) where
+      null-in : NullIn t row x z
       null-in = rw u at (m .lands)
 
-      null-tells : some (openTy s d x) ≡ typeOn (i ∷ []) (placeTy s at)
+      null-tells : some (openTy t x) ≡ typeOn (i ∷ []) (placeTy t at)
       null-tells = rw u at (m .tells)
 
-      ended : (b : Bool) → b ≡ eqb (k + 1) (path .len) → Goes s row from (pathOf path) (nullAs b x d z)
+      pub walk-null : k + 1 ≡ path .len → Goes t row from (pathOf path) (FNull x z)
       unfolding foundAs nextAs goOn
-      ended true g =
-          let n : path .len ≤ suc k = omega (arith, eqb-true (k + 1) (path .len) (sym g)) in
-          record {
-            means = sym (goes ∙ rw (u, step-end path (suc k) n));
-            tells = null-tells ∙ sym (O .kin ∙ rw (step-on path k h i q, step-end path (suc k) n));
-            lands = null-in;
-          }
-      ended false g =
-          let n : suc k < path .len = omega (arith, eqb-false (k + 1) (path .len) (sym g)) in
-          record { means = sym (goes ∙ rw (u, step-on path (suc k) n (getD (path .steps) (suc k) 0) refl)); tells = tt; lands = tt }
+      walk-null v =
+          let l : path .len ≤ suc k = omega arith in
+          let y : typeOn (pathOf path) (placeTy t from) ≡ some (openTy t x) =
+          S .walk .kin ∙ rw (step-on path k (S .more) i q, step-end path (suc k) l) (sym null-tells) in
+          record { means = sym (goes ∙ rw (u, step-end path (suc k) l)) ∙ some-seen y _; tells = sym y; lands = null-in }
 
-      pub walk-null : (b : Bool) → b ≡ eqb (k + 1) (path .len) → (f : Found) → f ≡ nullAs b x d z → Goes s row from (pathOf path) f
-      walk-null b g f v = rw v (ended b g)
+      pub walk-under : (k + 1 ≡ path .len → ⊥) → {f : Found} → f ≡ orNoPlace (isOn t (at .opened) path k) NullBefore → Goes t row from (pathOf path) f
+      unfolding foundAs nextAs goOn
+      walk-under v e =
+          let l : suc k < path .len = omega (arith, S .more) in
+          refused (S .walk) _ e (λ _. tt) tt (sym (goes ∙ rw (u, step-on path (suc k) l (getD (path .steps) (suc k) 0) refl)))
 
-    pub walk-to : (p : Place) → r ≡ To p → OnWalk s row path from p (k + 1)
+    pub walk-to : {p : Place} → r ≡ To p → OnWalk t row path from p (k + 1)
     unfolding nextAs
-    walk-to p u = record {
-      few = O .few;
-      most = omega arith;
-      stands = rw u at (m .lands);
+    walk-to u = record {
+      few = S .walk .few;
+      most = omega (arith, S .more);
+      rests = rw u at (m .lands);
       same = goes ∙ rw (u, add-one) (on-into _ _ _ _ _);
-      kin = O .kin ∙ rw (step-on path k h i q, add-one) (type-on _ _ i _ (rw u at (m .tells)));
+      kin = S .walk .kin ∙ rw (step-on path k (S .more) i q, add-one) (type-on _ _ i _ (rw u at (m .tells)));
     }
 
 -- ---- from the root
 
-module _ (s row : List ℕ) (path : Path) (A : Asks s row path) (x : Opened) (e : x ≡ openAt s 0 8) where
+pub find-long : (t row : List ℕ) (path : Path) → 16 < path .len → Finds t row (pathOf path) NoPlace
+unfolding foundAs placed
+find-long t row path h =
+    record { means = rw (← (assert-no (decLe (length (pathOf path)) 16) _ (λ l. omega (arith, length-path path)))); tells = tt; lands = tt }
+
+module _ (path : Path) {t row : List ℕ} (O : Open t row) (h : path .len ≤ 16) {x : Opened} (o : Opens t 0 x) where
   abbrev pub rootPlace : Place
-  rootPlace = record { opened = x; depth = 7; seat = record { bits = 0; number = 0; slot = 0; wide = 0 }; start = 0; len = length row }
+  rootPlace = record { opened = x; seat = record { bits = 0; number = 0; slot = 0; wide = 0 }; start = 0; len = length row }
 
-  ty : openTy s 7 x ≡ ro (fieldsOf s)
-  ty = root-type s (A .schema) x e
+  ty : openTy t x ≡ rootTy t
+  ty = root-type (O .table) o
 
-  pub root-rests : Rests s row rootPlace
-  root-rests =
-      let l = holder s row 7 x (rootPlace .seat) (length row) (root-is s (A .schema) x e) (rw ty tt) in
-      record { is = root-is s (A .schema) x e; within = omega arith; short = A .short; sized = l .0; seated = l .1 }
+  pub root-asks : Asks t row rootPlace path
+  root-asks = record {
+    rests = record {
+      is = o .is;
+      within = omega arith;
+      short = O .short;
+      sized = λ l. absurd (holder t x (rw ty tt) (omega arith));
+      seated = λ l. absurd (holder t x (rw ty tt) l);
+    };
+    few = h;
+  }
 
-  module _ (t : Bool) (g : t ≡ holdsOf (placeTy s rootPlace) (bytesOf row rootPlace)) where
-    pub root-from : t ≡ true → From s row rootPlace path
-    root-from h = record { stands = record { rests = root-rests; holds = sym g ∙ h }; few = A .few }
+  placed-is : placed (pathOf path) (rootTy t) ≡ typeOn (pathOf path) (rootTy t)
+  unfolding placed
+  placed-is = rw (assert-yes (decLe (length (pathOf path)) 16) (rw (length-path path) h))
 
-    pub root-walks : (f : Found) → Goes s row rootPlace (pathOf path) f → Walks s row (pathOf path) f
-    root-walks f w = record { means = rw (ty, part-whole row) at (w .means); tells = rw ty at (w .tells); lands = w .lands }
-
-    pub root-broken : t ≡ false → (q : ℕ) → q ≡ brokenX x 0 0 (length row) → Walks s row (pathOf path) (FBroken q)
-    unfolding foundAs
-    root-broken h q eq =
-        let e : q ≡ brokenIn (ro (fieldsOf s)) rootSeat 0 row = eq ∙ rw (ty, part-whole row) at (broken-is s row rootPlace root-rests) in
-        record { means = rw e (sym (walk-no (pathOf path) (ro (fieldsOf s)) rootSeat 0 row (rw (ty, part-whole row) at (sym g ∙ h)))); tells = tt; lands = tt }
-
--- ---- what the schema alone shows, first
-
-module _ (s row : List ℕ) (path : Path) where
-  pub find-long : 16 < path .len → Finds s row (pathOf path) NoPlace
-  unfolding foundAs placed
-  find-long h = record { means = rw (← (assert-no (decLe (length (pathOf path)) 16) _ (λ l. omega (arith, length-path path)))); tells = tt; lands = tt }
-
-  module _ (h : path .len ≤ 16) (t : Bool) (e : t ≡ isSome (typeOn (pathOf path) (ro (fieldsOf s)))) where
-    placed-is : placed (pathOf path) (ro (fieldsOf s)) ≡ typeOn (pathOf path) (ro (fieldsOf s))
-    unfolding placed
-    placed-is = rw (assert-yes (decLe (length (pathOf path)) 16) (rw (length-path path) h))
-
-    none-is : (o : Option Ty) → false ≡ isSome o → o ≡ none
-    none-is none u = refl
-    none-is (some y) u = let z : _≡_ {A = ℕ} 0 1 = cc in absurd (omega arith)
-
-    seen-is : (o : Option Ty) (w : Seen) → true ≡ isSome o → seenIn o w ≡ w
-    seen-is none w u = let z : _≡_ {A = ℕ} 0 1 = cc in absurd (omega arith)
-    seen-is (some y) w u = refl
-
-    pub find-none : t ≡ false → Finds s row (pathOf path) NoPlace
-    unfolding foundAs
-    find-none g = record { means = rw (placed-is, none-is (typeOn (pathOf path) (ro (fieldsOf s))) (sym g ∙ e)); tells = tt; lands = tt }
-
-    pub find-walks : t ≡ true → (f : Found) → Walks s row (pathOf path) f → Finds s row (pathOf path) f
-    find-walks g f w = record { means = w .means ∙ rw placed-is (sym (seen-is (typeOn (pathOf path) (ro (fieldsOf s))) _ (sym g ∙ e))); tells = rw placed-is (w .tells); lands = w .lands }
+  pub root-finds : {f : Found} → Goes t row rootPlace (pathOf path) f → Finds t row (pathOf path) f
+  root-finds w = record { means = rw placed-is (rw (ty, part-whole row) at (w .means)); tells = rw placed-is (rw ty at (w .tells)); lands = w .lands }

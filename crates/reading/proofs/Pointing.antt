@@ -11,7 +11,7 @@ use native.Mathlib.Decide.{decLt}
 use lib.Dec.{eqb}
 use lib.ListN.{length}
 use borrow.Author.Tests.{eqb-true, eqb-false}
-use Rattle.words.specs.Bytes.{Bytes, num, part, bitmap}
+use Rattle.words.specs.Bytes.{Bytes, num, part, bitmap, pad}
 use Rattle.words.specs.Bits.{bit}
 use Rattle.words.proofs.Parts.{length-part, part-part}
 use Rattle.words.proofs.BitLaws.{bit-num}
@@ -80,7 +80,8 @@ slot-codec t = rw (wide-codec t) (slot-opt (wideOf t))
 
 -- ---- where a slot points
 
-module _ (row : List ℕ) (base size f : ℕ) (s : Seat) (P : SlotOf row base size s) (x : ℕ) (e : x ≡ num (part row (s .slot) 8)) (off len : ℕ) (o : off ≡ x / 2 ^ 32) (l : len ≡ x % 2 ^ 32) where
+module _ {row : List ℕ} {base size : ℕ} {s : Seat} (P : SlotOf row base size s) {x : ℕ} (e : x ≡ num (part row (s .slot) 8))
+    {off len : ℕ} (o : off ≡ x / 2 ^ 32) (l : len ≡ x % 2 ^ 32) where
   slot-number : num (part (part row base size) (s .slot - base) 8) ≡ x
   slot-number =
       let j : s .slot - base + 8 ≤ size = omega (arith, P .after, P .before) in
@@ -90,16 +91,16 @@ module _ (row : List ℕ) (base size f : ℕ) (s : Seat) (P : SlotOf row base si
   whole : length (part row base size) ≡ size
   whole = length-part row base size (P .within)
 
-  pub pointed-low : off < f → Points row base size f s (Broken (s .slot))
+  pub pointed-low : {f : ℕ} → off < f → Points row base size f s (Broken (s .slot))
   unfolding childAs bySlot
   pointed-low h = record { means = λ t. rw (slot-number, ← o, ← l) (sym (step-no _ (brokenAt (s .slot)) _ (λ q. omega arith))); lands = tt }
 
-  pub pointed-odd : f ≤ off → (off % 8 ≡ 0 → ⊥) → Points row base size f s (Broken (s .slot))
+  pub pointed-odd : {f : ℕ} → f ≤ off → (off % 8 ≡ 0 → ⊥) → Points row base size f s (Broken (s .slot))
   unfolding childAs bySlot
   pointed-odd h k =
       record { means = λ t. rw (slot-number, ← o, ← l) (sym (step-yes _ (brokenAt (s .slot)) _ h ∙ step-no _ (brokenAt (s .slot)) _ k)); lands = tt }
 
-  pub pointed-long : f ≤ off → off % 8 ≡ 0 → size < off + len → Points row base size f s (Broken (s .slot))
+  pub pointed-long : {f : ℕ} → f ≤ off → off % 8 ≡ 0 → size < off + len → Points row base size f s (Broken (s .slot))
   unfolding childAs bySlot
   pointed-long h k m =
       record {
@@ -108,7 +109,7 @@ module _ (row : List ℕ) (base size f : ℕ) (s : Seat) (P : SlotOf row base si
         lands = tt;
       }
 
-  pub pointed-at : f ≤ off → off % 8 ≡ 0 → off + len ≤ size → Points row base size f s (At s (base + off) len)
+  pub pointed-at : {f : ℕ} → f ≤ off → off % 8 ≡ 0 → off + len ≤ size → Points row base size f s (At s (base + off) len)
   unfolding childAs bySlot
   pointed-at h k m = record {
     means = λ t. rw (slot-number, ← o, ← l, whole, part-part row base size off len m)
@@ -118,7 +119,7 @@ module _ (row : List ℕ) (base size f : ℕ) (s : Seat) (P : SlotOf row base si
 
 -- ---- the bit, and the slot's place
 
-module _ (row : List ℕ) (base size h n w v i : ℕ) (s : IsChild row base size h n w v i) where
+module _ {row : List ℕ} {base size h n w v i : ℕ} (s : IsChild row base size h n w v i) where
   slot-room : h + (bitmap n + i * w) + w ≤ size
   slot-room = omega (arith, s .fixed, mul-le-mul-right {m = suc i} {n = n} w (s .child))
 
@@ -140,7 +141,11 @@ module _ (row : List ℕ) (base size h n w v i : ℕ) (s : IsChild row base size
   abbrev pub seatIn : ℕ → Seat
   seatIn m = record { bits = base + h; number = i; slot = base + (h + (m + i * w)); wide = w }
 
-  module _ (m : ℕ) (q : m ≡ bitmap n) where
+  module _ {m : ℕ} (q : m ≡ bitmap n) where
+    -- the fixed part, as the code adds it
+    pub front-is : {k : ℕ} → k ≡ pad (n * w) → h + m + k ≡ front h w n
+    front-is f = rw (q, f)
+
     pub seated : SeatIn row v (seatIn m)
     seated = record { flag = omega (arith, s .within, s .child, s .fixed); room = omega (arith, s .within, slot-room); wide = s .slot }
 
@@ -156,28 +161,30 @@ module _ (row : List ℕ) (base size h n w v i : ℕ) (s : IsChild row base size
         }
 
     flag-is : Bytes row → (t : Bool) → t ≡ bit row (base + h) i → eqb (num (part (part row base size) h (bitmap n)) / 2 ^ i % 2) 1 ≡ t
-    flag-is b t e = rw (part-part row base size h (bitmap n) (omega (arith, s .fixed))) (bit-num (base + h) (bitmap n) i b (omega (arith, s .child)) ∙ sym e)
+    flag-is b t e = rw (part-part row base size h (bitmap n) (omega (arith, s .fixed)))
+        (bit-num (base + h) (bitmap n) i b (omega (arith, s .child)) ∙ sym e)
 
-    module _ (b : Bytes row) (t : Bool) (e : t ≡ bit row (base + h) i) where
+    module _ (b : Bytes row) {t : Bool} (e : t ≡ bit row (base + h) i) where
       pub null-child : t ≡ true → Comes row base size h n w v i (Null (seatIn m))
       unfolding childAs W.child byFlag
       null-child g =
-          let z : num (part (part row base size) h (bitmap n)) / 2 ^ i % 2 ≡ 1 = eqb-true _ 1 (flag-is b t e ∙ g) in
+          let z : num (part (part row base size) h (bitmap n)) / 2 ^ i % 2 ≡ 1 = eqb-true _ 1 (flag-is b _ e ∙ g) in
           record { means = λ y u. rw (q, z) (sym (step-yes (decLt i n) (numbered 5) _ (s .child))); lands = seated }
 
       module _ (g : t ≡ false) where
         here : num (part (part row base size) h (bitmap n)) / 2 ^ i % 2 ≡ 0
-        here = omega (arith, eqb-false (num (part (part row base size) h (bitmap n)) / 2 ^ i % 2) 1 (flag-is b t e ∙ g))
+        here = omega (arith, eqb-false (num (part (part row base size) h (bitmap n)) / 2 ^ i % 2) 1 (flag-is b _ e ∙ g))
 
-        child-is : (y : Ty) → bySlot (codec y .wide) y (seatOf h w n i base) (front h w n) base (h + (bitmap n + i * w)) (part row base size) ≡ W.child h w n y i base (part row base size)
+        child-is : (y : Ty) → bySlot (codec y .wide) y (seatOf h w n i base) (front h w n) base (h + (bitmap n + i * w)) (part row base size)
+            ≡ W.child h w n y i base (part row base size)
         unfolding W.child byFlag
         child-is y = rw here (sym (step-yes (decLt i n) (numbered 5) _ (s .child)))
 
         wide-is : (y : Ty) (k : ℕ) → wideOf y ≡ k → codec y .wide ≡ wideOpt k
         wide-is y k u = wide-codec y ∙ ap wideOpt u
 
-        pub far-child : v ≡ 0 → (f : ℕ) → f ≡ front h w n → (r : Child) → Points row base size f (seatIn m) r → Comes row base size h n w v i r
-        far-child z f u r k = record {
+        pub far-child : v ≡ 0 → {f : ℕ} → f ≡ front h w n → {r : Child} → Points row base size f (seatIn m) r → Comes row base size h n w v i r
+        far-child z {f} u {r} k = record {
           means = λ y p.
               let j : base + (h + (bitmap n + i * w)) - base ≡ h + (bitmap n + i * w) = omega arith in
               let a : codec y .wide ≡ none = wide-is y 0 (p ∙ z) in
@@ -188,7 +195,8 @@ module _ (row : List ℕ) (base size h n w v i : ℕ) (s : IsChild row base size
             lift : (r : Child) → ChildIn row 0 r → ChildIn row v r
             lift (Broken k) l = tt
             lift (Null x) l = record { flag = l .flag; room = l .room; wide = rw z (l .wide) }
-            lift (At x o c) l = record { within = l .within; sized = inl z; seated = record { flag = l .seated .flag; room = l .seated .room; wide = rw z (l .seated .wide) } }
+            lift (At x o c) l =
+                record { within = l .within; sized = inl z; seated = record { flag = l .seated .flag; room = l .seated .room; wide = rw z (l .seated .wide) } }
 
         near : (v ≡ 0 → ⊥) → wideOpt v ≡ some v
         near z = go v z

@@ -5,30 +5,34 @@ use mathlib.Core.List.{List}
 use Prim.Native.Nat.{ℕ, zero, suc, _+_, _*_, _-_, _%_, _^_, _≤_, _<_}
 use native.Mathlib.Nat.{le-mul-of-pos-right, mul-le-mul-left}
 use native.Mathlib.Omega.{arith}
-use native.Mathlib.Decide.{decLe, ℕ-discrete}
+use native.Mathlib.Decide.{decLe, decLt, ℕ-discrete}
 use lib.Dec.{eqb, leb, ltb}
 use lib.ListN.{length, take, drop, getD}
 use lib.Seq.{take-take}
+use mir.Syntax.{w64}
+use mir.Val.{Fits}
 use borrow.Author.Tests.{le-leb, lt-leb, eq-eqb, ne-eqb, lt-ltb, le-ltb, leb-true}
 use Rattle.words.specs.Bytes.{Bytes, num, part, bitmap, pad}
 use Rattle.words.proofs.Parts.{length-part}
 use Rattle.words.proofs.NumLaws.{part-lt, num-one}
-use Rattle.schema.specs.Marks.{types, line}
+use Rattle.schema.specs.Marks.{types, line, elementWidth}
 use Rattle.schema.specs.Kinds.{pick}
-use Rattle.schema.specs.Types.{Ty, fix, text, li, ma, ro, width, fixedAt, fixedPlace}
-use Rattle.schema.specs.Walk.{Typed, typeAt, Opens, openAt}
-use Rattle.schema.specs.declared.Opened.{Opened}
-use Rattle.schema.specs.declared.Opened.the-variants.{Fixed as OFixed, Text as OText, List as OList, Map as OMap, Struct as OStruct, Nothing as ONothing}
+use Rattle.schema.specs.Types.{bo, i1, i2, i4, i8, f4, f8, st, bi, Ty, fix, text, li, ma, ro, width, fixedAt, fixedPlace, textPlace, place}
 use Rattle.schema.proofs.Table.{width-pos}
-use Rattle.schema.proofs.Typing.{opens, typed-count}
+use Rattle.schema.proofs.Typing.{typed-count}
+use Rattle.schema.proofs.Places.{typed-place}
 use Rattle.layout.specs.Layout.{slotOf, front, limit, codec}
 use Rattle.layout.specs.Refusals.{Refusal, brokenAt}
 use Rattle.layout.specs.Walk.{Seat, Seen, bad, must, own}
+use Rattle.table.specs.Words.{placeIn, countIn}
+use Rattle.table.specs.Tables as S
+use Rattle.table.specs.Tables.{schemaOf, posOf, EntryAt}
 use Rattle.reading.specs.Children.{seatAs, wideOf}
-use Rattle.reading.specs.Places.{openTy, OpenIs, Fields, OpenSmall, wideX, slotWidth, listHolds, mapHolds, structHolds, holdsOf, brokenIn, bySize}
-use Rattle.reading.specs.Places.{brokenX, Row, Leaf, Rests, placeTy, bytesOf}
+use Rattle.reading.specs.Opening.{heldTy}
+use Rattle.reading.specs.Places.{slotWidth, listHolds, mapHolds, structHolds, holdsOf, brokenIn, bySize, Row, Leaf, Rests, placeTy, bytesOf, Breaks}
 use Rattle.reading.specs.declared.Place.{Place}
 use Rattle.reading.proofs.Pointing.{wide-8, slot-codec}
+use Rattle.reading.proofs.Opening.{ty-fixed, ty-text, ty-list, ty-map, ty-struct, fixed-line, leaf-width}
 
 -- ---- the rules
 
@@ -121,99 +125,63 @@ unfolding slotWidth
 slot-most zero h = omega arith
 slot-most (suc v) h = h
 
--- the table's line of a leaf
-fixed-line : (k : ℕ) → k < 7 → line k .width ≡ width (fixedAt k)
-unfolding width fixedAt fixedPlace types
-fixed-line zero h = refl
-fixed-line (suc zero) h = refl
-fixed-line (suc (suc zero)) h = refl
-fixed-line (suc (suc (suc zero))) h = refl
-fixed-line (suc (suc (suc (suc zero)))) h = refl
-fixed-line (suc (suc (suc (suc (suc zero))))) h = refl
-fixed-line (suc (suc (suc (suc (suc (suc zero)))))) h = refl
-fixed-line (suc (suc (suc (suc (suc (suc (suc k))))))) h = absurd (omega arith)
-
 pub fixed-some : (k : ℕ) → k < 7 → 0 < line k .width
 fixed-some k h = omega (arith, fixed-line k h, width-pos (fixedAt k))
 
-pub wide-open : (s : List ℕ) (d : ℕ) (x : Opened) → OpenIs s d x → wideX x ≡ wideOf (openTy s d x)
-unfolding wideOf
-wide-open s d (OFixed k) h = fixed-line k h
-wide-open s d (OText k) h = refl
-wide-open s d (OList c) h = refl
-wide-open s d (OMap k v) h = refl
-wide-open s d (OStruct f n) h = refl
-wide-open s d ONothing h = refl
+pub leaf-some : {row : List ℕ} {k base size : ℕ} → Leaf row k base size → base < length row
+leaf-some {row} {k} l = omega (arith, l .within, l .sized, fixed-some k (l .leaf))
 
-pub open-small : (s : List ℕ) (d : ℕ) (x : Opened) → OpenIs s d x → OpenSmall x
-open-small s d (OFixed k) h = h
-open-small s d (OText k) h = tt
-open-small s d (OList c) h = tt
-open-small s d (OMap k v) h = tt
-open-small s d (OStruct f n) h = tt
-open-small s d ONothing h = tt
+-- an element's bytes, by its type's place in the table of types
+element-place : (y : Ty) → elementWidth (place y) ≡ slotWidth (wideOf y)
+unfolding elementWidth place slotWidth wideOf width fixedPlace textPlace types
+element-place (fix bo) = refl
+element-place (fix i1) = refl
+element-place (fix i2) = refl
+element-place (fix i4) = refl
+element-place (fix i8) = refl
+element-place (fix f4) = refl
+element-place (fix f8) = refl
+element-place (text st) = refl
+element-place (text bi) = refl
+element-place (li y) = refl
+element-place (ma a b) = refl
+element-place (ro ys) = refl
 
--- ---- a type opened
-
-opens-type : (s : List ℕ) (d at : ℕ) (x : Opened) → Opens s at d x → openTy s (d - 1) x ≡ typeAt s at d
-opens-type s d at (OFixed k) o = sym (o .whole)
-opens-type s d at (OText k) o = sym (o .whole)
-opens-type s d at (OList c) o = sym (o .whole)
-opens-type s d at (OMap k v) o = sym (o .whole)
-opens-type s d at (OStruct f n) o = sym (o .whole)
-opens-type s d at ONothing o = absurd o
-
-opens-is : (s : List ℕ) (d at : ℕ) (x : Opened) → Opens s at d x → OpenIs s (d - 1) x
-opens-is s d at (OFixed k) o = o .high
-opens-is s d at (OText k) o = tt
-opens-is s d at (OList c) o = o .element
-opens-is s d at (OMap k v) o = record { keys = o .keys; values = o .values }
-opens-is s d at (OStruct f n) o = record { types = o .fields; low = o .low; high = o .high }
-opens-is s d at ONothing o = o
-
-module _ (s : List ℕ) (at d : ℕ) (h : Typed s at d) (x : Opened) (e : x ≡ openAt s at d) where
-  opened : Opens s at d x
-  opened = rw e (opens s at d h)
-
-  pub open-type : openTy s (d - 1) x ≡ typeAt s at d
-  open-type = opens-type s d at x opened
-
-  pub open-is : OpenIs s (d - 1) x
-  open-is = opens-is s d at x opened
-
-  pub element-wide : (v w : ℕ) → v ≡ wideX x → w ≡ slotWidth v → w ≡ slotWidth (wideOf (typeAt s at d))
-  element-wide v w p q = q ∙ ap slotWidth (p ∙ wide-open s (d - 1) x open-is ∙ ap wideOf open-type)
+pub element-wide : {t : List ℕ} {c w r : ℕ} → S.Stands t c 7 → EntryAt t c 7 w → r ≡ elementWidth (placeIn w) → r ≡ slotWidth (wideOf (heldTy t c))
+element-wide {t} {c} {w} h e q =
+    q ∙ ap elementWidth (e .place ∙ typed-place (schemaOf t) (posOf t c) 7 (h .typed)) ∙ element-place (heldTy t c)
 
 -- ---- the code's tests
 
-pub bool-holds : (row : List ℕ) (k base size x : ℕ) → Leaf row k base size → k ≡ 0 → x ≡ getD row base 0 → ltb x 2 ≡ holdsOf (fix (fixedAt k)) (part row base size)
+pub bool-holds : (k : ℕ) {row : List ℕ} {base size x : ℕ} → Leaf row k base size → k ≡ 0 → x ≡ getD row base 0
+    → ltb x 2 ≡ holdsOf (fix (fixedAt k)) (part row base size)
 unfolding holdsOf fixedAt limit types
-bool-holds row zero base size x l z e =
+bool-holds zero {row} {base} {size} l z e =
     let one : size ≡ 1 = l .sized in
     rw (one, num-one row base (omega (arith, l .within)), e)
-bool-holds row (suc k) base size x l z e = absurd (omega arith)
+bool-holds (suc k) l z e = absurd (omega arith)
 
 number-holds : (row : List ℕ) (base size w : ℕ) → Bytes row → base + size ≤ length row → size ≡ w → true ≡ ltb (num (part row base size)) (256 ^ w)
 number-holds row base size w b h e = sym (lt-ltb _ (256 ^ w) (rw (← e) (part-lt base size b h)))
 
-pub leaf-holds : (row : List ℕ) (k base size : ℕ) → Leaf row k base size → (k ≡ 0 → ⊥) → Bytes row → true ≡ holdsOf (fix (fixedAt k)) (part row base size)
+pub leaf-holds : (k : ℕ) {row : List ℕ} {base size : ℕ} → Leaf row k base size → (k ≡ 0 → ⊥) → Bytes row → true ≡ holdsOf (fix (fixedAt k)) (part row base size)
 unfolding holdsOf fixedAt limit types
-leaf-holds row zero base size l z b = absurd (z refl)
-leaf-holds row (suc zero) base size l z b = number-holds row base size 1 b (l .within) (l .sized)
-leaf-holds row (suc (suc zero)) base size l z b = number-holds row base size 2 b (l .within) (l .sized)
-leaf-holds row (suc (suc (suc zero))) base size l z b = number-holds row base size 4 b (l .within) (l .sized)
-leaf-holds row (suc (suc (suc (suc zero)))) base size l z b = number-holds row base size 8 b (l .within) (l .sized)
-leaf-holds row (suc (suc (suc (suc (suc zero))))) base size l z b = number-holds row base size 4 b (l .within) (l .sized)
-leaf-holds row (suc (suc (suc (suc (suc (suc zero)))))) base size l z b = number-holds row base size 8 b (l .within) (l .sized)
-leaf-holds row (suc (suc (suc (suc (suc (suc (suc k))))))) base size l z b = absurd (omega (arith, l .leaf))
+leaf-holds zero {row} {base} {size} l z b = absurd (z refl)
+leaf-holds (suc zero) {row} {base} {size} l z b = number-holds row base size 1 b (l .within) (l .sized)
+leaf-holds (suc (suc zero)) {row} {base} {size} l z b = number-holds row base size 2 b (l .within) (l .sized)
+leaf-holds (suc (suc (suc zero))) {row} {base} {size} l z b = number-holds row base size 4 b (l .within) (l .sized)
+leaf-holds (suc (suc (suc (suc zero)))) {row} {base} {size} l z b = number-holds row base size 8 b (l .within) (l .sized)
+leaf-holds (suc (suc (suc (suc (suc zero))))) {row} {base} {size} l z b = number-holds row base size 4 b (l .within) (l .sized)
+leaf-holds (suc (suc (suc (suc (suc (suc zero)))))) {row} {base} {size} l z b = number-holds row base size 8 b (l .within) (l .sized)
+leaf-holds (suc (suc (suc (suc (suc (suc (suc k))))))) {row} {base} {size} l z b = absurd (omega (arith, l .leaf))
 
-module _ (row : List ℕ) (base size : ℕ) (R : Row row base size) where
+module _ {row : List ℕ} {base size : ℕ} (R : Row row base size) where
   whole : length (part row base size) ≡ size
   whole = length-part row base size (R .within)
 
   -- a header's number
-  pub header-is : 8 ≤ size → (n : ℕ) → n ≡ num (part row base 8) → num (take 8 (part row base size)) ≡ n
-  header-is h n q = rw (take-take 8 size (drop base row) h) (sym q)
+  pub header-is : 8 ≤ size → {n : ℕ} → n ≡ num (part row base 8) → num (take 8 (part row base size)) ≡ n
+  header-is h q = rw (take-take 8 size (drop base row) h) (sym q)
 
   pub short-list : (w : ℕ) → size < 8 → false ≡ listHolds w (part row base size)
   unfolding listHolds
@@ -223,18 +191,18 @@ module _ (row : List ℕ) (base size : ℕ) (R : Row row base size) where
   unfolding mapHolds
   short-map h = rw (whole, lt-leb 8 size h)
 
-  module _ (h : 8 ≤ size) (n : ℕ) (q : n ≡ num (part row base 8)) where
-    pub long-list : (w : ℕ) → 0 < w → size < n → false ≡ listHolds w (part row base size)
+  module _ (h : 8 ≤ size) {n : ℕ} (q : n ≡ num (part row base 8)) where
+    pub long-list : {w : ℕ} → 0 < w → size < n → false ≡ listHolds w (part row base size)
     unfolding listHolds
-    long-list w s l = rw (whole, le-leb 8 size h, header-is h n q, lt-leb (front 8 w n) size (omega (arith, le-mul-of-pos-right n s)))
+    long-list {w} s l = rw (whole, le-leb 8 size h, header-is h q, lt-leb (front 8 w n) size (omega (arith, le-mul-of-pos-right n s)))
 
-    pub list-test : (w m p : ℕ) → m ≡ bitmap n → p ≡ pad (n * w) → leb (8 + m + p) size ≡ listHolds w (part row base size)
+    pub list-test : (w : ℕ) {m p : ℕ} → m ≡ bitmap n → p ≡ pad (n * w) → leb (8 + m + p) size ≡ listHolds w (part row base size)
     unfolding listHolds
-    list-test w m p e f = rw (whole, le-leb 8 size h, header-is h n q, e, f)
+    list-test w e f = rw (whole, le-leb 8 size h, header-is h q, e, f)
 
     pub odd-map : (n % 8 ≡ 0 → ⊥) → false ≡ mapHolds (part row base size)
     unfolding mapHolds
-    odd-map e = rw (whole, le-leb 8 size h, header-is h n q, ne-eqb (n % 8) 0 e)
+    odd-map e = rw (whole, le-leb 8 size h, header-is h q, ne-eqb (n % 8) 0 e)
 
     leb-move : Dec (8 + n ≤ size) → leb n (size - 8) ≡ leb (8 + n) size
     leb-move (yes p) = rw (le-leb (8 + n) size p, le-leb n (size - 8) (omega arith))
@@ -242,55 +210,73 @@ module _ (row : List ℕ) (base size : ℕ) (R : Row row base size) where
 
     pub map-test : n % 8 ≡ 0 → leb n (size - 8) ≡ mapHolds (part row base size)
     unfolding mapHolds
-    map-test e = rw (whole, le-leb 8 size h, header-is h n q, eq-eqb (n % 8) 0 e) (leb-move (decLe (8 + n) size))
+    map-test e = rw (whole, le-leb 8 size h, header-is h q, eq-eqb (n % 8) 0 e) (leb-move (decLe (8 + n) size))
 
-pub struct-test : (n size m p : ℕ) → m ≡ bitmap n → p ≡ pad (n * 8) → leb (m + p) size ≡ structHolds n size
+pub struct-test : (n size : ℕ) {m p : ℕ} → m ≡ bitmap n → p ≡ pad (n * 8) → leb (m + p) size ≡ structHolds n size
 unfolding structHolds
-struct-test n size m p e f = let z : 0 + bitmap n + pad (n * 8) ≡ m + p = omega arith in rw z
+struct-test n size {m} {p} e f = let z : 0 + bitmap n + pad (n * 8) ≡ m + p = omega arith in rw z
 
--- a product that fits
-pub list-room : (n w size : ℕ) → n ≤ size → size ≤ 16384 → w ≤ 8 → n * w ≤ 131072
-list-room n w size h l k = omega (arith, mul-le-mul-left {m = w} {n = 8} n k)
+-- the sizes of a list's parts fit
+module _ {row : List ℕ} {base size w : ℕ} (R : Row row base size × (0 < w) × (w ≤ 8)) {n : ℕ} (h : n ≤ size) where
+  list-room : n * w ≤ 131072
+  list-room = omega (arith, mul-le-mul-left {m = w} {n = 8} n (R .2), R .0 .within, R .0 .short)
+
+  pub slots-fit : Fits w64 (n * w)
+  slots-fit = omega (arith, list-room)
+
+  pub slots-pad : n * w < 2 ^ 40
+  slots-pad = omega (arith, list-room)
+
+  pub front-fits : {m p : ℕ} → m ≡ bitmap n → p ≡ pad (n * w) → Fits w64 (8 + m + p)
+  front-fits e f = omega (arith, list-room, e, f, h, R .0 .within, R .0 .short)
+
+pub element-fits : (t : Ty) (w : ℕ) → w ≡ slotWidth (wideOf t) → (0 < w) × (w ≤ 8)
+element-fits t w g = (rw g (slot-some (wideOf t)), rw g (slot-most (wideOf t) (wide-8 t)))
 
 -- ---- of a place, by what it is
 
-module _ (s row : List ℕ) (p : Place) (R : Rests s row p) where
-  rest-as : (x : Opened) → p .opened ≡ x → OpenIs s (p .depth) x
-  rest-as x e = rw e at (R .is)
-
-  pub rest-leaf : (k : ℕ) → p .opened ≡ OFixed k → Leaf row k (p .start) (p .len)
-  rest-leaf k e = record { within = R .within; leaf = rest-as (OFixed k) e; sized = rw e at (R .sized) }
+module _ {t row : List ℕ} {p : Place} (R : Rests t row p) where
+  pub rest-leaf : p .opened .kind < 7 → Leaf row (p .opened .kind) (p .start) (p .len)
+  rest-leaf h = record { within = R .within; leaf = h; sized = R .sized h ∙ leaf-width (R .is .kinded) (λ e. omega arith) }
 
   pub rest-row : Row row (p .start) (p .len)
   rest-row = record { within = R .within; short = R .short }
 
-  pub rest-list : (c : ℕ) → p .opened ≡ OList c → Typed s c (p .depth)
-  rest-list c e = rest-as (OList c) e
+  pub rest-list : p .opened .kind ≡ 9 → S.Stands t (p .opened .first) 7
+  rest-list e = record { table = R .is .table; typed = R .is .list e }
 
-  pub rest-struct : (f n : ℕ) → p .opened ≡ OStruct f n → Fields s (p .depth) f n
-  rest-struct f n e = rest-as (OStruct f n) e
+  pub list-fits : (c : ℕ) {w : ℕ} → w ≡ slotWidth (wideOf (heldTy t c)) → Row row (p .start) (p .len) × (0 < w) × (w ≤ 8)
+  list-fits c g = let f = element-fits (heldTy t c) _ g in (rest-row, f .0, f .1)
 
-  pub rest-not : p .opened ≡ ONothing → ⊥
-  rest-not e = rest-as ONothing e
+  pub rest-size : length (bytesOf row p) ≡ p .len
+  rest-size = length-part row (p .start) (p .len) (R .within)
 
-  pub leaf-as : (k : ℕ) → p .opened ≡ OFixed k → (t : Bool) → t ≡ holdsOf (fix (fixedAt k)) (bytesOf row p) → t ≡ holdsOf (placeTy s p) (bytesOf row p)
-  leaf-as k e t u = rw e u
+  pub leaf-as : p .opened .kind < 7 → {b : Bool} → b ≡ holdsOf (fix (fixedAt (p .opened .kind))) (bytesOf row p)
+      → b ≡ holdsOf (placeTy t p) (bytesOf row p)
+  leaf-as h u = rw (ty-fixed t (p .opened) h) u
 
-  pub text-as : (k : ℕ) → p .opened ≡ OText k → true ≡ holdsOf (placeTy s p) (bytesOf row p)
+  pub text-as : 7 ≤ p .opened .kind → p .opened .kind < 9 → true ≡ holdsOf (placeTy t p) (bytesOf row p)
   unfolding holdsOf
-  text-as k e = rw e
+  text-as g h = rw (ty-text t (p .opened) g h)
 
-  pub list-as : (c : ℕ) → p .opened ≡ OList c → (w : ℕ) → w ≡ slotWidth (wideOf (typeAt s c (p .depth))) → (t : Bool) → t ≡ listHolds w (bytesOf row p) → t ≡ holdsOf (placeTy s p) (bytesOf row p)
+  pub list-as : p .opened .kind ≡ 9 → {w : ℕ} → w ≡ slotWidth (wideOf (heldTy t (p .opened .first)))
+      → {b : Bool} → b ≡ listHolds w (bytesOf row p) → b ≡ holdsOf (placeTy t p) (bytesOf row p)
   unfolding holdsOf
-  list-as c e w g t u = rw (e, slot-codec (typeAt s c (p .depth)), ← g) u
+  list-as e g u = rw (ty-list t (p .opened) e, slot-codec (heldTy t (p .opened .first)), ← g) u
 
-  pub map-as : (k v : ℕ) → p .opened ≡ OMap k v → (t : Bool) → t ≡ mapHolds (bytesOf row p) → t ≡ holdsOf (placeTy s p) (bytesOf row p)
+  pub map-as : p .opened .kind ≡ 10 → {b : Bool} → b ≡ mapHolds (bytesOf row p) → b ≡ holdsOf (placeTy t p) (bytesOf row p)
   unfolding holdsOf
-  map-as k v e t u = rw e u
+  map-as e u = rw (ty-map t (p .opened) e) u
 
-  pub struct-as : (f n : ℕ) → p .opened ≡ OStruct f n → (t : Bool) → t ≡ structHolds n (p .len) → t ≡ holdsOf (placeTy s p) (bytesOf row p)
+  pub count-small : p .opened .kind ≡ 11 → {n : ℕ} → n ≡ countIn (p .opened .entry) → n ≤ 128
+  count-small e q = omega (arith, R .is .struct e .high)
+
+  pub struct-as : p .opened .kind ≡ 11 → {n : ℕ} → n ≡ countIn (p .opened .entry)
+      → {b : Bool} → b ≡ structHolds n (p .len) → b ≡ holdsOf (placeTy t p) (bytesOf row p)
   unfolding holdsOf
-  struct-as f n e t u = rw (e, typed-count s f (p .depth) n (rest-struct f n e .types), length-part row (p .start) (p .len) (R .within)) u
+  struct-as e q u =
+      let c = typed-count (schemaOf t) (posOf t (p .opened .first)) 7 (countIn (p .opened .entry)) (R .is .struct e .types) in
+      rw (ty-struct t (p .opened) e, c, rest-size, ← q) u
 
 -- where it is broken, as the code says it
 by-size : (size slot header : ℕ) → bySize size slot header ≡ pick (leb 8 size) header slot
@@ -306,27 +292,27 @@ size-few size slot header h = rw (lt-ltb size 8 h)
 pub size-enough : (size slot header : ℕ) → 8 ≤ size → header ≡ bySize size slot header
 size-enough size slot header h = rw (le-ltb size 8 h)
 
-pub broken-list : (x : Opened) (slot start len c : ℕ) → x ≡ OList c → bySize len slot start ≡ brokenX x slot start len
-broken-list x slot start len c e = rw e
+module _ (p : Place) where
+  pub leaf-breaks : p .opened .kind < 9 → Breaks p (p .start)
+  unfolding brokenIn
+  leaf-breaks h t row R = go (decLt (p .opened .kind) 7)
+    where
+      go : Dec (p .opened .kind < 7) → p .start ≡ brokenIn (placeTy t p) (seatAs (p .seat)) (p .start) (bytesOf row p)
+      go (yes g) = rw (ty-fixed t (p .opened) g)
+      go (no g) = rw (ty-text t (p .opened) (omega arith) h)
 
-pub broken-map : (x : Opened) (slot start len k v : ℕ) → x ≡ OMap k v → bySize len slot start ≡ brokenX x slot start len
-broken-map x slot start len k v e = rw e
+  pub struct-breaks : p .opened .kind ≡ 11 → Breaks p (p .seat .slot)
+  unfolding brokenIn
+  struct-breaks e t row R = rw (ty-struct t (p .opened) e)
 
-pub broken-is : (s row : List ℕ) (p : Place) → Rests s row p
-    → brokenX (p .opened) (p .seat .slot) (p .start) (p .len) ≡ brokenIn (placeTy s p) (seatAs (p .seat)) (p .start) (bytesOf row p)
-unfolding brokenIn
-broken-is s row p R = go (p .opened)
-  where
-    n : length (bytesOf row p) ≡ p .len
-    n = length-part row (p .start) (p .len) (R .within)
+  -- a list, or else a map
+  pub header-breaks : 9 ≤ p .opened .kind → (p .opened .kind ≡ 11 → ⊥) → {q : ℕ} → q ≡ bySize (p .len) (p .seat .slot) (p .start) → Breaks p q
+  unfolding brokenIn
+  header-breaks l n {q} u t row R = go (ℕ-discrete (p .opened .kind) 9)
+    where
+      v : q ≡ pick (leb 8 (length (bytesOf row p))) (p .start) (p .seat .slot)
+      v = u ∙ by-size (p .len) (p .seat .slot) (p .start) ∙ rw (rest-size R)
 
-    go : (x : Opened) → brokenX x (p .seat .slot) (p .start) (p .len) ≡ brokenIn (openTy s (p .depth) x) (seatAs (p .seat)) (p .start) (bytesOf row p)
-    go (OFixed k) = refl
-    go (OText k) = refl
-    go (OList c) = rw n (by-size (p .len) (p .seat .slot) (p .start))
-    go (OMap k v) = rw n (by-size (p .len) (p .seat .slot) (p .start))
-    go (OStruct f m) = refl
-    go ONothing = refl
-
-pub element-fits : (t : Ty) (w : ℕ) → w ≡ slotWidth (wideOf t) → (0 < w) × (w ≤ 8)
-element-fits t w g = (rw g (slot-some (wideOf t)), rw g (slot-most (wideOf t) (wide-8 t)))
+      go : Dec (p .opened .kind ≡ 9) → q ≡ brokenIn (placeTy t p) (seatAs (p .seat)) (p .start) (bytesOf row p)
+      go (yes e) = rw (ty-list t (p .opened) e) v
+      go (no m) = rw (ty-map t (p .opened) (omega (arith, R .is .kinded .few))) v

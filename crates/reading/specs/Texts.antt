@@ -1,46 +1,41 @@
 -- What a place shows as an answer, and a text with its stand-in. Assumes nothing: these are definitions.
 use mathlib.Core.Path.{_≡_}
 use mathlib.Core.List.{List}
-use Prim.Native.Nat.{ℕ, _+_, _≤_}
+use Prim.Native.Nat.{ℕ, _+_, _≤_, _<_}
 use denote.Ref.{RefT, now}
+use lib.Dec.{eqb, ltb}
 use lib.ListN.{length}
 use Rattle.words.specs.Bytes.{num, part}
+use Rattle.schema.specs.Kinds.{pick}
 use Rattle.schema.specs.Types.{fixedAt}
-use Rattle.schema.specs.declared.Opened.{Opened}
-use Rattle.schema.specs.declared.Opened.the-variants.{Fixed as OFixed, Text as OText, List as OList, Map as OMap, Struct as OStruct, Nothing as ONothing}
-use Rattle.layout.specs.Refusals.{brokenAt}
 use Rattle.layout.specs.Reading as R
 use Rattle.layout.specs.Reading.{valueOf}
 use Rattle.layout.specs.Entries.{readOf}
 use Rattle.answers.specs.declared.Answer.{Answer}
 use Rattle.answers.specs.Meaning.{meaning}
+use Rattle.table.specs.Words.{countIn}
 use Rattle.reading.specs.Places.{Leaf}
+use Rattle.reading.specs.declared.Opened.{Opened}
 use Rattle.reading.specs.declared.Place.{Place}
 
--- the bytes that an answer is made of are there: a leaf's by the table, a list's header
-abbrev pub Shaped : List ℕ → Opened → ℕ → ℕ → Type 0
-Shaped row (OFixed k) o n = Leaf row k o n
-Shaped row (OText k) o n = Unit {0}
-Shaped row (OList c) o n = 8 ≤ n
-Shaped row (OMap k v) o n = Unit {0}
-Shaped row (OStruct f m) o n = Unit {0}
-Shaped row ONothing o n = ⊥
+-- a list's header is there
+abbrev pub Counts : List ℕ → Opened → ℕ → Type 0
+Counts row x o = x .kind ≡ 9 → o + 8 ≤ length row
 
+-- how many a container holds: a list's elements, 2 for a map, a struct's fields
+unfoldable pub countOf : List ℕ → Opened → ℕ → ℕ
+countOf row x o = pick (eqb (x .kind) 9) (num (part row o 8)) (pick (eqb (x .kind) 10) 2 (countIn (x .entry)))
+
+-- the bytes that an answer is made of are there: a leaf's by the table, a list's header
 pub record Shows (row : List ℕ) (p : Place) : Type 0 where
-  pub within : p .start + p .len ≤ length row
-  pub shaped : Shaped row (p .opened) (p .start) (p .len)
+  pub leaf : p .opened .kind < 7 → Leaf row (p .opened .kind) (p .start) (p .len)
+  pub counts : Counts row (p .opened) (p .start)
 
 -- a place as an answer
-abbrev pub shown : List ℕ → Opened → ℕ → ℕ → R.Answer
-shown row (OFixed k) o n = valueOf (fixedAt k) (part row o n)
-shown row (OText k) o n = R.bytes o n
-shown row (OList c) o n = R.container o n (num (part row o 8))
-shown row (OMap k v) o n = R.container o n 2
-shown row (OStruct f m) o n = R.container o n m
-shown row ONothing o n = R.refused (brokenAt 0)
-
-abbrev pub showOf : List ℕ → Place → R.Answer
-showOf row p = shown row (p .opened) (p .start) (p .len)
+unfoldable pub showOf : List ℕ → Place → R.Answer
+showOf row p =
+    pick (ltb (p .opened .kind) 7) (valueOf (fixedAt (p .opened .kind)) (part row (p .start) (p .len)))
+    (pick (ltb (p .opened .kind) 9) (R.bytes (p .start) (p .len)) (R.container (p .start) (p .len) (countOf row (p .opened) (p .start))))
 
 -- a byte range lies in the row
 abbrev pub InRow : List ℕ → R.Answer → Type 0

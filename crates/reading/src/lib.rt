@@ -2,20 +2,24 @@
 use answers::Answer;
 use answers::Path;
 use answers::Refusal;
-use schema::Judged;
-use schema::Opened;
-ghost use mathlib.Core.Path.{_≡_};
-ghost use Rattle.layout.specs.Entries.{readOf};
-ghost use Rattle.answers.specs.Meaning.{meaning};
 ghost use Rattle.answers.specs.Paths.{pathOf};
+ghost use Rattle.table.specs.Tables.{Table, schemaOf};
 ghost use Rattle.reading.specs.Finding.{Open, Finds};
-ghost use Rattle.reading.specs.Texts.{Reads, TextOf};
+ghost use Rattle.reading.specs.Texts.{Reads};
 
 pub mod own;
 pub mod slots;
 pub mod steps;
+pub mod types;
 pub mod values;
 pub mod walk;
+
+// A type taken apart: its kind, the place of the first that it holds, and its entry. A map's array is a list, with the map's entry.
+pub struct Opened {
+    pub kind: usize,
+    pub first: usize,
+    pub entry: u64,
+}
 
 // Where a child stands: its container's bitmap starts at the row's byte `bits` and it is child `number`; its slot or element starts at
 // the row's byte `slot` and has `wide` bytes.
@@ -26,10 +30,9 @@ pub struct Seat {
     pub wide: usize,
 }
 
-// A place of the row: its type taken apart, how deep that type's holdings go, its seat, and where its bytes start and how many they are.
+// A place of the row: its type, its seat, and where its bytes start and how many they are.
 pub struct Place {
     pub opened: Opened,
-    pub depth: usize,
     pub seat: Seat,
     pub start: usize,
     pub len: usize,
@@ -42,18 +45,17 @@ pub enum Child {
     At(Seat, usize, usize),
 }
 
-// The type that a step leads to by the schema alone, with the depth of its holdings.
+// The type that a step leads to by the schema alone.
 pub enum Lot {
     Nowhere,
-    Of(Opened, usize),
+    Of(Opened),
 }
 
-// What a step comes to: no such place, a place that breaks the layout, at a byte of the row, a null of a type, or a place whose own
-// rules hold.
+// What a step comes to: no such place, a slot that breaks the layout, at a byte of the row, a null of a type, or a place.
 pub enum Next {
     Nowhere,
     Broken(usize),
-    Null(Opened, usize, Seat),
+    Null(Opened, Seat),
     To(Place),
 }
 
@@ -63,83 +65,56 @@ pub enum Found {
     NoPlace,
     NullBefore,
     Broken(usize),
-    Null(Opened, usize, Seat),
+    Null(Opened, Seat),
     At(Place),
 }
 
-// The place that a path leads to in a row, by an accepted schema: what the schema alone shows comes before the walk.
-pub fn find(s: &[u8], row: &[u8], path: Path) -> Found
-    requires { ⌜ Open (now s) (now row) ⌝ }
-    ensures { λ r. ⌜ Finds (now (s .entry)) (now (row .entry)) (pathOf path) r ⌝ }
+// The place that a path leads to in a row. The root stands in no container, and has all of the row's bytes.
+pub fn find(t: &[u64], row: &[u8], path: Path) -> Found
+    requires { ⌜ Open (now t) (now row) ⌝ }
+    ensures { λ r. ⌜ Finds (now (t .entry)) (now (row .entry)) (pathOf path) r ⌝ }
 {
     let n = path.len;
     if 16 < n {
         return Found::NoPlace;
     }
-    if walk::is_place(s, path) {
-        return walk::from_root(s, row, path);
-    }
-    Found::NoPlace
+    let opened = types::open(t, 0);
+    let seat = Seat {
+        bits: 0,
+        number: 0,
+        slot: 0,
+        wide: 0,
+    };
+    let root = Place {
+        opened,
+        seat,
+        start: 0,
+        len: row.len(),
+    };
+    walk::along(t, row, root, path)
 }
 
 // The answer in a row that is not too long.
-fn look_in(schema: &[u8], row: &[u8], path: Path) -> Answer
-    requires { ⌜ Open (now schema) (now row) ⌝ }
-    ensures { λ r. ⌜ Reads (now (schema .entry)) (now (row .entry)) (pathOf path) r ⌝ }
+fn look_in(t: &[u64], row: &[u8], path: Path) -> Answer
+    requires { ⌜ Open (now t) (now row) ⌝ }
+    ensures { λ r. ⌜ Reads (schemaOf (now (t .entry))) (now (row .entry)) (pathOf path) r ⌝ }
 {
-    match find(schema, row, path) {
+    match find(t, row, path) {
         Found::NoPlace => Answer::Refused(Refusal::NoPlace),
         Found::NullBefore => Answer::Refused(Refusal::NullBefore),
         Found::Broken(place) => Answer::Refused(Refusal::Layout { place }),
-        Found::Null(_, _, _) => Answer::Null,
+        Found::Null(_, _) => Answer::Null,
         Found::At(p) => values::answer(row, p),
     }
 }
 
-// The refusals in their order: the schema, a row that is too long, then those of the place.
-fn look(schema: &[u8], row: &[u8], path: Path) -> Answer
-    ensures { λ r. ⌜ Reads (now (schema .entry)) (now (row .entry)) (pathOf path) r ⌝ }
+// One place of a row, read by its path. A row that is too long is refused before all that its place could be refused for.
+pub fn read(t: &[u64], row: &[u8], path: Path) -> Answer
+    requires { ⌜ Table (now t) ⌝ }
+    ensures { λ r. ⌜ Reads (schemaOf (now (t .entry))) (now (row .entry)) (pathOf path) r ⌝ }
 {
-    match schema::judge(schema) {
-        Judged::Refused => Answer::Refused(Refusal::Schema),
-        Judged::Accepted => {
-            if 16384 < row.len() {
-                return Answer::Refused(Refusal::TooLong);
-            }
-            look_in(schema, row, path)
-        }
+    if 16384 < row.len() {
+        return Answer::Refused(Refusal::TooLong);
     }
-}
-
-// One place of a row, read by its path.
-pub fn read(schema: &[u8], row: &[u8], path: Path) -> Answer
-    ensures { λ r. ⌜ meaning r ≡ readOf (now (schema .entry)) (now (row .entry)) (pathOf path) ⌝ }
-{
-    look(schema, row, path)
-}
-
-// A text with a stand-in: the part of the row itself for a present string or binary, and otherwise, refusals included, the whole
-// stand-in, both under one lifetime.
-pub fn text_or<'a>(schema: &[u8], row: &'a [u8], path: Path, stand_in: &'a [u8]) -> &'a [u8]
-    ensures { λ r. ⌜ TextOf (readOf (now (schema .entry)) (now (row .entry)) (pathOf path)) (row .entry) (stand_in .entry) r ⌝ }
-{
-    match look(schema, row, path) {
-        Answer::Bytes { start, len } => {
-            let end = start + len;
-            &row[start..end]
-        }
-        Answer::Null => stand_in,
-        Answer::Bool(_) => stand_in,
-        Answer::Number(_) => stand_in,
-        Answer::Float32(_) => stand_in,
-        Answer::Float32Nan(_) => stand_in,
-        Answer::Float64(_) => stand_in,
-        Answer::Float64Nan(_) => stand_in,
-        Answer::Container {
-            start: _,
-            len: _,
-            count: _,
-        } => stand_in,
-        Answer::Refused(_) => stand_in,
-    }
+    look_in(t, row, path)
 }

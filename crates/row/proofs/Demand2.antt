@@ -135,7 +135,15 @@ module _ (s : List ℕ) (a : judged s ≡ Accepted) where
           contents = node cs;
           stands = record {
             plain = rw p;
-            body = record { slots = b .slots; values = b .values; order = b .order; children = rw p (b .children); same = b .same; placed = b .placed; whole = rw p (b .whole) };
+            body = record {
+              slots = b .slots;
+              values = b .values;
+              order = b .order;
+              children = rw p (b .children);
+              same = b .same;
+              placed = b .placed;
+              whole = rw p (b .whole);
+            };
           };
           writes = e;
         };
@@ -143,7 +151,8 @@ module _ (s : List ℕ) (a : judged s ≡ Accepted) where
         placed = r .so;
       }
 
-  one-image : (l row row′ : List ℕ) (i : Image s l row) (i′ : Image s l row′) → length row ≤ 16384 → i .contents ≡ i′ .contents → SamePlaces (ro ts) row row′ → row ≡ row′
+  one-image : (l row row′ : List ℕ) (i : Image s l row) (i′ : Image s l row′) → length row ≤ 16384 → i .contents ≡ i′ .contents
+      → SamePlaces (ro ts) row row′ → row ≡ row′
   one-image l row row′ i i′ h e p =
       let y = ordered-lays (i .contents) row (i .stands) in
       let y′ = ordered-lays (i′ .contents) row′ (i′ .stands) in
@@ -175,10 +184,19 @@ module _ (s : List ℕ) (a : judged s ≡ Accepted) where
   has-listing row hb e =
       let k = checked s row a e in
       let z = relisted row hb (k .short) (k .contents) (k .reads) in
-      record { listed = z .listed; image = record { contents = z .contents; stands = lays-ordered (z .contents) row (lays-decode (ro ts) row (z .contents) hb (z .reads)); writes = z .writes ∙ ap some (z .is) } }
+      record {
+        listed = z .listed;
+        image = record {
+          contents = z .contents;
+          stands = lays-ordered (z .contents) row
+              (lays-decode (ro ts) row (z .contents) hb (z .reads));
+          writes = z .writes ∙ ap some (z .is);
+        };
+      }
 
   is-accepted : (row : List ℕ) → length row ≤ 16384 → HasListing s row → checkOf s row ≡ done
-  is-accepted row h x = checks s row (x .image .contents) a h (decode-lays (ro ts) (x .image .contents) row (ordered-lays (x .image .contents) row (x .image .stands)) (omega arith))
+  is-accepted row h x = checks s row (x .image .contents) a h
+      (decode-lays (ro ts) (x .image .contents) row (ordered-lays (x .image .contents) row (x .image .stands)) (omega arith))
 
 -- ---- a place reads as the listing holds it
 
@@ -197,7 +215,8 @@ module _ (row : List ℕ) where
   shows : (t : Ty) (c : Cell) (z : Seat) (o : ℕ) (u : List ℕ) → Lays t c u → length u < 2 ^ 32 → Sits row o u → Shows row t c (answerOf t (seen z o u))
   unfolding answerOf codec number string
   shows (fix f) c z o u y lim st = subst (λ (x : Cell). Shows row (fix f) x (valueOf f u)) (ap leaf (sym (y .is)) ∙ sym (y .fits .plain)) D.number
-  shows (text k) c z o u y lim st = subst (λ (x : Cell). Shows row (text k) x (R.bytes o (length u))) (ap leaf (sym (y .is)) ∙ sym (y .fits .plain)) (D.string o (st .there))
+  shows (text k) c z o u y lim st = subst (λ (x : Cell). Shows row (text k) x (R.bytes o (length u))) (ap leaf (sym (y .is)) ∙ sym (y .fits .plain))
+      (D.string o (st .there))
   shows (li t) c z o u y lim st = rw (list-says t c u y lim .count) (D.list o y (st .there))
   shows (ma k v) c z o u y lim st = D.map o y (st .there)
   shows (ro ts) c z o u y lim st = D.struct o y (st .there)
@@ -210,10 +229,12 @@ module _ (row : List ℕ) where
   finds-reads (i ∷ j ∷ p) u c v t (Walked.under k f) e = D.under k f
   finds-reads (i ∷ p) u c v t (Walked.on {r = r} k f w) e = D.on k f (finds-reads p (childTy u i) (partOf i c) r t w (child-type i p u t e))
 
-  reads-as : (ts : Tys) (c : Cell) → Bytes row → length row ≤ 16384 → decode (ro ts) row ≡ some c → (p : List ℕ) (t : Ty) → placed p (ro ts) ≡ some t → ReadsAs row p (ro ts) c (readIn ts row p)
+  reads-as : (ts : Tys) (c : Cell) → Bytes row → length row ≤ 16384 → decode (ro ts) row ≡ some c → (p : List ℕ) (t : Ty) → placed p (ro ts) ≡ some t
+      → ReadsAs row p (ro ts) c (readIn ts row p)
   unfolding readIn found placed
   reads-as ts c hb h d p t e =
-      let w = walk-finds row p (ro ts) c rootSeat 0 row (lays-decode (ro ts) row c hb d) (omega arith) (record { there = take-length row; room = omega arith }) in
+      let w = walk-finds row p (ro ts) c rootSeat 0 row (lays-decode (ro ts) row c hb d) (omega arith)
+      (record { there = take-length row; room = omega arith }) in
       rw e (finds-reads p (ro ts) c _ t w (assert-after (decLe (length p) 16) _ t e))
 
 pub demand2 : (s : List ℕ) → judged s ≡ Accepted → Demand2 s

@@ -46,6 +46,7 @@ demand3 s row hb e =
       clauses = z;
       set-is = set-same s row a (k .short);
       read-is = read-same s row a (k .short);
-      still-checks = λ p x row′ w q. (let y = z .still p x row′ w (sym (set-same s row a (k .short) p x) ∙ q) in checks s row′ (y .tree) a (y .size) (y .reads));
+      still-checks = λ p x row′ w q. (let y = z .still p x row′ w (sym (set-same s row a (k .short) p x) ∙ q) in
+          checks s row′ (y .tree) a (y .size) (y .reads));
       still-bytes = λ p x row′ w q. z .still p x row′ w (sym (set-same s row a (k .short) p x) ∙ q) .bytes;
     }

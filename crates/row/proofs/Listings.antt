@@ -44,13 +44,15 @@ module _ (s row out : List ℕ) where
         pub list-roomless : length out < r → ListsTo s row out (L.Refused (F.Room r)) out′
         unfolding listedOf
         list-roomless k =
-            let q : leb (length (orEmpty (listingOf s row))) (length out) ≡ false = lt-leb (length (orEmpty (listingOf s row))) (length out) (rw (← (z .need)) k) in
+            let q : leb (length (orEmpty (listingOf s row))) (length out) ≡ false = lt-leb (length (orEmpty (listingOf s row))) (length out)
+            (rw (← (z .need)) k) in
             let n = asked false q in
             record { answers = sym n; leaves = rw n (z .bytes ∙ rw q) }
 
         pub list-done : r ≤ length out → ListsTo s row out (L.Done r) out′
         unfolding listedOf
         list-done k =
-            let q : leb (length (orEmpty (listingOf s row))) (length out) ≡ true = le-leb (length (orEmpty (listingOf s row))) (length out) (rw (← (z .need)) k) in
+            let q : leb (length (orEmpty (listingOf s row))) (length out) ≡ true = le-leb (length (orEmpty (listingOf s row))) (length out)
+            (rw (← (z .need)) k) in
             let n = asked true q in
             record { answers = sym n; leaves = rw n (z .bytes ∙ rw q) }

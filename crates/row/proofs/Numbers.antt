@@ -16,7 +16,8 @@ use Rattle.schema.specs.declared.Judged.{Judged}
 use Rattle.schema.specs.declared.Judged.the-variants.{Accepted, Refused}
 use Rattle.layout.specs.Layout.{slotOf, front, limit, codec}
 use Rattle.layout.specs.Refusals.{Refusal, numbered, brokenAt}
-use Rattle.layout.specs.Walk.{Seat, Seen, bad, nullAt, seen, Step, stop, toNull, into, must, mustStep, own, bySlot, byFlag, seatOf, child, stepIn, goOn, rootSeat, walk}
+use Rattle.layout.specs.Walk.{Seat, Seen, bad, nullAt, seen, Step, stop, toNull, into, must, mustStep, own, bySlot, byFlag, seatOf, child, stepIn, goOn}
+use Rattle.layout.specs.Walk.{rootSeat, walk}
 use Rattle.layout.specs.Reading as R
 use Rattle.layout.specs.Reading.{Answer, valueOf, placed, answerOf, found, readIn}
 use Rattle.layout.specs.Entries.{readOf}
@@ -99,7 +100,8 @@ step-fair (ma k v) (suc zero) z o b = FairStep.present
 step-fair (ma k v) (suc (suc i)) z o b = FairStep.refuses five
 step-fair (ro ts) i z o b = child-fair 0 8 (count ts) (field ts i) i o b
 
-on-fair : (p : List ℕ) (next : Ty → Seat → ℕ → List ℕ → Seen) → ((t : Ty) (z : Seat) (o : ℕ) (b : List ℕ) → Fair (next t z o b)) → (r : Step) → FairStep r → Fair (goOn p next r)
+on-fair : (p : List ℕ) (next : Ty → Seat → ℕ → List ℕ → Seen) → ((t : Ty) (z : Seat) (o : ℕ) (b : List ℕ) → Fair (next t z o b)) → (r : Step) → FairStep r
+    → Fair (goOn p next r)
 unfolding goOn
 on-fair p next f r (FairStep.refuses q) = Fair.refuses q
 on-fair [] next f r FairStep.absent = Fair.absent

@@ -48,16 +48,16 @@ module _ (s : List ℕ) where
     pub row-short : length row ≤ 16384 → rowLong row ≡ none
     row-short h = rw (le-leb (length row) 16384 h)
 
+    pub sound-decodes : faultAt (ro (fieldsOf s)) row ≡ none → isSome (decode (ro (fieldsOf s)) row) ≡ true
+    sound-decodes e = fault-free (codec (ro (fieldsOf s)) .get row) e
+
     -- what the checker answers is where the row is broken
     module _ (r : Checked) (e : checkedMeans r ≡ faultAt (ro (fieldsOf s)) row) where
-      pub fault-none : r ≡ C.Sound → faultAt (ro (fieldsOf s)) row ≡ none
+      fault-none : r ≡ C.Sound → faultAt (ro (fieldsOf s)) row ≡ none
       fault-none q = sym e ∙ ap checkedMeans q
 
-      pub fault-some : (j : ℕ) → r ≡ C.Broken j → faultAt (ro (fieldsOf s)) row ≡ some j
+      fault-some : (j : ℕ) → r ≡ C.Broken j → faultAt (ro (fieldsOf s)) row ≡ some j
       fault-some j q = sym e ∙ ap checkedMeans q
-
-      pub decodes : r ≡ C.Sound → isSome (decode (ro (fieldsOf s)) row) ≡ true
-      decodes q = fault-free (codec (ro (fieldsOf s)) .get row) (fault-none q)
 
     pub check-no : judged s ≡ Refused → refused (numbered 1) ≡ checkOf s row
     unfolding checkOf

@@ -11,11 +11,13 @@ use Rattle.layout.specs.Reader.{assert, cut}
 use Rattle.layout.specs.Faults.{assertAt, cutAt, seenFrom, within, yielded, inRow, faultIn}
 use Rattle.layout.specs.Tiles.{total, both?, either?, change?, aparts?, stands?}
 use Rattle.layout.specs.Cells.{fromCells, toCells, onNull, bytes, parts}
-use Rattle.layout.specs.Layout.{number, string, inside, outside, kidOf, slotOf, kidGet, flags, slots, tails, reads, bodyPut, bodyGet, struct, array, pair, limit, codec}
+use Rattle.layout.specs.Layout.{number, string, inside, outside, kidOf, slotOf, kidGet, flags, slots, tails, reads, bodyPut, bodyGet, struct, array, pair}
+use Rattle.layout.specs.Layout.{limit, codec}
 use Rattle.layout.specs.Listing.{numberScript, textScript, marked, nullOr, item, runPut, runGet, structScript, listScript, mapScript, script, listing, parse}
 use Rattle.layout.specs.Walk.{must, mustStep, own, bySlot, byFlag, child, stepIn, goOn, walk}
 use Rattle.layout.specs.Reading.{typeAt, placed, valueOf, answerOf, found, readIn}
-use Rattle.layout.specs.Setting.{boolBytes, signedBytes, float32Bytes, float64Bytes, inBytes, suits, keepsText, keeps, refusalIn, judgeAt, writeFixed, write, writeAt, outcome, setIn}
+use Rattle.layout.specs.Setting.{boolBytes, signedBytes, float32Bytes, float64Bytes, inBytes, suits, keepsText, keeps, refusalIn, judgeAt, writeFixed}
+use Rattle.layout.specs.Setting.{write, writeAt, outcome, setIn}
 use Rattle.layout.specs.Entries.{checkOf, readOf, setOf, imageOf, writeOf, listingOf, listOf, writtenOf, listedOf}
 use Rattle.row.specs.Table.{Table}
 

@@ -99,7 +99,8 @@ unique = record {
   list = λ s row out r r′ b b′ w w′. record { answer = length-one r r′ (w .answers ∙ sym (w′ .answers)); bytes = w .leaves ∙ sym (w′ .leaves) };
   read = reads;
   set = λ s row p x r r′ b b′ w w′. record {
-    answer = outcomes (1 ∷ 3 ∷ 7 ∷ 5 ∷ 6 ∷ 8 ∷ 9 ∷ []) (setVerdict (setOf s row p x)) refl (set-ends _ (setOf s row p x) (demand1 .set s row p x)) r r′ (w .answers) (w′ .answers);
+    answer = outcomes (1 ∷ 3 ∷ 7 ∷ 5 ∷ 6 ∷ 8 ∷ 9 ∷ []) (setVerdict (setOf s row p x)) refl (set-ends _ (setOf s row p x) (demand1 .set s row p x)) r r′
+        (w .answers) (w′ .answers);
     bytes = w .after ∙ sym (w′ .after);
   };
   text-or = λ s p row other. texts (readOf s (now row) p) row other;

@@ -62,7 +62,8 @@ pub record WriteThenList (s l row : List ℕ) : Type 0 where
 pub data Shows (row : List ℕ) : Ty → Cell → Answer → Type 0 where
   number : {f : Fixed} {u : List ℕ} → Shows row (fix f) (leaf u) (valueOf f u)
   string : {k : Text} {u : List ℕ} (o : ℕ) → part row o (length u) ≡ u → Shows row (text k) (leaf u) (R.bytes o (length u))
-  list : {t : Ty} {c : Cell} {u : List ℕ} (o : ℕ) → Lays (li t) c u → part row o (length u) ≡ u → Shows row (li t) c (R.container o (length u) (length (parts c)))
+  list : {t : Ty} {c : Cell} {u : List ℕ} (o : ℕ) → Lays (li t) c u → part row o (length u) ≡ u
+      → Shows row (li t) c (R.container o (length u) (length (parts c)))
   map : {k v : Ty} {c : Cell} {u : List ℕ} (o : ℕ) → Lays (ma k v) c u → part row o (length u) ≡ u → Shows row (ma k v) c (R.container o (length u) 2)
   struct : {ts : Tys} {c : Cell} {u : List ℕ} (o : ℕ) → Lays (ro ts) c u → part row o (length u) ≡ u → Shows row (ro ts) c (R.container o (length u) (count ts))
 
@@ -72,7 +73,8 @@ pub data ReadsAs (row : List ℕ) : List ℕ → Ty → Cell → Answer → Type
   nowhere : {i : ℕ} {p : List ℕ} {t : Ty} {c : Cell} → length (parts c) ≤ i → ReadsAs row (i ∷ p) t c (R.refused (numbered 5))
   null : {i : ℕ} {t : Ty} {c : Cell} → i < length (parts c) → flag (partOf i c) ≡ 1 → ReadsAs row (i ∷ []) t c R.null
   under : {i j : ℕ} {p : List ℕ} {t : Ty} {c : Cell} → i < length (parts c) → flag (partOf i c) ≡ 1 → ReadsAs row (i ∷ j ∷ p) t c (R.refused (numbered 6))
-  on : {i : ℕ} {p : List ℕ} {t : Ty} {c : Cell} {a : Answer} → i < length (parts c) → flag (partOf i c) ≡ 0 → ReadsAs row p (childTy t i) (partOf i c) a → ReadsAs row (i ∷ p) t c a
+  on : {i : ℕ} {p : List ℕ} {t : Ty} {c : Cell} {a : Answer} → i < length (parts c) → flag (partOf i c) ≡ 0 → ReadsAs row p (childTy t i) (partOf i c) a
+      → ReadsAs row (i ∷ p) t c a
 
 pub record Demand2 (s : List ℕ) : Type 0 where
   -- a row within the limit is accepted exactly when some listing has it as an image, bytes under nulls apart
@@ -89,5 +91,6 @@ pub record Demand2 (s : List ℕ) : Type 0 where
   -- where a write is accepted, write then list gives the listing again
   pub write-list : (l row : List ℕ) → Bytes l → imageOf s l ≡ some row → length row ≤ 16384 → WriteThenList s l row
   -- a place that the schema has reads as the listing holds it
-  pub reads : (row : List ℕ) (c : Cell) → Bytes row → length row ≤ 16384 → decode (ro (fieldsOf s)) row ≡ some c → (p : List ℕ) (t : Ty) → placed p (ro (fieldsOf s)) ≡ some t
+  pub reads : (row : List ℕ) (c : Cell) → Bytes row → length row ≤ 16384 → decode (ro (fieldsOf s)) row ≡ some c → (p : List ℕ) (t : Ty)
+      → placed p (ro (fieldsOf s)) ≡ some t
       → ReadsAs row p (ro (fieldsOf s)) c (readIn (fieldsOf s) row p)

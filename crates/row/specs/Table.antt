@@ -159,7 +159,8 @@ pub record Table : Type 0 where
   pub c : Stands string (ro (st (in4 3 ++ STK))) C
   pub d : Stands string (ro (st (in4 0))) D × (length D ≡ 16)
   pub e : Stands bytelist (ro (li (in4 10 ++ times 10 (i1 (7 ∷ []))))) E × (length E ≡ 48) × (part E 8 4 ≡ in4 32)
-  pub f : Stands map (ro (ma (in4 3 ++ i8 (in8 1) ++ i8 (in8 2) ++ i8 (in8 3) ++ i8 (in8 4) ++ i8 (in8 5) ++ i8 (in8 6)))) F × (length F ≡ 104) × (part F 8 4 ≡ in4 88) × (part F 16 8 ≡ in8 40)
+  pub f : Stands map (ro (ma (in4 3 ++ i8 (in8 1) ++ i8 (in8 2) ++ i8 (in8 3) ++ i8 (in8 4) ++ i8 (in8 5) ++ i8 (in8 6)))) F × (length F ≡ 104) ×
+      (part F 8 4 ≡ in4 88) × (part F 16 8 ≡ in8 40)
   pub g : Stands nested (ro (ro (i8 (in8 9) ++ f8 one))) G × (length G ≡ 40)
   -- the second offset, at byte 20, changed from 32 to 24
   pub h : Stands strings (ro (st (in4 3 ++ STK) ++ st (in4 3 ++ PWR))) STK-PWR × (checkOf strings (set STK-PWR 20 24) ≡ refused (brokenAt 16))

@@ -33,6 +33,8 @@ pub record Unique : Type 0 where
   pub list : (s row out : List ℕ) (r r′ : Length) (b b′ : List ℕ) → ListsTo s row out r b → ListsTo s row out r′ b′ → Same r r′ b b′
   -- and so does `ask`, whose statement is the same
   pub read : (s row p : List ℕ) (r r′ : Answer) → meaning r ≡ readOf s row p → meaning r′ ≡ readOf s row p → r ≡ r′
-  pub set : (s row p : List ℕ) (x : Setting) (r r′ : Outcome) (b b′ : List ℕ) → SetAs (setOf s row p x) row b r → SetAs (setOf s row p x) row b′ r′ → Same r r′ b b′
-  pub text-or : (s p : List ℕ) (row other r r′ : RefT (List ℕ)) → TextOf (readOf s (now row) p) row other r → TextOf (readOf s (now row) p) row other r′ → SamePlace r r′
+  pub set : (s row p : List ℕ) (x : Setting) (r r′ : Outcome) (b b′ : List ℕ) → SetAs (setOf s row p x) row b r → SetAs (setOf s row p x) row b′ r′
+      → Same r r′ b b′
+  pub text-or : (s p : List ℕ) (row other r r′ : RefT (List ℕ)) → TextOf (readOf s (now row) p) row other r → TextOf (readOf s (now row) p) row other r′
+      → SamePlace r r′
   pub opened : (schema row : RefT (List ℕ)) (r r′ : Opened) → (r .schema ≡ schema) × (r .row ≡ row) → (r′ .schema ≡ schema) × (r′ .row ≡ row) → r ≡ r′

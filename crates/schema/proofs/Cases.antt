@@ -4,15 +4,20 @@ use mathlib.Core.List.{List, [], _∷_, _++_}
 use Prim.Native.Nat.{ℕ, zero, suc}
 use lib.ListN.{length}
 use Rattle.schema.specs.Marks.{types, markAt}
-use Rattle.schema.specs.Types.{fix, text, li, ma, ro, end, _then_, bo, i1, i4, i8, st, bi, count, fixedPlace, textPlace, fixedAt, textAt, place, mark}
+use Rattle.schema.specs.Types.{fix, text, li, ma, ro, end, _then_, bo, i1, i2, i4, i8, f4, f8, st, bi, count}
+use Rattle.schema.specs.Types.{fixedPlace, textPlace, fixedAt, textAt, place, width, mark}
 use Rattle.schema.specs.House.{schema, depth}
 use Rattle.schema.specs.Kinds.{find, placeOf, kindOf, placed, headKind}
 use Rattle.schema.specs.Reading.{parse, parseAll, parseRo, parseKind, after, root, judged}
 use Rattle.schema.specs.Walk.{typeAt, fieldsOf}
 use Rattle.schema.specs.declared.Judged.the-variants.{Accepted, Refused}
 
+lays : Unit {0}
+unfolding types markAt count fixedPlace textPlace fixedAt textAt place width mark schema depth
+lays = tt
+
 computes : Unit {0}
-unfolding types markAt count fixedPlace textPlace fixedAt textAt place mark schema depth find placeOf kindOf placed headKind parse parseAll parseRo parseKind judged typeAt fieldsOf
+unfolding lays find placeOf kindOf placed headKind parse parseAll parseRo parseKind judged typeAt fieldsOf
 computes = tt
 
 times : ℕ → List ℕ → List ℕ
@@ -35,10 +40,23 @@ a-fields : fieldsOf a ≡ fix i4 then fix i8 then end
 unfolding computes a
 a-fields = refl
 
--- each kind of type: ro 3, ma st li bi, bo, i1
-kinds : schema (ro (ma (text st) (li (text bi)) then fix bo then fix i1 then end)) ≡ 114 ∷ 111 ∷ 3 ∷ 109 ∷ 97 ∷ 115 ∷ 116 ∷ 108 ∷ 105 ∷ 98 ∷ 105 ∷ 98 ∷ 111 ∷ 105 ∷ 49 ∷ []
+-- each type by its letters: ro 10, ma st li bi, bo, i1, i2, i4, i8, f4, f8, st, bi
+letters : schema (ro (ma (text st) (li (text bi)) then fix bo then fix i1 then fix i2 then fix i4 then fix i8 then fix f4 then fix f8 then text st
+    then text bi then end))
+    ≡ 114 ∷ 111 ∷ 10 ∷ 109 ∷ 97 ∷ 115 ∷ 116 ∷ 108 ∷ 105 ∷ 98 ∷ 105 ∷ 98 ∷ 111 ∷ 105 ∷ 49 ∷ 105 ∷ 50 ∷ 105 ∷ 52 ∷ 105 ∷ 56 ∷ 102 ∷ 52 ∷ 102 ∷ 56
+    ∷ 115 ∷ 116 ∷ 98 ∷ 105 ∷ []
 unfolding computes
-kinds = refl
+letters = refl
+
+letters-taken : judged (schema (ro (ma (text st) (li (text bi)) then fix bo then fix i1 then fix i2 then fix i4 then fix i8 then fix f4 then fix f8
+    then text st then text bi then end))) ≡ Accepted
+unfolding computes
+letters-taken = refl
+
+-- and its bytes in a row
+bytes : width bo ∷ width i1 ∷ width i2 ∷ width i4 ∷ width i8 ∷ width f4 ∷ width f8 ∷ [] ≡ 1 ∷ 1 ∷ 2 ∷ 4 ∷ 8 ∷ 4 ∷ 8 ∷ []
+unfolding computes
+bytes = refl
 
 -- field counts 0, 128, 129
 no-fields : judged (114 ∷ 111 ∷ 0 ∷ []) ≡ Refused

@@ -5,16 +5,13 @@ use mathlib.Core.List.{List, [], _∷_, _++_, append-nil}
 use Prim.Native.Nat.{ℕ, _+_, _<_, _≤_}
 use native.Mathlib.Omega.{arith}
 use borrow.Author.Tests.{le-leb, lt-leb, leb-true}
-use lib.Dec.{T, leb}
+use lib.Dec.{leb}
 use lib.ListN.{length, length-append}
 use Rattle.schema.specs.Types.{Ty, fix, text, li, ma, ro, Tys, count}
 use Rattle.schema.specs.House.{schema, depth, Right, Schema}
-use Rattle.schema.specs.Kinds.{pick, kindAt, headKind, isStruct, kindTy}
+use Rattle.schema.specs.Kinds.{pick, kindAt, headKind, kindTy, structKind}
 use Rattle.schema.specs.Reading.{Parsed, none, some, after, parse, root, judged}
-use Rattle.schema.specs.Walk.{size, Typed, typeAt, skipAt, fieldsOf}
-use Rattle.schema.specs.declared.Kind.the-variants.{Struct as StructK}
-use Rattle.schema.specs.declared.Reach.{Reach}
-use Rattle.schema.specs.declared.Reach.the-variants.{To, Stop}
+use Rattle.schema.specs.Walk.{size, Typed, typeAt, fieldsOf}
 use Rattle.schema.specs.declared.Judged.{Judged}
 use Rattle.schema.specs.declared.Judged.the-variants.{Accepted, Refused}
 use Rattle.schema.proofs.Parse.{Sound, sound, complete, schema-kind}
@@ -22,71 +19,55 @@ use Rattle.schema.proofs.Parse.{Sound, sound, complete, schema-kind}
 abbrev result : Parsed → Judged
 result x = after x Refused root
 
--- a list that reads as a struct begins as one, and so with what is no struct
+-- what a list begins with is the type that it reads as
 head-is : (s : List ℕ) (X : Ty) (r : List ℕ) → Sound 8 s (some X r) → kindAt s 0 ≡ kindTy X
 unfolding kindAt
 head-is s X r h = ap headKind (h .form) ∙ schema-kind X r
 
-other : (s : List ℕ) → isStruct (kindAt s 0) ≡ false → (x : Parsed) → Sound 8 s x → result x ≡ Refused
-other s e none h = refl
-other s e (some (fix f) r) h = refl
-other s e (some (text t) r) h = refl
-other s e (some (li X) r) h = refl
-other s e (some (ma K U) r) h = refl
-other s e (some (ro ts) r) h = let p : isStruct (kindAt s 0) ≡ true = ap isStruct (head-is s (ro ts) r h) in let z : _≡_ {A = Bool} true false = cc in absurd (subst T z tt)
+other : (s : List ℕ) → (kindAt s 0 ≡ structKind → ⊥) → (x : Parsed) → Sound 8 s x → result x ≡ Refused
+other s n none h = refl
+other s n (some (fix f) r) h = refl
+other s n (some (text t) r) h = refl
+other s n (some (li X) r) h = refl
+other s n (some (ma K U) r) h = refl
+other s n (some (ro ts) r) h = absurd (n (head-is s (ro ts) r h))
 
-abbrev reached : Parsed → Reach
-reached x = after x Stop (λ X r. To (0 + size X))
-
-stopped : (x : Parsed) → reached x ≡ Stop → result x ≡ Refused
-stopped none e = refl
-stopped (some X r) e = let z : _≡_ {A = ℕ} 0 1 = cc in absurd (omega arith)
-
-module _ (s : List ℕ) (e : ℕ) where
-  to-rest : (X : Ty) (r : List ℕ) → Sound 8 s (some X r) → reached (some X r) ≡ To e → length s ≡ e + length r
-  unfolding size
-  to-rest X r h p = let q : 0 + size X ≡ e = cc in omega (arith, ap length (h .form), length-append (schema X) r)
-
-  beyond : (e ≡ length s → ⊥) → (x : Parsed) → Sound 8 s x → reached x ≡ To e → result x ≡ Refused
-  beyond n none h p = refl
-  beyond n (some (fix f) r) h p = refl
-  beyond n (some (text t) r) h p = refl
-  beyond n (some (li X) r) h p = refl
-  beyond n (some (ma K U) r) h p = refl
-  beyond n (some (ro ts) []) h p = absurd (n (omega (arith, to-rest (ro ts) [] h p)))
-  beyond n (some (ro ts) (y ∷ r)) h p = refl
-
-  whole : e ≡ length s → isStruct (kindAt s 0) ≡ true → (x : Parsed) → Sound 8 s x → reached x ≡ To e → result x ≡ Accepted
-  whole n k none h p = let z : _≡_ {A = ℕ} 0 1 = cc in absurd (omega arith)
-  whole n k (some (fix f) r) h p = absurd (subst T (sym (sym (ap isStruct (head-is s (fix f) r h)) ∙ k)) tt)
-  whole n k (some (text t) r) h p = absurd (subst T (sym (sym (ap isStruct (head-is s (text t) r h)) ∙ k)) tt)
-  whole n k (some (li X) r) h p = absurd (subst T (sym (sym (ap isStruct (head-is s (li X) r h)) ∙ k)) tt)
-  whole n k (some (ma K U) r) h p = absurd (subst T (sym (sym (ap isStruct (head-is s (ma K U) r h)) ∙ k)) tt)
-  whole n k (some (ro ts) []) h p = refl
-  whole n k (some (ro ts) (y ∷ r)) h p = absurd (omega (arith, to-rest (ro ts) (y ∷ r) h p))
-
--- the laws that the judge cites
+-- the laws that the builder of a table cites
 module _ (s : List ℕ) where
   pub judged-long : 1024 < length s → judged s ≡ Refused
   unfolding judged
   judged-long h = rw (lt-leb _ _ h)
 
   module _ (h : length s ≤ 1024) where
-    pub judged-other : isStruct (kindAt s 0) ≡ false → judged s ≡ Refused
+    pub judged-other : (kindAt s 0 ≡ structKind → ⊥) → judged s ≡ Refused
     unfolding judged
-    judged-other e = rw (le-leb _ _ h) (other s e (parse 8 s) (sound 8 s))
+    judged-other n = rw (le-leb _ _ h) (other s n (parse 8 s) (sound 8 s))
 
-    pub judged-stop : skipAt s 0 8 ≡ Stop → judged s ≡ Refused
-    unfolding judged skipAt
-    judged-stop e = rw (le-leb _ _ h) (stopped (parse 8 s) e)
+    pub judged-none : parse 8 s ≡ none → judged s ≡ Refused
+    unfolding judged
+    judged-none e = rw (le-leb _ _ h, e)
 
-    pub judged-beyond : (e : ℕ) → skipAt s 0 8 ≡ To e → (e ≡ length s → ⊥) → judged s ≡ Refused
-    unfolding judged skipAt
-    judged-beyond e p n = rw (le-leb _ _ h) (beyond s e n (parse 8 s) (sound 8 s) p)
+    -- a struct is read
+    module _ {ts : Tys} {r : List ℕ} (e : parse 8 s ≡ some (ro ts) r) where
+      lengths : length s ≡ size (ro ts) + length r
+      unfolding size
+      lengths = ap length (subst (Sound 8 s) e (sound 8 s) .form) ∙ length-append (schema (ro ts)) r
 
-    pub judged-whole : (e : ℕ) → skipAt s 0 8 ≡ To e → e ≡ length s → isStruct (kindAt s 0) ≡ true → judged s ≡ Accepted
-    unfolding judged skipAt
-    judged-whole e p n k = rw (le-leb _ _ h) (whole s e n k (parse 8 s) (sound 8 s) p)
+      pub judged-beyond : (size (ro ts) ≡ length s → ⊥) → judged s ≡ Refused
+      unfolding judged
+      judged-beyond n = rw (le-leb _ _ h, e) (go r lengths)
+        where
+          go : (r : List ℕ) → length s ≡ size (ro ts) + length r → root (ro ts) r ≡ Refused
+          go [] l = absurd (n (omega arith))
+          go (y ∷ r) l = refl
+
+      pub judged-whole : size (ro ts) ≡ length s → judged s ≡ Accepted
+      unfolding judged
+      judged-whole n = rw (le-leb _ _ h, e) (go r lengths)
+        where
+          go : (r : List ℕ) → length s ≡ size (ro ts) + length r → root (ro ts) r ≡ Accepted
+          go [] l = refl
+          go (y ∷ r) l = absurd (omega arith)
 
 -- accepted exactly where document 01 says so
 from : (s : List ℕ) → length s ≤ 1024 → (x : Parsed) → Sound 8 s x → result x ≡ Accepted → Schema s
@@ -129,7 +110,7 @@ schema-one X Y h k e =
 -- what an accepted schema is: a struct of 1 to 128 fields at its start
 pub record Root (s : List ℕ) : Type 0 where
   pub typed : Typed s 0 8
-  pub kind : kindAt s 0 ≡ StructK
+  pub kind : kindAt s 0 ≡ structKind
   pub whole : typeAt s 0 8 ≡ ro (fieldsOf s)
   pub form : s ≡ schema (ro (fieldsOf s))
   pub right : Right (ro (fieldsOf s))

@@ -7,4 +7,3 @@ pub mod Typing
 pub mod Judging
 pub mod Cases
 pub mod Places
-pub mod Leaves

@@ -3,25 +3,24 @@ use mathlib.Core.Path.{_≡_, refl, ap, sym, _∙_, subst}
 use mathlib.Core.Bool.{Bool, true, false}
 use mathlib.Core.List.{List, [], _∷_, _++_}
 use Prim.Native.Nat.{ℕ, _+_, _-_, _<_, _≤_}
+use native.Mathlib.Decide.{decLt}
 use native.Mathlib.Omega.{arith}
 use borrow.Author.Tests.{ltb-true, ltb-false}
-use lib.Dec.{ltb, lit<, lit≤}
+use lib.Dec.{ltb}
 use lib.ListN.{drop}
 use Rattle.schema.specs.Marks.{types, line, markAt}
-use Rattle.schema.specs.Kinds.{find, placed, kindOf, placeOf, headKind}
-use Rattle.schema.specs.declared.Kind.{Kind}
-use Rattle.schema.specs.declared.Kind.the-variants.{Fixed as FixedK, Text as TextK, List as ListK, Map as MapK, Struct as StructK, Nothing}
-use Rattle.schema.proofs.Table.{each}
+use Rattle.schema.specs.Kinds.{find, placed, kindOf, placeOf, headKind, Kind, fixedKind, textKind, listKind, mapKind, structKind, noKind}
+use Rattle.schema.proofs.Table.{each, agree}
 use Rattle.schema.proofs.Search.{place-marks, placed-out}
 
 -- the place of a kind
 abbrev pub placeOfKind : Kind → ℕ
-placeOfKind (FixedK k) = k
-placeOfKind (TextK k) = k
-placeOfKind ListK = 9
-placeOfKind MapK = 10
-placeOfKind StructK = 11
-placeOfKind Nothing = 12
+placeOfKind (fixedKind k) = k
+placeOfKind (textKind k) = k
+placeOfKind listKind = 9
+placeOfKind mapKind = 10
+placeOfKind structKind = 11
+placeOfKind noKind = 12
 
 -- a text's place is 7 or 8
 pub record TextPlace (k : ℕ) : Type 0 where
@@ -30,36 +29,56 @@ pub record TextPlace (k : ℕ) : Type 0 where
 
 -- a kind that stands in the table, its leaves at their places
 abbrev pub Small : Kind → Type 0
-Small (FixedK k) = k < 7
-Small (TextK k) = TextPlace k
-Small ListK = Unit {0}
-Small MapK = Unit {0}
-Small StructK = Unit {0}
-Small Nothing = ⊥
+Small (fixedKind k) = k < 7
+Small (textKind k) = TextPlace k
+Small listKind = Unit {0}
+Small mapKind = Unit {0}
+Small structKind = Unit {0}
+Small noKind = ⊥
 
-place-kind : (k : ℕ) → k < 12 → placeOfKind (placed k) ≡ k
+pub place-kind : (k : ℕ) → k < 12 → placeOfKind (placed k) ≡ k
 unfolding placed types kindOf
-place-kind = each (λ k. placeOfKind (placed k) ≡ k) 12 (refl, (refl, (refl, (refl, (refl, (refl, (refl, (refl, (refl, (refl, (refl, (refl, tt))))))))))))
+place-kind = agree (λ k. placeOfKind (placed k)) (λ k. k) 12 refl
 
-text-place : (k : ℕ) → 7 ≤ k → k < 9 → TextPlace k
-text-place k l h = record { low = l; high = h }
+pub fixed-placed : (k : ℕ) → k < 7 → placed k ≡ fixedKind k
+unfolding placed types kindOf
+fixed-placed = agree placed fixedKind 7 refl
+
+text-from : (j : ℕ) → j < 2 → placed (7 + j) ≡ textKind (7 + j)
+unfolding placed types kindOf
+text-from = agree (λ j. placed (7 + j)) (λ j. textKind (7 + j)) 2 refl
+
+pub text-placed : (k : ℕ) → 7 ≤ k → k < 9 → placed k ≡ textKind k
+text-placed k l h =
+    let e : 7 + (k - 7) ≡ k = omega arith in
+    subst (λ (n : ℕ). placed n ≡ textKind n) e (text-from (k - 7) (omega arith))
+
+holder-kind : (j : ℕ) → j < 3 → Small (placed (9 + j))
+unfolding placed types kindOf
+holder-kind = each (λ j. Small (placed (9 + j))) 3 (tt, (tt, (tt, tt)))
 
 small-kind : (k : ℕ) → k < 12 → Small (placed k)
-unfolding placed types kindOf
-small-kind = each (λ k. Small (placed k)) 12 (lit< tt, (lit< tt, (lit< tt, (lit< tt, (lit< tt, (lit< tt, (lit< tt, (text-place 7 (lit≤ tt) (lit< tt), (text-place 8 (lit≤ tt) (lit< tt), (tt, (tt, (tt, tt))))))))))))
+small-kind k h = go (decLt k 7) (decLt k 9)
+  where
+    go : Dec (k < 7) → Dec (k < 9) → Small (placed k)
+    go (yes p) q = subst Small (sym (fixed-placed k p)) p
+    go (no p) (yes q) = subst Small (sym (text-placed k (omega arith) q)) (record { low = omega arith; high = q })
+    go (no p) (no q) =
+        let e : 9 + (k - 9) ≡ k = omega arith in
+        subst (λ (n : ℕ). Small (placed n)) e (holder-kind (k - 9) (omega arith))
 
 -- the kind of a mark's list is that of its place
 pub mark-kind : (r : List ℕ) (k : ℕ) → k < 12 → headKind (markAt k ++ r) ≡ placed k
 unfolding headKind markAt types find placeOf
-mark-kind r = each (λ k. headKind (markAt k ++ r) ≡ placed k) 12 (refl, (refl, (refl, (refl, (refl, (refl, (refl, (refl, (refl, (refl, (refl, (refl, tt))))))))))))
+mark-kind r = agree (λ k. headKind (markAt k ++ r)) placed 12 refl
 
 abbrev pub Real : Kind → Type 0
-Real (FixedK k) = Unit {0}
-Real (TextK k) = Unit {0}
-Real ListK = Unit {0}
-Real MapK = Unit {0}
-Real StructK = Unit {0}
-Real Nothing = ⊥
+Real (fixedKind k) = Unit {0}
+Real (textKind k) = Unit {0}
+Real listKind = Unit {0}
+Real mapKind = Unit {0}
+Real structKind = Unit {0}
+Real noKind = ⊥
 
 -- what a list that has a kind begins with
 pub record Headed (s : List ℕ) (κ : Kind) : Type 0 where
@@ -83,18 +102,9 @@ headed (a ∷ b ∷ r) κ e h = go (ltb (placeOf a b) 12) refl
     go : (t : Bool) → ltb (placeOf a b) 12 ≡ t → Headed (a ∷ b ∷ r) κ
     go true p =
         let l = ltb-true _ _ p in
-        record { begins = two a b (placeOfKind κ) r (sym (place-kind _ l) ∙ ap placeOfKind e) (rw (← e, place-kind _ l) l); small = subst Small e (small-kind _ l) }
+        record {
+          begins = two a b (placeOfKind κ) r (sym (place-kind _ l) ∙ ap placeOfKind e) (rw (← e, place-kind _ l) l);
+          small = subst Small e
+              (small-kind _ l);
+        }
     go false p = absurd (subst Real (sym e ∙ placed-out _ (ltb-false _ _ p)) h)
-
-pub fixed-placed : (k : ℕ) → k < 7 → placed k ≡ FixedK k
-unfolding placed types kindOf
-fixed-placed = each (λ k. placed k ≡ FixedK k) 7 (refl, (refl, (refl, (refl, (refl, (refl, (refl, tt)))))))
-
-text-from : (j : ℕ) → j < 2 → placed (7 + j) ≡ TextK (7 + j)
-unfolding placed types kindOf
-text-from = each (λ j. placed (7 + j) ≡ TextK (7 + j)) 2 (refl, (refl, tt))
-
-pub text-placed : (k : ℕ) → 7 ≤ k → k < 9 → placed k ≡ TextK k
-text-placed k l h =
-    let e : 7 + (k - 7) ≡ k = omega arith in
-    subst (λ (n : ℕ). placed n ≡ TextK n) e (text-from (k - 7) (omega arith))

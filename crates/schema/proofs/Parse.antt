@@ -10,10 +10,8 @@ use lib.ListN.{drop, getD}
 use Rattle.schema.specs.Marks.{types, markAt}
 use Rattle.schema.specs.Types.{Ty, fix, text, li, ma, ro, Tys, end, _then_, count, fixedPlace, textPlace, fixedAt, textAt, place, mark}
 use Rattle.schema.specs.House.{schema, schemas, depth, depths, Right, Rights}
-use Rattle.schema.specs.Kinds.{pick, placed, kindOf, headKind, kindTy}
+use Rattle.schema.specs.Kinds.{pick, placed, kindOf, headKind, kindTy, Kind, fixedKind, textKind, listKind, mapKind, structKind, noKind}
 use Rattle.schema.specs.Reading.{Parsed, none, some, ParsedAll, nones, somes, after, afters, parse, parseAll, parseRo, parseKind}
-use Rattle.schema.specs.declared.Kind.{Kind}
-use Rattle.schema.specs.declared.Kind.the-variants.{Fixed as FixedK, Text as TextK, List as ListK, Map as MapK, Struct as StructK, Nothing}
 use Rattle.schema.proofs.Table.{fixed-at, text-at, fixed-high, text-low, text-high, place-fixed, place-text}
 use Rattle.schema.proofs.Marked.{headed, mark-kind, fixed-placed, text-placed}
 
@@ -42,11 +40,18 @@ unfolding parseAll schema depth Right count
 all-sound d p h zero s = record { form = refl; many = refl; right = tt; deep = omega arith }
 all-sound d p h (suc n) s = one (p s) (h s) (all-sound d p h n)
   where
-    more : (T : Ty) (r : List ℕ) → Sound d s (some T r) → (x : ParsedAll) → SoundAll d n r x → SoundAll d (suc n) s (afters x nones (λ ts q. somes (T then ts) q))
+    more : (T : Ty) (r : List ℕ) → Sound d s (some T r) → (x : ParsedAll) → SoundAll d n r x
+        → SoundAll d (suc n) s (afters x nones (λ ts q. somes (T then ts) q))
     more T r h nones k = tt
-    more T r h (somes ts q) k = record { form = h .form ∙ rw (k .form) (sym (append-assoc (schema T) (schemas ts) q)); many = ap suc (k .many); right = (h .right, k .right); deep = omega arith }
+    more T r h (somes ts q) k = record {
+      form = h .form ∙ rw (k .form) (sym (append-assoc (schema T) (schemas ts) q));
+      many = ap suc (k .many);
+      right = (h .right, k .right);
+      deep = omega arith;
+    }
 
-    one : (x : Parsed) → Sound d s x → ((r : List ℕ) → SoundAll d n r (parseAll p n r)) → SoundAll d (suc n) s (after x nones (λ T r. afters (parseAll p n r) nones (λ ts q. somes (T then ts) q)))
+    one : (x : Parsed) → Sound d s x → ((r : List ℕ) → SoundAll d n r (parseAll p n r))
+        → SoundAll d (suc n) s (after x nones (λ T r. afters (parseAll p n r) nones (λ ts q. somes (T then ts) q)))
     one none h f = tt
     one (some T r) h f = more T r h (parseAll p n r) (f r)
 
@@ -62,16 +67,22 @@ module _ (d : ℕ) (p : List ℕ → Parsed) (h : (s : List ℕ) → Sound d s (
   sound-li b none k = tt
   sound-li b (some T r) k = record { form = b ∙ ap (λ l. markAt 9 ++ l) (k .form); right = k .right; deep = omega arith }
 
-  sound-ma-2 : s ≡ markAt 10 ++ drop 2 s → (K : Ty) (r : List ℕ) → Sound d (drop 2 s) (some K r) → (x : Parsed) → Sound d r x → Sound (suc d) s (after x none (λ U q. some (ma K U) q))
+  sound-ma-2 : s ≡ markAt 10 ++ drop 2 s → (K : Ty) (r : List ℕ) → Sound d (drop 2 s) (some K r) → (x : Parsed) → Sound d r x
+      → Sound (suc d) s (after x none (λ U q. some (ma K U) q))
   unfolding schema depth Right mark place markAt
   sound-ma-2 b K r k none l = tt
-  sound-ma-2 b K r k (some U q) l = record { form = b ∙ ap (λ l. markAt 10 ++ l) (k .form ∙ rw (l .form) (sym (append-assoc (schema K) (schema U) q))); right = (k .right, l .right); deep = omega arith }
+  sound-ma-2 b K r k (some U q) l = record {
+    form = b ∙ ap (λ l. markAt 10 ++ l) (k .form ∙ rw (l .form) (sym (append-assoc (schema K) (schema U) q)));
+    right = (k .right, l .right);
+    deep = omega arith;
+  }
 
   sound-ma : s ≡ markAt 10 ++ drop 2 s → (x : Parsed) → Sound d (drop 2 s) x → Sound (suc d) s (after x none (λ K r. after (p r) none (λ U q. some (ma K U) q)))
   sound-ma b none k = tt
   sound-ma b (some K r) k = sound-ma-2 b K r k (p r) (h r)
 
-  sound-ro : s ≡ markAt 11 ++ drop 2 s → (n : ℕ) → getD s 2 0 ≡ n → (t u : Bool) → leb 1 n ≡ t → leb n 128 ≡ u → (x : ParsedAll) → SoundAll d n (drop 3 s) x → Sound (suc d) s (pick t (pick u (afters x none (λ ts q. some (ro ts) q)) none) none)
+  sound-ro : s ≡ markAt 11 ++ drop 2 s → (n : ℕ) → getD s 2 0 ≡ n → (t u : Bool) → leb 1 n ≡ t → leb n 128 ≡ u → (x : ParsedAll)
+      → SoundAll d n (drop 3 s) x → Sound (suc d) s (pick t (pick u (afters x none (λ ts q. some (ro ts) q)) none) none)
   unfolding schema depth Right mark place markAt count
   sound-ro b n e false u i j x k = tt
   sound-ro b n e true false i j x k = tt
@@ -79,20 +90,25 @@ module _ (d : ℕ) (p : List ℕ → Parsed) (h : (s : List ℕ) → Sound d s (
   sound-ro b n e true true i j (somes ts q) k =
       let one : 1 ≤ n = leb-true 1 n i in
       let top : n ≤ 128 = leb-true n 128 j in
-      record { form = b ∙ ap (λ l. markAt 11 ++ l) (third s (omega arith) ∙ rw (e, k .many, k .form)); right = (record { low = omega arith; high = omega arith }, k .right); deep = omega arith }
+      record {
+        form = b ∙ ap (λ l. markAt 11 ++ l) (third s (omega arith) ∙ rw (e, k .many, k .form));
+        right = (record { low = omega arith; high = omega arith }, k .right);
+        deep = omega arith;
+      }
 
   kind-sound : (κ : Kind) → headKind s ≡ κ → Sound (suc d) s (parseKind p κ s)
   unfolding parseKind parseRo schema depth Right mark place
-  kind-sound (FixedK k) e =
-      let b = headed s (FixedK k) e tt in
+  kind-sound (fixedKind k) e =
+      let b = headed s (fixedKind k) e tt in
       record { form = b .begins ∙ ap (λ j. markAt j ++ drop 2 s) (sym (place-fixed k (b .small))); right = tt; deep = omega arith }
-  kind-sound (TextK k) e =
-      let b = headed s (TextK k) e tt in
+  kind-sound (textKind k) e =
+      let b = headed s (textKind k) e tt in
       record { form = b .begins ∙ ap (λ j. markAt j ++ drop 2 s) (sym (place-text k (b .small .low) (b .small .high))); right = tt; deep = omega arith }
-  kind-sound ListK e = sound-li (headed s ListK e tt .begins) (p (drop 2 s)) (h (drop 2 s))
-  kind-sound MapK e = sound-ma (headed s MapK e tt .begins) (p (drop 2 s)) (h (drop 2 s))
-  kind-sound StructK e = sound-ro (headed s StructK e tt .begins) (getD s 2 0) refl _ _ refl refl (parseAll p (getD s 2 0) (drop 3 s)) (all-sound d p h (getD s 2 0) (drop 3 s))
-  kind-sound Nothing e = tt
+  kind-sound listKind e = sound-li (headed s listKind e tt .begins) (p (drop 2 s)) (h (drop 2 s))
+  kind-sound mapKind e = sound-ma (headed s mapKind e tt .begins) (p (drop 2 s)) (h (drop 2 s))
+  kind-sound structKind e = sound-ro (headed s structKind e tt .begins) (getD s 2 0) refl _ _ refl refl (parseAll p (getD s 2 0) (drop 3 s))
+      (all-sound d p h (getD s 2 0) (drop 3 s))
+  kind-sound noKind e = tt
 
 -- what is read is the type's house form, and after what is left
 pub sound : (d : ℕ) (s : List ℕ) → Sound d s (parse d s)
@@ -108,23 +124,23 @@ module _ (d : ℕ) (r : List ℕ) where
 
   step-fixed : (k : ℕ) → k < 7 → parse (suc d) (markAt k ++ r) ≡ some (fix (fixedAt k)) r
   unfolding parseKind markAt
-  step-fixed k h = step k (FixedK k) (omega arith) (fixed-placed k h)
+  step-fixed k h = step k (fixedKind k) (omega arith) (fixed-placed k h)
 
   step-text : (k : ℕ) → 7 ≤ k → k < 9 → parse (suc d) (markAt k ++ r) ≡ some (text (textAt k)) r
   unfolding parseKind markAt
-  step-text k l h = step k (TextK k) (omega arith) (text-placed k l h)
+  step-text k l h = step k (textKind k) (omega arith) (text-placed k l h)
 
   step-li : parse (suc d) (markAt 9 ++ r) ≡ after (parse d r) none (λ T q. some (li T) q)
   unfolding parseKind markAt placed types kindOf
-  step-li = step 9 ListK (lit< tt) refl
+  step-li = step 9 listKind (lit< tt) refl
 
   step-ma : parse (suc d) (markAt 10 ++ r) ≡ after (parse d r) none (λ K q. after (parse d q) none (λ U o. some (ma K U) o))
   unfolding parseKind markAt placed types kindOf
-  step-ma = step 10 MapK (lit< tt) refl
+  step-ma = step 10 mapKind (lit< tt) refl
 
 step-ro : (d : ℕ) (n : ℕ) (r : List ℕ) → 1 ≤ n → n ≤ 128 → parse (suc d) (markAt 11 ++ (n ∷ r)) ≡ afters (parseAll (parse d) n r) none (λ ts q. some (ro ts) q)
 unfolding parseKind markAt placed types kindOf parseRo
-step-ro d n r h k = step d (n ∷ r) 11 StructK (lit< tt) refl ∙ rw (le-leb 1 n h, le-leb n 128 k)
+step-ro d n r h k = step d (n ∷ r) 11 structKind (lit< tt) refl ∙ rw (le-leb 1 n h, le-leb n 128 k)
 
 -- a type's house form is read as the type
 mutual
@@ -140,13 +156,28 @@ mutual
   complete (text t) (suc d) r h e = step-text d r (textPlace t) (text-low t) (text-high t) ∙ ap (λ g. some (text g) r) (text-at t)
   complete (li T) (suc d) r h e = rw (append-assoc (markAt 9) (schema T) r, step-li d (schema T ++ r), complete T d r h (omega arith))
   complete (ma K U) (suc d) r h e =
-      rw (append-assoc (markAt 10) (schema K ++ schema U) r, append-assoc (schema K) (schema U) r, step-ma d (schema K ++ (schema U ++ r)), complete K d (schema U ++ r) (h .0) (omega arith), complete U d r (h .1) (omega arith))
+      rw (
+        append-assoc (markAt 10) (schema K ++ schema U) r,
+        append-assoc (schema K) (schema U) r,
+        step-ma d (schema K ++ (schema U ++ r)),
+        complete K d (schema U ++ r) (h .0) (omega arith),
+        complete U d r (h .1) (omega arith),
+      )
   complete (ro ts) (suc d) r h e =
-      rw (append-assoc (markAt 11) (count ts ∷ schemas ts) r, step-ro d (count ts) (schemas ts ++ r) (h .0 .low) (h .0 .high), complete-all ts d r (h .1) (omega arith))
+      rw (
+        append-assoc (markAt 11) (count ts ∷ schemas ts) r,
+        step-ro d (count ts) (schemas ts ++ r) (h .0 .low) (h .0 .high),
+        complete-all ts d r (h .1) (omega arith),
+      )
 
   complete-all : (ts : Tys) (d : ℕ) (r : List ℕ) → Rights ts → depths ts ≤ d → parseAll (parse d) (count ts) (schemas ts ++ r) ≡ somes ts r
   complete-all end d r h e = refl
-  complete-all (T then ts) d r h e = rw (append-assoc (schema T) (schemas ts) r, complete T d (schemas ts ++ r) (h .0) (omega arith), complete-all ts d r (h .1) (omega arith))
+  complete-all (T then ts) d r h e = rw (
+    append-assoc (schema T) (schemas ts) r,
+    complete T d (schemas ts ++ r) (h .0) (omega arith),
+    complete-all ts d r
+        (h .1) (omega arith),
+  )
 
 -- the kind that a type's house form begins with
 pub schema-kind : (X : Ty) (r : List ℕ) → headKind (schema X ++ r) ≡ kindTy X

@@ -6,22 +6,15 @@ use native.Mathlib.Decide.{decLt}
 use native.Mathlib.Omega.{arith}
 use lib.ListN.{length, getD}
 use Rattle.schema.specs.Marks.{types}
-use Rattle.schema.specs.Types.{Ty, fix, text, li, ma, ro, Tys, fixedAt, textAt, fixedPlace, textPlace, place}
-use Rattle.schema.specs.Kinds.{placed, kindOf, kindAt, kindTy, placeOf, placeAt, Marked}
-use Rattle.schema.specs.Walk.{size, Typed, typeAt, nextAt, ListAt, MapAt, StructAt}
-use Rattle.schema.specs.declared.Kind.{Kind}
-use Rattle.schema.specs.declared.Kind.the-variants.{Fixed as FixedK, Text as TextK, List as ListK, Map as MapK, Struct as StructK, Nothing}
-use Rattle.schema.proofs.Table.{each, fixed-at, text-at, fixed-high, text-low, text-high}
-use Rattle.schema.proofs.Marked.{placeOfKind, Real}
+use Rattle.schema.specs.Types.{Ty, fix, text, li, ma, ro, Tys, fixedAt, textAt, place}
+use Rattle.schema.specs.Kinds.{placed, kindOf, kindAt, kindTy, placeAt, noKind}
+use Rattle.schema.specs.Walk.{Typed, typeAt, nextAt, ListAt, MapAt, StructAt}
+use Rattle.schema.proofs.Table.{fixed-at, text-at, fixed-high, text-low, text-high}
+use Rattle.schema.proofs.Marked.{placeOfKind, Real, place-kind}
 use Rattle.schema.proofs.Search.{placed-out, kind-past, kind-short, kind-two}
-use Rattle.schema.proofs.Laws.{size-fixed, size-text}
-use Rattle.schema.proofs.Typing.{typed-kind, typed-li, typed-ma, typed-ro, next-is}
+use Rattle.schema.proofs.Typing.{typed-kind, typed-li, typed-ma, typed-ro}
 
 -- ---- a place and its kind are one
-
-place-kind : (k : ℕ) → k < 12 → placeOfKind (placed k) ≡ k
-unfolding placed types kindOf
-place-kind = each (λ k. placeOfKind (placed k) ≡ k) 12 (refl, (refl, (refl, (refl, (refl, (refl, (refl, (refl, (refl, (refl, (refl, (refl, tt))))))))))))
 
 kind-place : (t : Ty) → placeOfKind (kindTy t) ≡ place t
 unfolding place
@@ -39,7 +32,7 @@ kind-real (ma k v) = tt
 kind-real (ro ts) = tt
 
 module _ (s : List ℕ) (at d : ℕ) (h : Typed s at d) where
-  real : kindAt s at ≡ Nothing → ⊥
+  real : kindAt s at ≡ noKind → ⊥
   real e = subst Real (sym (typed-kind s at d h) ∙ e) (kind-real (typeAt s at d))
 
   mark-two : at + 1 < length s
@@ -63,10 +56,6 @@ module _ (s : List ℕ) (at d : ℕ) (h : Typed s at d) where
       go : Dec (placeAt s at < 12) → placeAt s at < 12
       go (yes p) = p
       go (no n) = absurd (subst Real (sym kind-is ∙ placed-out (placeAt s at) (omega arith)) (kind-real (typeAt s at d)))
-
-  -- what a caller of `place_at` shows, and learns
-  pub typed-marked : Marked s at
-  typed-marked = record { room = mark-two; known = place-small }
 
   pub typed-place : placeAt s at ≡ place (typeAt s at d)
   typed-place = sym (place-kind (placeAt s at) place-small) ∙ ap placeOfKind kind-is ∙ kind-place (typeAt s at d)
@@ -118,14 +107,3 @@ holding-of (text t) k e h = absurd (omega (arith, text-high t))
 holding-of (li t) k e h = subst (Holding (li t)) (sym e) list
 holding-of (ma a b) k e h = subst (Holding (ma a b)) (sym e) map
 holding-of (ro ts) k e h = subst (Holding (ro ts)) (sym e) struct
-
--- a leaf takes its mark's two bytes
-pub leaf-next : (s : List ℕ) (at d k : ℕ) → Typed s at d → k ≡ placeAt s at → k < 9 → at + 2 ≡ nextAt s at d
-leaf-next s at d k h e l = go (decLt k 7)
-  where
-    p : k ≡ place (typeAt s at d)
-    p = e ∙ typed-place s at d h
-
-    go : Dec (k < 7) → at + 2 ≡ nextAt s at d
-    go (yes g) = sym (next-is s at d ∙ ap (λ (t : Ty). at + size t) (fixed-of (typeAt s at d) k p g) ∙ ap (λ (n : ℕ). at + n) (size-fixed (fixedAt k)))
-    go (no g) = sym (next-is s at d ∙ ap (λ (t : Ty). at + size t) (text-of (typeAt s at d) k p (omega arith) l) ∙ ap (λ (n : ℕ). at + n) (size-text (textAt k)))

@@ -6,7 +6,8 @@ use native.Mathlib.Omega.{arith}
 use lib.ListN.{length}
 use Rattle.words.specs.Bytes.{Bytes, empty, byte}
 use Rattle.schema.specs.Marks.{types, line, markAt}
-use Rattle.schema.specs.Types.{Fixed, bo, i1, i2, i4, i8, f4, f8, Text, st, bi, Ty, fix, text, li, ma, ro, fixedPlace, textPlace, fixedAt, textAt, place, width, mark}
+use Rattle.schema.specs.Types.{Fixed, bo, i1, i2, i4, i8, f4, f8, Text, st, bi, Ty, fix, text, li, ma, ro, fixedPlace, textPlace, fixedAt, textAt}
+use Rattle.schema.specs.Types.{place, width, mark}
 
 pub width-8 : (f : Fixed) → width f ≤ 8
 unfolding width types fixedPlace
@@ -71,6 +72,17 @@ each P zero a k h = absurd (omega arith)
 each P (suc n) a zero h = a .0
 each P (suc n) a (suc k) h = each (λ j. P (suc j)) n (a .1) k (omega arith)
 
+-- the first n lines of a column of the table of types
+abbrev column : {A : Type 0} → ℕ → (ℕ → A) → List A
+column zero f = []
+column (suc n) f = f 0 ∷ column n (λ k. f (suc k))
+
+-- columns that compute to the same agree at each line
+pub agree : {A : Type 0} (f g : ℕ → A) (n : ℕ) → column n f ≡ column n g → (k : ℕ) → k < n → f k ≡ g k
+agree f g zero e k h = absurd (omega arith)
+agree f g (suc n) e zero h = cc
+agree f g (suc n) e (suc k) h = agree (λ j. f (suc j)) (λ j. g (suc j)) n (cc) k (omega arith)
+
 pub fixed-at : (f : Fixed) → fixedAt (fixedPlace f) ≡ f
 unfolding fixedAt fixedPlace
 fixed-at bo = refl
@@ -108,11 +120,11 @@ text-high bi = omega arith
 
 pub place-fixed : (k : ℕ) → k < 7 → fixedPlace (fixedAt k) ≡ k
 unfolding fixedAt fixedPlace
-place-fixed = each (λ k. fixedPlace (fixedAt k) ≡ k) 7 (refl, (refl, (refl, (refl, (refl, (refl, (refl, tt)))))))
+place-fixed = agree (λ k. fixedPlace (fixedAt k)) (λ k. k) 7 refl
 
 text-from : (j : ℕ) → j < 2 → textPlace (textAt (7 + j)) ≡ 7 + j
 unfolding textAt textPlace
-text-from = each (λ j. textPlace (textAt (7 + j)) ≡ 7 + j) 2 (refl, (refl, tt))
+text-from = agree (λ j. textPlace (textAt (7 + j))) (λ j. 7 + j) 2 refl
 
 pub place-text : (k : ℕ) → 7 ≤ k → k < 9 → textPlace (textAt k) ≡ k
 place-text k l h =

@@ -6,19 +6,13 @@ use Prim.Native.Nat.{ℕ, zero, suc, _+_, _-_, _<_, _≤_}
 use native.Mathlib.Omega.{arith}
 use borrow.Author.Tests.{leb-true}
 use lib.Dec.{T, leb}
-use lib.ListN.{length, drop, getD, length-append, length-drop}
+use lib.ListN.{length, drop, getD}
 use Rattle.schema.specs.Types.{Ty, text, li, ma, ro, Tys, end, _then_, st, count, field}
-use Rattle.schema.specs.House.{schemas}
-use Rattle.schema.specs.Kinds.{pick, kindAt, headKind, kindTy}
+use Rattle.schema.specs.Kinds.{pick, kindAt, headKind, kindTy, listKind, mapKind, structKind}
 use Rattle.schema.specs.Reading.{Parsed, none, some, ParsedAll, nones, somes, after, afters, parse, parseAll, parseRo}
-use Rattle.schema.specs.Walk.{size, sizes, Typed, typeAt, TypedAll, typesAt, nextAt, skipAt, IsFixed, IsText, ListAt, MapAt, StructAt, HasField, fieldAt, openOf, openAt, Opens}
-use Rattle.schema.specs.declared.Kind.{Kind}
-use Rattle.schema.specs.declared.Kind.the-variants.{Fixed as FixedK, Text as TextK, List as ListK, Map as MapK, Struct as StructK, Nothing}
-use Rattle.schema.specs.declared.Reach.{Reach}
-use Rattle.schema.specs.declared.Reach.the-variants.{To, Stop}
-use Rattle.schema.proofs.Marked.{headed}
+use Rattle.schema.specs.Walk.{size, Typed, typeAt, TypedAll, typesAt, nextAt, ListAt, MapAt, StructAt, HasField, fieldAt}
 use Rattle.schema.proofs.Parse.{Sound, SoundAll, sound, all-sound, complete, schema-kind}
-use Rattle.schema.proofs.Laws.{Left, left, step-fixed, step-text, step-li, step-ma, step-ro, step-none, all-none, all-more}
+use Rattle.schema.proofs.Laws.{Left, left, step-li, step-ma, step-ro, all-none, all-more}
 
 -- Each law is proved on the readings that stand in its statement, by their cases.
 abbrev good : Parsed → Bool
@@ -81,29 +75,7 @@ module _ (s : List ℕ) (at d : ℕ) (h : Typed s at d) where
       go none k g = absurd g
       go (some X r) k g = k .room
 
-  pub typed-skip : skipAt s at d ≡ To (nextAt s at d)
-  unfolding Typed typeAt nextAt skipAt
-  typed-skip = go (parse d (drop at s)) h
-    where
-      go : (x : Parsed) → T (good x) → after x Stop (λ X r. To (at + size X)) ≡ To (at + size (ty x))
-      go none g = absurd g
-      go (some X r) g = refl
-
-  pub typed-fixed : (k : ℕ) → kindAt s at ≡ FixedK k → IsFixed s at d k
-  unfolding typeAt kindAt
-  typed-fixed k e = record { whole = rw (step-fixed s at d typed-deep k e); deep = typed-deep; high = headed (drop at s) (FixedK k) e tt .small }
-
-  pub typed-text : (k : ℕ) → kindAt s at ≡ TextK k → IsText s at d k
-  unfolding typeAt kindAt
-  typed-text k e =
-      let b = headed (drop at s) (TextK k) e tt .small in
-      record { whole = rw (step-text s at d typed-deep k e); deep = typed-deep; low = b .low; high = b .high }
-
-  pub typed-not : kindAt s at ≡ Nothing → ⊥
-  unfolding Typed
-  typed-not e = subst (λ (x : Parsed). T (good x)) (step-none s at d typed-deep e) h
-
-  pub typed-li : kindAt s at ≡ ListK → ListLaw s at d
+  pub typed-li : kindAt s at ≡ listKind → ListLaw s at d
   unfolding Typed typeAt
   typed-li e =
       let g = go (parse (d - 1) (drop (at + 2) s)) (subst (λ (x : Parsed). T (good x)) (step-li s at d typed-deep e) h) in
@@ -113,7 +85,7 @@ module _ (s : List ℕ) (at d : ℕ) (h : Typed s at d) where
       go none g = absurd g
       go (some X r) g = (refl, tt)
 
-  pub typed-ma : kindAt s at ≡ MapK → MapLaw s at d
+  pub typed-ma : kindAt s at ≡ mapKind → MapLaw s at d
   unfolding Typed typeAt nextAt
   typed-ma e =
       let g = go (parse (d - 1) (drop (at + 2) s)) (left s (at + 2) (d - 1)) (subst (λ (x : Parsed). T (good x)) (step-ma s at d typed-deep e) h) in
@@ -123,21 +95,25 @@ module _ (s : List ℕ) (at d : ℕ) (h : Typed s at d) where
       two K none g = absurd g
       two K (some U q) g = (refl, tt)
 
-      go : (x : Parsed) → Left s (at + 2) x → T (good (after x none (λ K r. both K (parse (d - 1) r)))) → (ty (after x none (λ K r. both K (parse (d - 1) r))) ≡ ma (ty x) (ty (parse (d - 1) (drop (at + 2 + size (ty x)) s)))) × T (good x) × T (good (parse (d - 1) (drop (at + 2 + size (ty x)) s)))
+      go : (x : Parsed) → Left s (at + 2) x → T (good (after x none (λ K r. both K (parse (d - 1) r))))
+          → (ty (after x none (λ K r. both K (parse (d - 1) r))) ≡ ma (ty x) (ty (parse (d - 1) (drop (at + 2 + size (ty x)) s))))
+          × T (good x) × T (good (parse (d - 1) (drop (at + 2 + size (ty x)) s)))
       go none l g = absurd g
       go (some K r) l g =
           let t = two K (parse (d - 1) r) g in
           rw (← l .form) (t .0, tt, t .1)
 
   -- of a struct, n is the byte after the mark
-  pub typed-ro : kindAt s at ≡ StructK → (n : ℕ) → n ≡ getD s (at + 2) 0 → StructLaw s at d n
+  pub typed-ro : kindAt s at ≡ structKind → (n : ℕ) → n ≡ getD s (at + 2) 0 → StructLaw s at d n
   unfolding Typed typeAt TypedAll typesAt parseRo
   typed-ro e n c =
       let p : parse d (drop at s) ≡ parseRo (parse (d - 1)) n (drop (at + 3) s) = step-ro s at d typed-deep e ∙ rw (← c) in
       let g = go (leb 1 n) (leb n 128) refl refl (parseAll (parse (d - 1)) n (drop (at + 3) s)) (subst (λ (x : Parsed). T (good x)) p h) in
       record { whole = rw p (g .0); deep = typed-deep; fields = g .1; low = g .2; high = g .3 }
     where
-      go : (t u : Bool) → leb 1 n ≡ t → leb n 128 ≡ u → (x : ParsedAll) → T (good (pick t (pick u (afters x none (λ Xs r. some (ro Xs) r)) none) none)) → (ty (pick t (pick u (afters x none (λ Xs r. some (ro Xs) r)) none) none) ≡ ro (tys x)) × T (goods x) × (1 ≤ n) × (n ≤ 128)
+      go : (t u : Bool) → leb 1 n ≡ t → leb n 128 ≡ u → (x : ParsedAll)
+          → T (good (pick t (pick u (afters x none (λ Xs r. some (ro Xs) r)) none) none))
+          → (ty (pick t (pick u (afters x none (λ Xs r. some (ro Xs) r)) none) none) ≡ ro (tys x)) × T (goods x) × (1 ≤ n) × (n ≤ 128)
       go false u i j x g = absurd g
       go true false i j x g = absurd g
       go true true i j nones g = absurd g
@@ -156,7 +132,9 @@ module _ (s : List ℕ) (at d n : ℕ) (h : TypedAll s at d n) where
       two X nones g = absurd g
       two X (somes Xs q) g = (refl, tt)
 
-      go : (x : Parsed) → Left s at x → T (goods (after x nones (λ X r. more X (parseAll (parse d) (n - 1) r)))) → (tys (after x nones (λ X r. more X (parseAll (parse d) (n - 1) r))) ≡ ty x then tys (parseAll (parse d) (n - 1) (drop (at + size (ty x)) s))) × T (good x) × T (goods (parseAll (parse d) (n - 1) (drop (at + size (ty x)) s)))
+      go : (x : Parsed) → Left s at x → T (goods (after x nones (λ X r. more X (parseAll (parse d) (n - 1) r))))
+          → (tys (after x nones (λ X r. more X (parseAll (parse d) (n - 1) r))) ≡ ty x then tys (parseAll (parse d) (n - 1) (drop (at + size (ty x)) s)))
+          × T (good x) × T (goods (parseAll (parse d) (n - 1) (drop (at + size (ty x)) s)))
       go none l g = absurd g
       go (some X r) l g =
           let t = two X (parseAll (parse d) (n - 1) r) g in
@@ -174,26 +152,9 @@ module _ (s : List ℕ) (at d n : ℕ) (h : TypedAll s at d n) where
       go nones k g = absurd g
       go (somes Xs r) k g = k .many
 
--- where the skip that a typed position gives is known, so is its end
-module _ (s : List ℕ) (at d : ℕ) (h : Typed s at d) (x : Reach) (p : x ≡ skipAt s at d) where
-  pub typed-to : (e : ℕ) → x ≡ To e → e ≡ nextAt s at d
-  typed-to e q = let r = typed-skip s at d h in cc
-
-  pub typed-stop : x ≡ Stop → ⊥
-  typed-stop q = let r = typed-skip s at d h in let z : _≡_ {A = ℕ} 0 1 = cc in omega arith
-
--- sizes: a type, and types one after the other, lie within the list
 pub next-is : (s : List ℕ) (at d : ℕ) → nextAt s at d ≡ at + size (typeAt s at d)
 unfolding nextAt
 next-is s at d = refl
-
-pub all-room : (s : List ℕ) (at d n : ℕ) → TypedAll s at d n → sizes (typesAt s at d n) ≤ length s - at
-unfolding TypedAll typesAt sizes
-all-room s at d n h = go (parseAll (parse d) n (drop at s)) (all-sound d (parse d) (sound d) n (drop at s)) h
-  where
-    go : (x : ParsedAll) → SoundAll d n (drop at s) x → T (goods x) → length (schemas (tys x)) ≤ length s - at
-    go nones k g = absurd g
-    go (somes Xs r) k g = omega (arith, length-drop at s, ap length (k .form), length-append (schemas Xs) r)
 
 -- a type that stands at a position stands there at every greater depth, and is the same
 pub record Deeper (s : List ℕ) (at d e : ℕ) : Type 0 where
@@ -267,16 +228,3 @@ module _ (s : List ℕ) (first d i : ℕ) where
 
     pub way-end : i ≤ j → at ≡ fieldAt s first d i
     way-end l = sym (w .same ∙ field-here s at d (i - j) (omega arith))
-
--- what a typed position's type, taken apart, says: the one law that most callers need
-pub opens : (s : List ℕ) (at d : ℕ) → Typed s at d → Opens s at d (openAt s at d)
-unfolding openAt openOf
-opens s at d h = go (kindAt s at) refl
-  where
-    go : (κ : Kind) → kindAt s at ≡ κ → Opens s at d (openOf s at d κ)
-    go (FixedK k) e = typed-fixed s at d h k e
-    go (TextK k) e = typed-text s at d h k e
-    go ListK e = typed-li s at d h e
-    go MapK e = typed-ma s at d h e
-    go StructK e = typed-ro s at d h e _ refl
-    go Nothing e = typed-not s at d h e

@@ -1,16 +1,16 @@
 -- What the mark at a position says. Assumes nothing: these are definitions.
 use mathlib.Core.Bool.{Bool, true, false}
 use mathlib.Core.List.{List, [], _∷_}
-use Prim.Native.Nat.{ℕ, zero, suc, _+_, _<_}
+use Prim.Native.Nat.{ℕ, zero, suc, _+_}
 use lib.Dec.{eqb, ltb}
-use lib.ListN.{length, getD, drop}
-use Rattle.schema.specs.Marks.{types, line}
+use lib.ListN.{getD, drop}
+use Rattle.schema.specs.Marks.{Sort, fixed, text as textSort, list, map, struct, Entry, types, line}
 use Rattle.schema.specs.Types.{Ty, fix, text, li, ma, ro, fixedPlace, textPlace}
-use Rattle.schema.specs.declared.Entry.{Entry}
-use Rattle.schema.specs.declared.Sort.{Sort}
-use Rattle.schema.specs.declared.Sort.the-variants.{Fixed, Text, List as ListS, Map as MapS, Struct as StructS}
-use Rattle.schema.specs.declared.Kind.{Kind}
-use Rattle.schema.specs.declared.Kind.the-variants.{Fixed as FixedK, Text as TextK, List as ListK, Map as MapK, Struct as StructK, Nothing}
+
+-- what a mark says: a leaf with its place in the table, a container, or that it is none
+pub data Kind : Type 0 where
+  fixedKind textKind : ℕ → Kind
+  listKind mapKind structKind noKind : Kind
 
 abbrev pub pick : {A : Type 0} → Bool → A → A → A
 pick true a b = a
@@ -29,20 +29,20 @@ placeOf a b = find a b types
 
 -- the kind of the type at place k, from the table's word for it
 unfoldable pub kindOf : ℕ → Sort → Kind
-kindOf k Fixed = FixedK k
-kindOf k Text = TextK k
-kindOf k ListS = ListK
-kindOf k MapS = MapK
-kindOf k StructS = StructK
+kindOf k fixed = fixedKind k
+kindOf k textSort = textKind k
+kindOf k list = listKind
+kindOf k map = mapKind
+kindOf k struct = structKind
 
 -- the kind of the type at a place of the table
 unfoldable pub placed : ℕ → Kind
-placed k = pick (ltb k 12) (kindOf k (line k .kind)) Nothing
+placed k = pick (ltb k 12) (kindOf k (line k .kind)) noKind
 
 -- the kind of what a list begins with
 unfoldable pub headKind : List ℕ → Kind
-headKind [] = Nothing
-headKind (a ∷ []) = Nothing
+headKind [] = noKind
+headKind (a ∷ []) = noKind
 headKind (a ∷ b ∷ s) = placed (placeOf a b)
 
 unfoldable pub kindAt : List ℕ → ℕ → Kind
@@ -52,23 +52,10 @@ kindAt s at = headKind (drop at s)
 unfoldable pub placeAt : List ℕ → ℕ → ℕ
 placeAt s at = placeOf (getD s at 0) (getD s (at + 1) 0)
 
--- a mark of the table stands at a position
-pub record Marked (s : List ℕ) (at : ℕ) : Type 0 where
-  pub room : at + 1 < length s
-  pub known : placeAt s at < 12
-
 -- the kind of a type's mark
 abbrev pub kindTy : Ty → Kind
-kindTy (fix f) = FixedK (fixedPlace f)
-kindTy (text t) = TextK (textPlace t)
-kindTy (li t) = ListK
-kindTy (ma k v) = MapK
-kindTy (ro ts) = StructK
-
-abbrev pub isStruct : Kind → Bool
-isStruct (FixedK k) = false
-isStruct (TextK k) = false
-isStruct ListK = false
-isStruct MapK = false
-isStruct StructK = true
-isStruct Nothing = false
+kindTy (fix f) = fixedKind (fixedPlace f)
+kindTy (text t) = textKind (textPlace t)
+kindTy (li t) = listKind
+kindTy (ma k v) = mapKind
+kindTy (ro ts) = structKind

@@ -1,4 +1,4 @@
--- What the contracts of `schema` cite.
+-- What the crates that stand on `schema` cite.
 pub mod Marks
 pub mod Types
 pub mod House

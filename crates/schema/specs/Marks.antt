@@ -4,33 +4,41 @@ use mathlib.Core.Bool.{cond}
 use Prim.Native.Nat.{ℕ}
 use lib.Dec.{ltb}
 use lib.ListN.{getD}
-use Rattle.schema.specs.declared.Entry.{Entry}
-use Rattle.schema.specs.declared.Sort.{Sort}
-use Rattle.schema.specs.declared.Sort.the-variants.{Fixed, Text, List as ListS, Map as MapS, Struct as StructS}
+
+-- the kinds of types: a fixed width, a text, a list, a map, a struct
+pub data Sort : Type 0 where
+  fixed text list map struct : Sort
+
+-- a line of the table: the mark's two bytes; the bytes in a row, 0 where they vary; and the kind
+pub record Entry : Type 0 where
+  pub first : ℕ
+  pub second : ℕ
+  pub width : ℕ
+  pub kind : Sort
 
 abbrev pub entry : ℕ → ℕ → ℕ → Sort → Entry
 entry a b w k = record { first = a; second = b; width = w; kind = k }
 
--- the mark's two bytes, the type's bytes (0: they vary), its kind: bo i1 i2 i4 i8 f4 f8 st bi li ma ro
+-- bo i1 i2 i4 i8 f4 f8 st bi li ma ro
 unfoldable pub types : List Entry
 types =
-    entry 98 111 1 Fixed
-    ∷ entry 105 49 1 Fixed
-    ∷ entry 105 50 2 Fixed
-    ∷ entry 105 52 4 Fixed
-    ∷ entry 105 56 8 Fixed
-    ∷ entry 102 52 4 Fixed
-    ∷ entry 102 56 8 Fixed
-    ∷ entry 115 116 0 Text
-    ∷ entry 98 105 0 Text
-    ∷ entry 108 105 0 ListS
-    ∷ entry 109 97 0 MapS
-    ∷ entry 114 111 0 StructS
+    entry 98 111 1 fixed
+    ∷ entry 105 49 1 fixed
+    ∷ entry 105 50 2 fixed
+    ∷ entry 105 52 4 fixed
+    ∷ entry 105 56 8 fixed
+    ∷ entry 102 52 4 fixed
+    ∷ entry 102 56 8 fixed
+    ∷ entry 115 116 0 text
+    ∷ entry 98 105 0 text
+    ∷ entry 108 105 0 list
+    ∷ entry 109 97 0 map
+    ∷ entry 114 111 0 struct
     ∷ []
 
 -- the line at a place of the table
 abbrev pub line : ℕ → Entry
-line k = getD types k (entry 0 0 0 Fixed)
+line k = getD types k (entry 0 0 0 fixed)
 
 -- the mark at a place of the table
 unfoldable pub markAt : ℕ → List ℕ

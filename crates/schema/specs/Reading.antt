@@ -4,9 +4,7 @@ use Prim.Native.Nat.{ℕ, zero, suc}
 use lib.Dec.{leb}
 use lib.ListN.{length, getD, drop}
 use Rattle.schema.specs.Types.{Ty, fix, text, li, ma, ro, Tys, end, _then_, fixedAt, textAt}
-use Rattle.schema.specs.Kinds.{pick, headKind}
-use Rattle.schema.specs.declared.Kind.{Kind}
-use Rattle.schema.specs.declared.Kind.the-variants.{Fixed as FixedK, Text as TextK, List as ListK, Map as MapK, Struct as StructK, Nothing}
+use Rattle.schema.specs.Kinds.{pick, headKind, Kind, fixedKind, textKind, listKind, mapKind, structKind, noKind}
 use Rattle.schema.specs.declared.Judged.{Judged}
 use Rattle.schema.specs.declared.Judged.the-variants.{Accepted, Refused}
 
@@ -38,12 +36,12 @@ parseRo p n s = pick (leb 1 n) (pick (leb n 128) (afters (parseAll p n s) none (
 
 -- a type of the kind that its mark says, whose holdings are read by p
 unfoldable pub parseKind : (List ℕ → Parsed) → Kind → List ℕ → Parsed
-parseKind p (FixedK k) s = some (fix (fixedAt k)) (drop 2 s)
-parseKind p (TextK k) s = some (text (textAt k)) (drop 2 s)
-parseKind p ListK s = after (p (drop 2 s)) none (λ t r. some (li t) r)
-parseKind p MapK s = after (p (drop 2 s)) none (λ k r. after (p r) none (λ v q. some (ma k v) q))
-parseKind p StructK s = parseRo p (getD s 2 0) (drop 3 s)
-parseKind p Nothing s = none
+parseKind p (fixedKind k) s = some (fix (fixedAt k)) (drop 2 s)
+parseKind p (textKind k) s = some (text (textAt k)) (drop 2 s)
+parseKind p listKind s = after (p (drop 2 s)) none (λ t r. some (li t) r)
+parseKind p mapKind s = after (p (drop 2 s)) none (λ k r. after (p r) none (λ v q. some (ma k v) q))
+parseKind p structKind s = parseRo p (getD s 2 0) (drop 3 s)
+parseKind p noKind s = none
 
 -- the type that a list begins with, at most d deep
 unfoldable pub parse : ℕ → List ℕ → Parsed

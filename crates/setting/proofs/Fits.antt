@@ -15,12 +15,13 @@ use Rattle.words.proofs.SignedLaws.{half-bytes, ofSigned-lt}
 use Rattle.schema.specs.Marks.{types, line}
 use Rattle.schema.specs.Types.{fix, fixedAt, fixedPlace, width}
 use Rattle.schema.proofs.Table.{each}
+use Rattle.table.specs.Words.{placeIn, widthIn}
 use Rattle.layout.specs.Setting as S
 use Rattle.layout.specs.Setting.{inBytes, boolBytes, signedBytes, float32Bytes, float64Bytes, suits}
 use Rattle.answers.specs.declared.Given.{Given}
 use Rattle.answers.specs.declared.Given.the-variants as G
 use Rattle.answers.specs.Meaning.{givenMeans}
-use Rattle.setting.specs.Writes.{LeafIs}
+use Rattle.setting.specs.Writes.{FixedIn, LeafIs}
 use Rattle.setting.specs.declared.Leaf.{Leaf}
 use Rattle.setting.specs.declared.Leaf.the-variants as L
 
@@ -40,27 +41,28 @@ bool-unfit (suc k) h z v =
 
 -- ---- a signed number
 
-number-at : (w : ℕ) → 0 < w → (z : ℤ) → inRange (halfOf w) z ≡ true → (n : ℕ) → n ≡ ofSigned (halfOf w) z → (signedBytes w (S.signed z) ≡ some (le w n)) × (n < 256 ^ w)
+number-at : (w : ℕ) → 0 < w → (z : ℤ) → inRange (halfOf w) z ≡ true → (n : ℕ) → n ≡ ofSigned (halfOf w) z
+    → (signedBytes w (S.signed z) ≡ some (le w n)) × (n < 256 ^ w)
 unfolding signedBytes
 number-at w p z i n e =
     let m : mag z < halfOf w = ltb-true (mag z) (halfOf w) i in
     (rw (i, e), rw (e, ← (half-bytes w p)) (ofSigned-lt (halfOf w) z m))
 
-pub number-bool : (k : ℕ) → k ≡ 0 → (z : ℤ) → LeafIs (fixedAt k) (S.signed z) L.Unfit
+bool-place : (k : ℕ) → k ≡ 0 → (z : ℤ) → LeafIs (fixedAt k) (S.signed z) L.Unfit
 unfolding fixedAt suits inBytes boolBytes
-number-bool zero e z = refl
-number-bool (suc k) e z = absurd (omega arith)
+bool-place zero e z = refl
+bool-place (suc k) e z = absurd (omega arith)
 
-pub number-float : (k : ℕ) → k < 7 → 4 < k → (z : ℤ) → LeafIs (fixedAt k) (S.signed z) L.Unfit
+float-place : (k : ℕ) → k < 7 → 4 < k → (z : ℤ) → LeafIs (fixedAt k) (S.signed z) L.Unfit
 unfolding fixedAt suits inBytes float32Bytes float64Bytes
-number-float (suc (suc (suc (suc (suc zero))))) h g z = refl
-number-float (suc (suc (suc (suc (suc (suc zero)))))) h g z = refl
-number-float (suc (suc (suc (suc (suc (suc (suc k))))))) h g z = absurd (omega arith)
-number-float zero h g z = absurd (omega arith)
-number-float (suc zero) h g z = absurd (omega arith)
-number-float (suc (suc zero)) h g z = absurd (omega arith)
-number-float (suc (suc (suc zero))) h g z = absurd (omega arith)
-number-float (suc (suc (suc (suc zero)))) h g z = absurd (omega arith)
+float-place (suc (suc (suc (suc (suc zero))))) h g z = refl
+float-place (suc (suc (suc (suc (suc (suc zero)))))) h g z = refl
+float-place (suc (suc (suc (suc (suc (suc (suc k))))))) h g z = absurd (omega arith)
+float-place zero h g z = absurd (omega arith)
+float-place (suc zero) h g z = absurd (omega arith)
+float-place (suc (suc zero)) h g z = absurd (omega arith)
+float-place (suc (suc (suc zero))) h g z = absurd (omega arith)
+float-place (suc (suc (suc (suc zero)))) h g z = absurd (omega arith)
 
 -- an integer's place, and its bytes
 pub record Integer (k w : ℕ) : Type 0 where
@@ -83,26 +85,41 @@ integer-from =
       ),
     )
 
-pub integer-is : (k w : ℕ) → (k ≡ 0 → ⊥) → k ≤ 4 → w ≡ line k .width → Integer k w
+integer-is : (k w : ℕ) → (k ≡ 0 → ⊥) → k ≤ 4 → w ≡ line k .width → Integer k w
 integer-is zero w z h e = absurd (z refl)
 integer-is (suc j) w z h e = rw e (integer-from j (omega arith))
 
--- z is handed on as y
-module _ (k w : ℕ) (I : Integer k w) (z y : ℤ) (q : y ≡ z) (r : Bool) (e : r ≡ inRange (halfOf w) y) where
-  pub number-mag : r ≡ true → mag y < halfOf w
-  number-mag t = ltb-true (mag y) (halfOf w) (sym e ∙ t)
+-- k is the place of the type that an entry e says, and w its width
+module _ {e k : ℕ} (F : FixedIn e) (ek : k ≡ placeIn e) where
+  pub number-bool : k ≡ 0 → (z : ℤ) → LeafIs (fixedAt (placeIn e)) (S.signed z) L.Unfit
+  number-bool q z = bool-place (placeIn e) (sym ek ∙ q) z
 
-  pub number-fits : r ≡ true → (n : ℕ) → n ≡ ofSigned (halfOf w) y → LeafIs (fixedAt k) (S.signed z) (L.Bits n)
-  number-fits t n m =
-      let i : inRange (halfOf w) z ≡ true = ap (inRange (halfOf w)) (sym q) ∙ sym e ∙ t in
-      let p = number-at w (I .some) z i n (m ∙ ap (ofSigned (halfOf w)) q) in
-      record { bytes = rw (I .wide) (I .bytes (S.signed z) ∙ p .0); below = rw (I .wide) (p .1); given = refl }
+  pub number-float : 4 < k → (z : ℤ) → LeafIs (fixedAt (placeIn e)) (S.signed z) L.Unfit
+  number-float l z = float-place (placeIn e) (F .fixed) (omega arith) z
 
-  pub number-out : r ≡ false → LeafIs (fixedAt k) (S.signed z) L.Unfit
-  unfolding suits signedBytes
-  number-out t =
-      let i : inRange (halfOf w) z ≡ false = ap (inRange (halfOf w)) (sym q) ∙ sym e ∙ t in
-      rw (I .bytes (S.signed z), i)
+  module _ (n0 : k ≡ 0 → ⊥) (m : k ≤ 4) {w : ℕ} (ew : w ≡ widthIn e) where
+    integer : Integer (placeIn e) w
+    integer = integer-is (placeIn e) w (λ q. n0 (ek ∙ q)) (omega arith) (ew ∙ F .lined .width)
+
+    pub number-wide : (0 < w) × (w ≤ 8)
+    number-wide = (integer .some, integer .most)
+
+    -- z is handed on as y
+    module _ {z y : ℤ} (q : y ≡ z) {r : Bool} (er : r ≡ inRange (halfOf w) y) where
+      pub number-mag : r ≡ true → (0 < w) × (w ≤ 8) × (mag y < halfOf w)
+      number-mag t = (integer .some, integer .most, ltb-true (mag y) (halfOf w) (sym er ∙ t))
+
+      pub number-fits : r ≡ true → {n : ℕ} → n ≡ ofSigned (halfOf w) y → LeafIs (fixedAt (placeIn e)) (S.signed z) (L.Bits n)
+      number-fits t {n} m =
+          let i : inRange (halfOf w) z ≡ true = ap (inRange (halfOf w)) (sym q) ∙ sym er ∙ t in
+          let p = number-at w (integer .some) z i n (m ∙ ap (ofSigned (halfOf w)) q) in
+          record { bytes = rw (integer .wide) (integer .bytes (S.signed z) ∙ p .0); below = rw (integer .wide) (p .1); given = refl }
+
+      pub number-out : r ≡ false → LeafIs (fixedAt (placeIn e)) (S.signed z) L.Unfit
+      unfolding suits signedBytes
+      number-out t =
+          let i : inRange (halfOf w) z ≡ false = ap (inRange (halfOf w)) (sym q) ∙ sym er ∙ t in
+          rw (integer .bytes (S.signed z), i)
 
 -- ---- floats
 
@@ -128,16 +145,24 @@ float64-unfit k h z b =
 
 -- ---- bytes, and a setting by its case
 
-pub bytes-unfit : (k : ℕ) → k < 7 → (u : List ℕ) → LeafIs (fixedAt k) (S.bytes u) L.Unfit
+bytes-place : (k : ℕ) → k < 7 → (u : List ℕ) → LeafIs (fixedAt k) (S.bytes u) L.Unfit
 unfolding fixedAt suits inBytes boolBytes signedBytes float32Bytes float64Bytes
-bytes-unfit k h u =
+bytes-place k h u =
     each (λ j. suits (fix (fixedAt j)) (S.bytes u) ≡ false) 7 (refl, (refl, (refl, (refl, (refl, (refl, (refl, tt))))))) k h
 
-pub leaf-as : (k : ℕ) (r : Leaf) (g g′ : Given) → g ≡ g′ → (u : List ℕ) → LeafIs (fixedAt k) (givenMeans g′ u) r → LeafIs (fixedAt k) (givenMeans g u) r
-leaf-as k r g g′ e u h = rw e h
+module _ (e : ℕ) {g : Given} where
+  pub leaf-null : g ≡ G.Null → (u : List ℕ) → LeafIs (fixedAt (placeIn e)) (givenMeans g u) L.Null
+  leaf-null q u = rw q
 
-pub leaf-null : (k : ℕ) (g : Given) → g ≡ G.Null → (u : List ℕ) → LeafIs (fixedAt k) (givenMeans g u) L.Null
-leaf-null k g e u = rw e
+  pub leaf-bytes : FixedIn e → g ≡ G.Bytes → (u : List ℕ) → LeafIs (fixedAt (placeIn e)) (givenMeans g u) L.Unfit
+  leaf-bytes F q u = rw q (bytes-place (placeIn e) (F .fixed) u)
 
-pub leaf-number : (k : ℕ) (r : Leaf) (g : Given) (z y : ℤ) → g ≡ G.Number z → y ≡ z → LeafIs (fixedAt k) (S.signed y) r → (u : List ℕ) → LeafIs (fixedAt k) (givenMeans g u) r
-leaf-number k r g z y e q h u = rw (e, ← q) h
+  -- k is the place that the entry says
+  module _ (k : ℕ) (ek : k ≡ placeIn e) (r : Leaf) where
+    pub leaf-as : {g′ : Given} → g ≡ g′ → ((u : List ℕ) → LeafIs (fixedAt k) (givenMeans g′ u) r) → (u : List ℕ)
+        → LeafIs (fixedAt (placeIn e)) (givenMeans g u) r
+    leaf-as q h u = rw (q, ← ek) (h u)
+
+  pub leaf-number : (r : Leaf) {z y : ℤ} → g ≡ G.Number z → y ≡ z → LeafIs (fixedAt (placeIn e)) (S.signed y) r → (u : List ℕ)
+      → LeafIs (fixedAt (placeIn e)) (givenMeans g u) r
+  leaf-number r q p h u = rw (q, ← p) h

@@ -2,3 +2,4 @@
 pub mod Fits
 pub mod Written
 pub mod Settled
+pub mod Refused

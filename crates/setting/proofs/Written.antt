@@ -14,9 +14,9 @@ use Rattle.words.specs.Bits.{putBit}
 use Rattle.words.proofs.Numbers.{length-le}
 use Rattle.words.proofs.NumLaws.{le-pad}
 use Rattle.words.proofs.Parts.{part-whole}
-use Rattle.schema.specs.Marks.{line}
 use Rattle.schema.specs.Types.{Fixed, bo, i1, i2, i4, i8, f4, f8, fix, fixedAt, width}
-use Rattle.schema.proofs.Table.{width-pos, line-width}
+use Rattle.schema.proofs.Table.{line-width}
+use Rattle.table.specs.Words.{placeIn}
 use Rattle.layout.specs.Setting as S
 use Rattle.layout.specs.Setting.{Setting, inBytes, boolBytes, signedBytes, float32Bytes, float64Bytes, suits, writeFixed}
 use Rattle.answers.specs.declared.Outcome.the-variants as O
@@ -24,11 +24,31 @@ use Rattle.answers.specs.declared.Refusal.the-variants as F
 use Rattle.answers.specs.declared.Given.{Given}
 use Rattle.answers.specs.declared.Given.the-variants as G
 use Rattle.answers.specs.Meaning.{givenMeans}
-use Rattle.reading.specs.Children.{seatAs, SeatIn}
+use Rattle.reading.specs.Children.{seatAs}
 use Rattle.reading.specs.declared.Seat.{Seat}
-use Rattle.setting.specs.Writes.{HasBits, LeafIs, SetAs, decided, fixedOutcome, textOutcome, noTextOutcome}
+use Rattle.setting.specs.Writes.{FixedSeat, HasBits, LeafIs, SetAs, decided, fixedOutcome, textOutcome, noTextOutcome}
 use Rattle.setting.specs.declared.Leaf.{Leaf}
 use Rattle.setting.specs.declared.Leaf.the-variants as L
+
+-- ---- a slot of 8 bytes, by one store
+
+module _ (row : List ℕ) (slot wide : ℕ) (e : wide ≡ 8) {row′ : List ℕ} where
+  pub zeros-stored : row′ ≡ sets row slot (le 8 0) → row′ ≡ sets row slot (zeros wide)
+  unfolding le
+  zeros-stored q = q ∙ rw e
+
+  pub bits-stored : (v : ℕ) → row′ ≡ sets row slot (le 8 v) → row′ ≡ sets row slot (le wide v)
+  bits-stored v q = q ∙ rw e
+
+-- and behind its bit
+module _ (row : List ℕ) (s : Seat) {row₁ row′ : List ℕ} where
+  pub null-stored : row₁ ≡ putBit row (s .bits) (s .number) true → row′ ≡ sets row₁ (s .slot) (zeros (s .wide))
+      → row′ ≡ sets (putBit row (s .bits) (s .number) true) (s .slot) (zeros (s .wide))
+  null-stored e q = q ∙ rw e
+
+  pub value-stored : (v : ℕ) → row₁ ≡ putBit row (s .bits) (s .number) false → row′ ≡ sets row₁ (s .slot) (le (s .wide) v)
+      → row′ ≡ sets (putBit row (s .bits) (s .number) false) (s .slot) (le (s .wide) v)
+  value-stored v e q = q ∙ rw e
 
 -- ---- a leaf of a fixed width
 
@@ -54,33 +74,37 @@ module _ (f : Fixed) (x : Setting) (s : Seat) (row : List ℕ) where
   unfolding fixedOutcome decided
   fixed-unfit e = record { answers = rw e; after = rw e }
 
-  pub fixed-null : x ≡ S.null → (row′ : List ℕ) → row′ ≡ sets (putBit row (s .bits) (s .number) true) (s .slot) (zeros (s .wide)) → SetAs (fixedOutcome f x (seatAs s) row) row row′ O.Done
+  pub fixed-null : x ≡ S.null → (row′ : List ℕ) → row′ ≡ sets (putBit row (s .bits) (s .number) true) (s .slot) (zeros (s .wide))
+      → SetAs (fixedOutcome f x (seatAs s) row) row row′ O.Done
   unfolding fixedOutcome decided suits writeFixed fill
   fixed-null e row′ q = record { answers = rw e; after = rw e (q ∙ rw (null-bytes f, sub-zero)) }
 
-  pub fixed-bits : (v : ℕ) → HasBits f x v → width f ≤ s .wide → (row′ : List ℕ) → row′ ≡ sets (putBit row (s .bits) (s .number) false) (s .slot) (le (s .wide) v) → SetAs (fixedOutcome f x (seatAs s) row) row row′ O.Done
+  pub fixed-bits : (v : ℕ) → HasBits f x v → width f ≤ s .wide → (row′ : List ℕ) → row′ ≡ sets (putBit row (s .bits) (s .number) false) (s .slot)
+      (le (s .wide) v)
+      → SetAs (fixedOutcome f x (seatAs s) row) row row′ O.Done
   unfolding fixedOutcome decided suits writeFixed
   fixed-bits v b l row′ q =
       record { answers = rw (b .given, b .bytes); after = rw (b .given, b .bytes) (q ∙ rw (fill-le (width f) (s .wide) v (b .below) l)) }
 
--- its seat has a byte
-pub seat-one : (k : ℕ) → k < 7 → (s : Seat) (row : List ℕ) → SeatIn row (line k .width) s → SeatIn row 1 s
-seat-one k h s row I =
-    let e : line k .width ≡ width (fixedAt k) = line-width k h in
-    let p : 1 ≤ width (fixedAt k) = width-pos (fixedAt k) in
-    record { flag = I .flag; room = I .room; wide = omega (arith, I .wide, e, p) }
-
 -- by what the setting came to
-module _ (k : ℕ) (h : k < 7) (s : Seat) (row : List ℕ) (I : SeatIn row (line k .width) s) (g : Given) (r : Leaf) (a : (u : List ℕ) → LeafIs (fixedAt k) (givenMeans g u) r) where
-  pub leaf-unfit : r ≡ L.Unfit → (u : List ℕ) → SetAs (fixedOutcome (fixedAt k) (givenMeans g u) (seatAs s) row) row row (O.Refused F.Unfit)
-  leaf-unfit e u = fixed-unfit (fixedAt k) (givenMeans g u) s row (subst (LeafIs (fixedAt k) (givenMeans g u)) e (a u))
+module _ {row : List ℕ} {w : ℕ} {s : Seat} (I : FixedSeat row w s) (g : Given) (r : Leaf)
+    (a : (u : List ℕ) → LeafIs (fixedAt (placeIn w)) (givenMeans g u) r) where
+  abbrev f : Fixed
+  f = fixedAt (placeIn w)
 
-  pub leaf-nulls : r ≡ L.Null → (row′ : List ℕ) → row′ ≡ sets (putBit row (s .bits) (s .number) true) (s .slot) (zeros (s .wide)) → (u : List ℕ) → SetAs (fixedOutcome (fixedAt k) (givenMeans g u) (seatAs s) row) row row′ O.Done
-  leaf-nulls e row′ q u = fixed-null (fixedAt k) (givenMeans g u) s row (subst (LeafIs (fixedAt k) (givenMeans g u)) e (a u)) row′ q
+  pub leaf-unfit : r ≡ L.Unfit → (u : List ℕ) → SetAs (fixedOutcome f (givenMeans g u) (seatAs s) row) row row (O.Refused F.Unfit)
+  leaf-unfit e u = fixed-unfit f (givenMeans g u) s row (subst (LeafIs f (givenMeans g u)) e (a u))
 
-  pub leaf-bits : (v : ℕ) → r ≡ L.Bits v → (row′ : List ℕ) → row′ ≡ sets (putBit row (s .bits) (s .number) false) (s .slot) (le (s .wide) v) → (u : List ℕ) → SetAs (fixedOutcome (fixedAt k) (givenMeans g u) (seatAs s) row) row row′ O.Done
-  leaf-bits v e row′ q u =
-      fixed-bits (fixedAt k) (givenMeans g u) s row v (subst (LeafIs (fixedAt k) (givenMeans g u)) e (a u)) (subst (λ (n : ℕ). n ≤ s .wide) (line-width k h) (I .wide)) row′ q
+  module _ {row′ : List ℕ} where
+    pub leaf-nulls : r ≡ L.Null → row′ ≡ sets (putBit row (s .bits) (s .number) true) (s .slot) (zeros (s .wide))
+        → (u : List ℕ) → SetAs (fixedOutcome f (givenMeans g u) (seatAs s) row) row row′ O.Done
+    leaf-nulls e q u = fixed-null f (givenMeans g u) s row (subst (LeafIs f (givenMeans g u)) e (a u)) row′ q
+
+    pub leaf-bits : {v : ℕ} → r ≡ L.Bits v → row′ ≡ sets (putBit row (s .bits) (s .number) false) (s .slot) (le (s .wide) v)
+        → (u : List ℕ) → SetAs (fixedOutcome f (givenMeans g u) (seatAs s) row) row row′ O.Done
+    leaf-bits {v} e q u =
+        let l : width f ≤ s .wide = omega (arith, I .leaf .lined .width, line-width (placeIn w) (I .leaf .fixed), I .seat .wide) in
+        fixed-bits f (givenMeans g u) s row v (subst (LeafIs f (givenMeans g u)) e (a u)) l row′ q
 
 -- ---- a string or binary
 
@@ -109,7 +133,8 @@ module _ (u : List ℕ) (o n : ℕ) (row : List ℕ) (g : Given) where
   unfolding textOutcome decided
   text-size e h = rw (e, ne-eqb (length u) n h) (record { answers = refl; after = refl })
 
-  pub text-bytes : g ≡ G.Bytes → length u ≡ n → (row′ : List ℕ) → row′ ≡ sets row o (part u 0 n) → SetAs (textOutcome (givenMeans g u) o n row) row row′ O.Done
+  pub text-bytes : g ≡ G.Bytes → length u ≡ n → (row′ : List ℕ) → row′ ≡ sets row o (part u 0 n)
+      → SetAs (textOutcome (givenMeans g u) o n row) row row′ O.Done
   unfolding textOutcome decided
   text-bytes e h row′ q =
       let w : part u 0 n ≡ u = rw (← h) (part-whole u) in
@@ -118,7 +143,8 @@ module _ (u : List ℕ) (o n : ℕ) (row : List ℕ) (g : Given) where
 -- ---- a null one
 
 module _ (u : List ℕ) (s : Seat) (row : List ℕ) (g : Given) where
-  pub no-text-null : g ≡ G.Null → (row′ : List ℕ) → row′ ≡ sets row (s .slot) (zeros (s .wide)) → SetAs (noTextOutcome (givenMeans g u) (seatAs s) row) row row′ O.Done
+  pub no-text-null : g ≡ G.Null → (row′ : List ℕ) → row′ ≡ sets row (s .slot) (zeros (s .wide))
+      → SetAs (noTextOutcome (givenMeans g u) (seatAs s) row) row row′ O.Done
   unfolding noTextOutcome decided
   no-text-null e row′ q = rw e (record { answers = refl; after = q })
 

@@ -8,11 +8,9 @@ use lib.ListN.{length}
 use lib.Seq.{sets}
 use Rattle.words.specs.Bytes.{le, zeros}
 use Rattle.schema.specs.Types.{Fixed, Ty, fix, ro, width}
-use Rattle.schema.specs.Reading.{judged}
 use Rattle.schema.specs.Walk.{fieldsOf}
-use Rattle.schema.specs.declared.Judged.the-variants.{Accepted}
-use Rattle.schema.specs.declared.Opened.{Opened}
-use Rattle.schema.specs.declared.Opened.the-variants.{Fixed as OFixed, Text as OText, List as OList, Map as OMap, Struct as OStruct, Nothing as ONothing}
+use Rattle.table.specs.Words.{Lined, placeIn, widthIn}
+use Rattle.table.specs.Tables.{Table, schemaOf}
 use Rattle.layout.specs.Refusals.{Refusal}
 use Rattle.layout.specs.Layout.{faultAt}
 use Rattle.layout.specs.Walk as W
@@ -23,7 +21,9 @@ use Rattle.layout.specs.Entries.{setVerdict, rowAfter}
 use Rattle.answers.specs.declared.Outcome.{Outcome}
 use Rattle.answers.specs.Meaning.{outcomeMeans}
 use Rattle.reading.specs.Children.{SeatIn}
-use Rattle.reading.specs.Places.{wideX, Seated}
+use Rattle.reading.specs.Opening.{Kinded}
+use Rattle.reading.specs.Places.{Seated}
+use Rattle.reading.specs.declared.Opened.{Opened}
 use Rattle.reading.specs.declared.Seat.{Seat}
 use Rattle.reading.specs.declared.Place.{Place}
 use Rattle.setting.specs.declared.Leaf.{Leaf}
@@ -74,28 +74,28 @@ textOutcome x o n row = decided (unless (fitsText x) 8 or unless (keepsSize n x)
 unfoldable pub noTextOutcome : Setting → W.Seat → List ℕ → S.Outcome
 noTextOutcome x s row = decided (unless (fitsText x) 8 or unless (isNull x) 9) (sets row (s .slot) (zeros (s .wide)))
 
--- a type that a schema has, by its place in the table where it is a leaf
-abbrev pub Known : Opened → Type 0
-Known (OFixed k) = k < 7
-Known (OText k) = Unit {0}
-Known (OList c) = Unit {0}
-Known (OMap k v) = Unit {0}
-Known (OStruct f n) = Unit {0}
-Known ONothing = ⊥
+-- the entry of a leaf of a fixed width, and its seat
+pub record FixedIn (w : ℕ) : Type 0 where
+  pub lined : Lined w
+  pub fixed : placeIn w < 7
 
--- a null of that type in its seat
+pub record FixedSeat (row : List ℕ) (w : ℕ) (s : Seat) : Type 0 where
+  pub leaf : FixedIn w
+  pub seat : SeatIn row (widthIn w) s
+
+-- a null of a type that was taken apart, in its seat
 pub record NullThere (row : List ℕ) (x : Opened) (s : Seat) : Type 0 where
-  pub known : Known x
-  pub seated : SeatIn row (wideX x) s
+  pub known : Kinded x
+  pub seated : SeatIn row (widthIn (x .entry)) s
 
--- a place of that type
+-- a place
 pub record PlaceThere (row : List ℕ) (p : Place) : Type 0 where
-  pub known : Known (p .opened)
+  pub known : Kinded (p .opened)
   pub within : p .start + p .len ≤ length row
   pub seated : Seated row (p .opened) (p .seat)
 
--- an accepted schema, and a row of at most 16,384 bytes that stands for contents of it
-pub record Checked (s row : List ℕ) : Type 0 where
-  pub schema : judged s ≡ Accepted
+-- a schema's table, and a row of at most 16,384 bytes that stands for contents of the schema
+pub record Checked (t row : List ℕ) : Type 0 where
+  pub table : Table t
   pub short : length row ≤ 16384
-  pub sound : faultAt (ro (fieldsOf s)) row ≡ none
+  pub sound : faultAt (ro (fieldsOf (schemaOf t))) row ≡ none

@@ -1,4 +1,4 @@
-// Setting a leaf of a fixed width, by its place in the table.
+// Setting a leaf of a fixed width, by its type's entry w.
 use answers::Given;
 use answers::Outcome;
 use answers::Refusal;
@@ -7,12 +7,12 @@ ghost use mathlib.Core.Path.{_≡_};
 ghost use mathlib.Core.List.{List};
 ghost use Prim.Native.Nat.{ℕ, _<_};
 ghost use Rattle.words.specs.Bits.{digit};
-ghost use Rattle.schema.specs.Marks.{line};
 ghost use Rattle.schema.specs.Types.{fixedAt};
+ghost use Rattle.table.specs.Words.{placeIn};
 ghost use Rattle.layout.specs.Setting as S;
 ghost use Rattle.answers.specs.Meaning.{givenMeans};
-ghost use Rattle.reading.specs.Children.{seatAs, SeatIn};
-ghost use Rattle.setting.specs.Writes.{LeafIs, SetAs, fixedOutcome};
+ghost use Rattle.reading.specs.Children.{seatAs};
+ghost use Rattle.setting.specs.Writes.{FixedIn, FixedSeat, LeafIs, SetAs, fixedOutcome};
 use crate::Leaf;
 use crate::puts;
 
@@ -26,26 +26,27 @@ fn of_bool(k: usize, v: bool) -> Leaf
     requires { ⌜ k < 7 ⌝ }
     ensures { λ r. ⌜ LeafIs (fixedAt k) (S.bool v) r ⌝ }
 {
-    if k == 0 {
+    if k == table::BOOL {
         return Leaf::Bits(digit_of(v));
     }
     Leaf::Unfit
 }
 
 // An integer place whose range holds it takes a signed number, in the place's own width: the rest of a slot has no sign.
-fn of_number(k: usize, z: i64) -> Leaf
-    requires { ⌜ k < 7 ⌝ }
-    ensures { λ r. ⌜ LeafIs (fixedAt k) (S.signed z) r ⌝ }
+fn of_number(w: u64, z: i64) -> Leaf
+    requires { ⌜ FixedIn w ⌝ }
+    ensures { λ r. ⌜ LeafIs (fixedAt (placeIn w)) (S.signed z) r ⌝ }
 {
-    if k == 0 {
+    let k = table::place(w);
+    if k == table::BOOL {
         return Leaf::Unfit;
     }
-    if 4 < k {
+    if table::INT64 < k {
         return Leaf::Unfit;
     }
-    let w = schema::width_of(k);
-    if words::signed::in_range(z, w) {
-        return Leaf::Bits(words::signed::of_signed(z, w));
+    let wide = table::width(w);
+    if words::signed::in_range(z, wide) {
+        return Leaf::Bits(words::signed::of_signed(z, wide));
     }
     Leaf::Unfit
 }
@@ -54,7 +55,7 @@ fn of_float32(k: usize, b: u32) -> Leaf
     requires { ⌜ k < 7 ⌝ }
     ensures { λ r. ⌜ LeafIs (fixedAt k) (S.float32 b) r ⌝ }
 {
-    if k == 5 {
+    if k == table::FLOAT32 {
         return Leaf::Bits(b as u64);
     }
     Leaf::Unfit
@@ -64,32 +65,34 @@ fn of_float64(k: usize, b: u64) -> Leaf
     requires { ⌜ k < 7 ⌝ }
     ensures { λ r. ⌜ LeafIs (fixedAt k) (S.float64 b) r ⌝ }
 {
-    if k == 6 {
+    if k == table::FLOAT64 {
         return Leaf::Bits(b);
     }
     Leaf::Unfit
 }
 
-fn leaf_of(k: usize, g: Given) -> Leaf
-    requires { ⌜ k < 7 ⌝ }
-    ensures { λ r. ⌜ ((u : List ℕ) → LeafIs (fixedAt k) (givenMeans g u) r) ⌝ }
+fn leaf_of(w: u64, g: Given) -> Leaf
+    requires { ⌜ FixedIn w ⌝ }
+    ensures { λ r. ⌜ ((u : List ℕ) → LeafIs (fixedAt (placeIn w)) (givenMeans g u) r) ⌝ }
 {
     match g {
         Given::Null => Leaf::Null,
-        Given::Bool(v) => of_bool(k, v),
-        Given::Number(z) => of_number(k, z),
-        Given::Float32(b) => of_float32(k, b),
-        Given::Float64(b) => of_float64(k, b),
+        Given::Bool(v) => of_bool(table::place(w), v),
+        Given::Number(z) => of_number(w, z),
+        Given::Float32(b) => of_float32(table::place(w), b),
+        Given::Float64(b) => of_float64(table::place(w), b),
         Given::Bytes => Leaf::Unfit,
     }
 }
 
 // A leaf of a fixed width, null or not.
-pub fn set_fixed(row: &mut [u8], seat: Seat, k: usize, g: Given) -> Outcome
-    requires { ⌜ (k < 7) × (SeatIn (now row) (line k .width) seat) ⌝ }
-    ensures { λ r. ⌜ ((u : List ℕ) → SetAs (fixedOutcome (fixedAt k) (givenMeans g u) (seatAs seat) (now (row .entry))) (now (row .entry)) (now (row .exit)) r) ⌝ }
+pub fn set_fixed(row: &mut [u8], seat: Seat, w: u64, g: Given) -> Outcome
+    requires { ⌜ FixedSeat (now row) w seat ⌝ }
+    ensures { λ r. ⌜ ((u : List ℕ) → SetAs
+        (fixedOutcome (fixedAt (placeIn w)) (givenMeans g u) (seatAs seat) (now (row .entry)))
+        (now (row .entry)) (now (row .exit)) r) ⌝ }
 {
-    match leaf_of(k, g) {
+    match leaf_of(w, g) {
         Leaf::Unfit => Outcome::Refused(Refusal::Unfit),
         Leaf::Null => {
             puts::put_null(row, seat);

@@ -5,7 +5,7 @@ use answers::Path;
 use answers::Refusal;
 use answers::Setting;
 use reading::Found;
-use schema::Judged;
+ghost use Rattle.table.specs.Tables.{schemaOf};
 ghost use Rattle.layout.specs.Entries.{setOf};
 ghost use Rattle.answers.specs.Meaning.{settingOf, givenMeans};
 ghost use Rattle.answers.specs.Paths.{pathOf};
@@ -23,38 +23,28 @@ pub enum Leaf {
     Bits(u64),
 }
 
-// In a checked row: the refusals of the place, then those of the value.
-fn set_in(schema: &[u8], row: &mut [u8], path: Path, g: Given, bytes: &[u8]) -> Outcome
-    requires { ⌜ Checked (now schema) (now row) ⌝ }
-    ensures { λ r. ⌜ SetAs (setOf (now (schema .entry)) (now (row .entry)) (pathOf path) (givenMeans g (now (bytes .entry)))) (now (row .entry)) (now (row .exit)) r ⌝ }
+// The refusals of the place, then those of the value.
+fn set_in(t: &[u64], row: &mut [u8], path: Path, g: Given, bytes: &[u8]) -> Outcome
+    requires { ⌜ Checked (now t) (now row) ⌝ }
+    ensures { λ r. ⌜ SetAs
+        (setOf (schemaOf (now (t .entry))) (now (row .entry)) (pathOf path) (givenMeans g (now (bytes .entry))))
+        (now (row .entry)) (now (row .exit)) r ⌝ }
 {
-    match reading::find(schema, row, path) {
+    match reading::find(t, row, path) {
         Found::NoPlace => Outcome::Refused(Refusal::NoPlace),
         Found::NullBefore => Outcome::Refused(Refusal::NullBefore),
         Found::Broken(place) => Outcome::Refused(Refusal::Layout { place }),
-        Found::Null(x, _, seat) => nulls::set_null(row, x, seat, g),
+        Found::Null(x, seat) => nulls::set_null(row, x, seat, g),
         Found::At(p) => present::set_place(row, p, g, bytes),
     }
 }
 
-// One leaf of a row, set by its path: the refusals in their order, and the row as it was after each of them.
-pub fn set(schema: &[u8], row: &mut [u8], path: Path, value: Setting, bytes: &[u8]) -> Outcome
-    ensures { λ r. ⌜ SetAs (setOf (now (schema .entry)) (now (row .entry)) (pathOf path) (settingOf value (now (bytes .entry)))) (now (row .entry)) (now (row .exit)) r ⌝ }
+// One leaf of a row that was checked, set by its path: the refusals in their order, and the row as it was after each of them.
+pub fn set(t: &[u64], row: &mut [u8], path: Path, value: Setting, bytes: &[u8]) -> Outcome
+    requires { ⌜ Checked (now t) (now row) ⌝ }
+    ensures { λ r. ⌜ SetAs
+        (setOf (schemaOf (now (t .entry))) (now (row .entry)) (pathOf path) (settingOf value (now (bytes .entry))))
+        (now (row .entry)) (now (row .exit)) r ⌝ }
 {
-    match schema::judge(schema) {
-        Judged::Accepted => {}
-        Judged::Refused => {
-            return Outcome::Refused(Refusal::Schema);
-        }
-    }
-    if 16384 < row.len() {
-        return Outcome::Refused(Refusal::TooLong);
-    }
-    match checking::check_row(schema, row) {
-        checking::Checked::Sound => {}
-        checking::Checked::Broken { place } => {
-            return Outcome::Refused(Refusal::Layout { place });
-        }
-    }
-    set_in(schema, row, path, answers::settings::given(value), bytes)
+    set_in(t, row, path, answers::settings::given(value), bytes)
 }

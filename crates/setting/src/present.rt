@@ -3,7 +3,6 @@ use answers::Given;
 use answers::Outcome;
 use answers::Refusal;
 use reading::Place;
-use schema::Opened;
 ghost use mathlib.Core.List.{List};
 ghost use Prim.Native.Nat.{ℕ, _+_, _≤_};
 ghost use lib.ListN.{length};
@@ -35,18 +34,19 @@ fn set_text(row: &mut [u8], start: usize, len: usize, g: Given, bytes: &[u8]) ->
     }
 }
 
-// A place that is not null.
+// A place that is not null: a container takes nothing.
 pub fn set_place(row: &mut [u8], p: Place, g: Given, bytes: &[u8]) -> Outcome
     requires { ⌜ PlaceThere (now row) p ⌝ }
-    ensures { λ r. ⌜ ((s : List ℕ) → SetAs (leafOutcome (placeTy s p) (givenMeans g (now (bytes .entry))) (seen (seatAs (p .seat)) (p .start) (bytesOf (now (row .entry)) p)) (now (row .entry))) (now (row .entry)) (now (row .exit)) r) ⌝ }
+    ensures { λ r. ⌜ ((t : List ℕ) → SetAs
+        (leafOutcome (placeTy t p) (givenMeans g (now (bytes .entry))) (seen (seatAs (p .seat)) (p .start) (bytesOf (now (row .entry)) p)) (now (row .entry)))
+        (now (row .entry)) (now (row .exit)) r) ⌝ }
 {
     let x = p.opened;
-    match x {
-        Opened::Fixed(k) => leaves::set_fixed(row, p.seat, k, g),
-        Opened::Text(_) => set_text(row, p.start, p.len, g, bytes),
-        Opened::List(_) => Outcome::Refused(Refusal::Unfit),
-        Opened::Map(_, _) => Outcome::Refused(Refusal::Unfit),
-        Opened::Struct(_, _) => Outcome::Refused(Refusal::Unfit),
-        Opened::Nothing => Outcome::Refused(Refusal::Unfit),
+    if x.kind < table::STRING {
+        return leaves::set_fixed(row, p.seat, x.entry, g);
     }
+    if x.kind < table::LIST {
+        return set_text(row, p.start, p.len, g, bytes);
+    }
+    Outcome::Refused(Refusal::Unfit)
 }

@@ -1,21 +1,17 @@
 -- What an entry says is what was put into it. Assumes nothing.
 use mathlib.Core.Path.{_≡_, refl, ap, sym, _∙_}
-use mathlib.Core.List.{List, [], _∷_, _++_}
-use Prim.Native.Nat.{ℕ, _+_, _*_, _/_, _%_, _≤_, _<_}
+use mathlib.Core.List.{[], _∷_, _++_}
+use Prim.Native.Nat.{ℕ, _+_, _*_, _-_, _/_, _%_, _≤_, _<_}
 use native.Mathlib.Omega.{arith}
-use lib.Dec.{lit<}
 use borrow.Author.Tests.{eq-eqb, ne-eqb, lt-ltb, le-ltb}
 use Rattle.words.specs.Bytes.{num}
 use Rattle.schema.specs.Marks.{types, line, markAt, elementWidth}
-use Rattle.schema.proofs.Table.{each}
+use Rattle.schema.proofs.Table.{agree}
 use Rattle.table.specs.Words.{topBit, lower, lineWord, word, markIn, topIn, widthIn, placeIn, depthIn, countIn, firstIn, afterIn, bytesIn, Lined}
-
--- twelve lines, one by one
-abbrev Twelve : (ℕ → Type 0) → Type 0
-Twelve P = P 0 × (P 1 × (P 2 × (P 3 × (P 4 × (P 5 × (P 6 × (P 7 × (P 8 × (P 9 × (P 10 × (P 11 × Unit {0})))))))))))
 
 -- a line's word below its kind
 pub record Below (k : ℕ) : Type 0 where
+  pub some : 0 < lower k
   pub small : lower k < 67108864
   pub first : lower k % 256 ≡ line k .first
   pub second : lower k / 256 % 256 ≡ line k .second
@@ -23,45 +19,20 @@ pub record Below (k : ℕ) : Type 0 where
   pub top : lower k / 65536 % 64 ≡ topBit k
   pub width : lower k / 4194304 ≡ line k .width
 
-computed : Twelve Below
-unfolding lower types markAt num
-computed = (
-  record { small = lit< tt; first = refl; second = refl; mark = refl; top = refl; width = refl },
-  (
-    record { small = lit< tt; first = refl; second = refl; mark = refl; top = refl; width = refl },
-    (
-      record { small = lit< tt; first = refl; second = refl; mark = refl; top = refl; width = refl },
-      (
-        record { small = lit< tt; first = refl; second = refl; mark = refl; top = refl; width = refl },
-        (
-          record { small = lit< tt; first = refl; second = refl; mark = refl; top = refl; width = refl },
-          (
-            record { small = lit< tt; first = refl; second = refl; mark = refl; top = refl; width = refl },
-            (
-              record { small = lit< tt; first = refl; second = refl; mark = refl; top = refl; width = refl },
-              (
-                record { small = lit< tt; first = refl; second = refl; mark = refl; top = refl; width = refl },
-                (
-                  record { small = lit< tt; first = refl; second = refl; mark = refl; top = refl; width = refl },
-                  (
-                    record { small = lit< tt; first = refl; second = refl; mark = refl; top = refl; width = refl },
-                    (
-                      record { small = lit< tt; first = refl; second = refl; mark = refl; top = refl; width = refl },
-                      (record { small = lit< tt; first = refl; second = refl; mark = refl; top = refl; width = refl }, tt),
-                    ),
-                  ),
-                ),
-              ),
-            ),
-          ),
-        ),
-      ),
-    ),
-  ),
-)
-
 pub below : (k : ℕ) → k < 12 → Below k
-below = each Below 12 computed
+unfolding lower types markAt num
+below k h =
+    let some : 1 - lower k ≡ 0 = agree (λ k. 1 - lower k) (λ k. 0) 12 refl k h in
+    let small : lower k / 67108864 ≡ 0 = agree (λ k. lower k / 67108864) (λ k. 0) 12 refl k h in
+    record {
+      some = omega arith;
+      small = omega arith;
+      first = agree (λ k. lower k % 256) (λ k. line k .first) 12 refl k h;
+      second = agree (λ k. lower k / 256 % 256) (λ k. line k .second) 12 refl k h;
+      mark = agree (λ k. lower k % 65536) (λ k. num (markAt k)) 12 refl k h;
+      top = agree (λ k. lower k / 65536 % 64) topBit 12 refl k h;
+      width = agree (λ k. lower k / 4194304) (λ k. line k .width) 12 refl k h;
+    }
 
 pub lower-small : (k : ℕ) → k < 12 → lower k < 67108864
 lower-small k h = below k h .small

@@ -1,26 +1,24 @@
 -- Types read one after the other and laid into a table: what filling does at a leaf, at a container, and at what is no type. Assumes nothing.
 use mathlib.Core.Path.{_≡_, refl, ap, sym, _∙_, subst}
 use mathlib.Core.List.{List, [], _∷_, _++_, append-nil}
-use Prim.Native.Nat.{ℕ, zero, suc, _+_, _*_, _-_, _/_, _%_, _<_, _≤_}
+use Prim.Native.Nat.{ℕ, zero, suc, _+_, _*_, _-_, _%_, _<_, _≤_}
 use native.Mathlib.Omega.{arith}
 use native.Mathlib.Numerals.{add-one}
-use lib.ListN.{length, drop, getD, set, length-set}
-use lib.Seq.{sets, set-set, set-comm, getD-set-same, getD-set-other, length-sets}
+use lib.ListN.{length, drop, getD, set}
+use lib.Seq.{sets, set-set, getD-set-same, getD-set-other}
 use Rattle.words.proofs.Runs.{sets-append, sets-comm}
-use Rattle.schema.specs.Types.{Ty, fix, text, li, ma, ro, Tys, end, _then_, count, fixedPlace, textPlace, fixedAt, textAt}
-use Rattle.schema.specs.Kinds.{kindAt}
+use Rattle.schema.specs.Types.{Ty, li, ma, ro, Tys, end, _then_, count, fixedAt, textAt}
+use Rattle.schema.specs.Kinds.{kindAt, fixedKind, textKind, listKind, mapKind, structKind, noKind, pick}
 use Rattle.schema.specs.Reading.{Parsed, none, some, ParsedAll, nones, somes, after, afters, parse, parseAll, parseRo}
 use Rattle.schema.specs.Walk.{size, sizes}
-use Rattle.schema.specs.declared.Kind.the-variants.{Fixed as FixedK, Text as TextK, List as ListK, Map as MapK, Struct as StructK, Nothing}
 use mathlib.Core.Logic.{_⊎_, inl, inr}
 use lib.Dec.{leb}
 use mathlib.Core.Bool.{Bool, true, false}
-use borrow.Author.Tests.{le-leb, lt-leb}
-use Rattle.schema.specs.Kinds.{pick}
+use borrow.Author.Tests.{le-leb}
 use Rattle.schema.proofs.Parse.{SoundAll, sound, all-sound}
 use Rattle.schema.proofs.Table.{place-fixed, place-text}
-use Rattle.schema.proofs.Laws.{Left, left, all-more, all-none, step-fixed, step-text, step-li, step-ma, step-ro, step-none, size-fixed, size-text, size-li}
-use Rattle.schema.proofs.Laws.{size-ma, size-ro, sizes-done, sizes-more}
+use Rattle.schema.proofs.Laws.{Left, left, all-more, all-none, step-fixed, step-text, step-li, step-ma, step-ro, step-none, step-few, step-many}
+use Rattle.schema.proofs.Laws.{size-fixed, size-text, size-li, size-ma, size-ro, sizes-done, sizes-more}
 use Rattle.table.specs.Words.{word}
 use Rattle.table.specs.Tables.{many, manys, entries, entriesAll}
 use Rattle.table.proofs.Decode.{word-after}
@@ -121,7 +119,7 @@ unfolding entries many
 ma-entries K U e i = ap (λ (u : List ℕ). word 10 e 2 i (i + suc (many K + many U)) ∷ (entries (e + 1) (i + 1) K ++ u))
     (sym (append-nil (entries (e + 1) (i + 1 + many K) U)))
 
-ro-many : (ts : Tys) → many (ro ts) ≡ suc (manys ts)
+pub ro-many : (ts : Tys) → many (ro ts) ≡ suc (manys ts)
 unfolding many
 ro-many ts = refl
 
@@ -165,14 +163,15 @@ pub record Stand (s T : List ℕ) (at i D e : ℕ) : Type 0 where
   pub depth : e < 16
 
 module _ (s : List ℕ) (at i n D e : ℕ) (T : List ℕ) (h : Stand s T at i D e) (l : 0 < n) where
-  pub fill-none : kindAt s at ≡ Nothing → fill s at i n D e T ≡ nothing
+  pub fill-none : kindAt s at ≡ noKind → fill s at i n D e T ≡ nothing
   fill-none k = fill-more s at i n D e T l ∙ rw (step-none s at D (h .fuel) k)
 
-  pub fill-fixed : (k : ℕ) → k < 7 → kindAt s at ≡ FixedK k → fill s at i n D e T ≡ fill s (at + 2) (i + 1) (n - 1) D e (set T i (word k e 0 i (i + 1)))
+  pub fill-fixed : (k : ℕ) → k < 7 → kindAt s at ≡ fixedKind k → fill s at i n D e T ≡ fill s (at + 2) (i + 1) (n - 1) D e (set T i (word k e 0 i (i + 1)))
   unfolding entries many
   fill-fixed k lo q = fill-more s at i n D e T l ∙ rw (step-fixed s at D (h .fuel) k q, size-fixed (fixedAt k), place-fixed k lo)
 
-  pub fill-text : (k : ℕ) → 7 ≤ k → k < 9 → kindAt s at ≡ TextK k → fill s at i n D e T ≡ fill s (at + 2) (i + 1) (n - 1) D e (set T i (word k e 0 i (i + 1)))
+  pub fill-text : (k : ℕ) → 7 ≤ k → k < 9 → kindAt s at ≡ textKind k → fill s at i n D e T ≡ fill s (at + 2) (i + 1) (n - 1) D e
+      (set T i (word k e 0 i (i + 1)))
   unfolding entries many
   fill-text k lo hi q = fill-more s at i n D e T l ∙ rw (step-text s at D (h .fuel) k q, size-text (textAt k), place-text k lo hi)
 
@@ -197,7 +196,7 @@ module _ (s : List ℕ) (at i n D e : ℕ) (T : List ℕ) (h : Stand s T at i D 
   abbrev on : Ty → Filled
   on X = fill s (at + size X) (i + many X) (n - 1) D e (sets T i (entries e i X))
 
-  pub fill-li : kindAt s at ≡ ListK → Opens 9 1 (at + 2)
+  pub fill-li : kindAt s at ≡ listKind → Opens 9 1 (at + 2)
   unfolding fill
   fill-li q =
       let p = step-li s at D (h .fuel) q in
@@ -218,7 +217,7 @@ module _ (s : List ℕ) (at i n D e : ℕ) (T : List ℕ) (h : Stand s T at i D 
       go none z = refl
       go (some X r) z = one X r (z .room) ∙ rw (none-left (parse (D - 1)) r)
 
-  pub fill-ro : kindAt s at ≡ StructK → (c : ℕ) → c ≡ getD s (at + 2) 0 → 1 ≤ c → c ≤ 128 → Opens 11 c (at + 3)
+  pub fill-ro : kindAt s at ≡ structKind → (c : ℕ) → c ≡ getD s (at + 2) 0 → 1 ≤ c → c ≤ 128 → Opens 11 c (at + 3)
   unfolding fill parseRo
   fill-ro q c ec lo hi =
       let p : parse D (drop at s) ≡ afters (parseAll (parse (D - 1)) c (drop (at + 3) s)) none (λ ts q. some (ro ts) q) = step-ro s at D (h .fuel) q ∙ rw
@@ -234,16 +233,14 @@ module _ (s : List ℕ) (at i n D e : ℕ) (T : List ℕ) (h : Stand s T at i D 
       go (somes ts r) y z = same (ro ts) ts 11 c (at + 3) (z .room) (omega arith) (omega arith) (omega (arith, size-ro ts)) (ro-many ts)
           (ro-entries ts c (y .many) e i)
 
-  pub fill-few : kindAt s at ≡ StructK → (c : ℕ) → c ≡ getD s (at + 2) 0 → (c < 1) ⊎ (128 < c) → fill s at i n D e T ≡ nothing
-  unfolding parseRo
-  fill-few q c ec z = fill-more s at i n D e T l ∙ rw (step-ro s at D (h .fuel) q, ← ec) (go z)
+  pub fill-few : kindAt s at ≡ structKind → (getD s (at + 2) 0 < 1) ⊎ (128 < getD s (at + 2) 0) → fill s at i n D e T ≡ nothing
+  fill-few q z = fill-more s at i n D e T l ∙ rw (go z)
     where
-      go : (c < 1) ⊎ (128 < c) → after (pick (leb 1 c) (pick (leb c 128)
-          (afters (parseAll (parse (D - 1)) c (drop (at + 3) s)) none (λ ts q. some (ro ts) q)) none) none) nothing (λ X r. on X) ≡ nothing
-      go (inl y) = rw (lt-leb 1 c y)
-      go (inr y) = rw (le-leb 1 c (omega arith), lt-leb c 128 y)
+      go : (getD s (at + 2) 0 < 1) ⊎ (128 < getD s (at + 2) 0) → parse D (drop at s) ≡ none
+      go (inl y) = step-few s at D (h .fuel) q y
+      go (inr y) = step-many s at D (h .fuel) q y
 
-  pub fill-ma : kindAt s at ≡ MapK → Opens 10 2 (at + 2)
+  pub fill-ma : kindAt s at ≡ mapKind → Opens 10 2 (at + 2)
   unfolding fill
   fill-ma q =
       let p = step-ma s at D (h .fuel) q in
@@ -273,7 +270,7 @@ module _ (s : List ℕ) (at i n D e : ℕ) (T : List ℕ) (h : Stand s T at i D 
       go (some K r) z = rw (one-left (parse (D - 1)) r) (two K (parse (D - 1) r) z)
 
   -- at the greatest depth no container has room for its children's types
-  pub fill-stop : D ≡ 1 → (kindAt s at ≡ ListK) ⊎ ((kindAt s at ≡ MapK) ⊎ (kindAt s at ≡ StructK)) → fill s at i n D e T ≡ nothing
+  pub fill-stop : D ≡ 1 → (kindAt s at ≡ listKind) ⊎ ((kindAt s at ≡ mapKind) ⊎ (kindAt s at ≡ structKind)) → fill s at i n D e T ≡ nothing
   fill-stop z (inl q) = fill-more s at i n D e T l ∙ rw (step-li s at D (h .fuel) q, z) (unfold parse in refl)
   fill-stop z (inr (inl q)) = fill-more s at i n D e T l ∙ rw (step-ma s at D (h .fuel) q, z) (unfold parse in refl)
   fill-stop z (inr (inr q)) = fill-more s at i n D e T l ∙ rw (step-ro s at D (h .fuel) q) (shut-at D (getD s (at + 2) 0) (drop (at + 3) s) (λ X r. on X) z)

@@ -1,9 +1,10 @@
 pub mod Decode
 pub mod Spots
-pub mod Flat
 pub mod Places
 pub mod Got
 pub mod Filling
 pub mod Running
 pub mod Lines
 pub mod Building
+pub mod Opening
+pub mod Rooting

@@ -2,95 +2,71 @@
 -- Assumes nothing.
 use mathlib.Core.Path.{_≡_, refl, ap, sym, _∙_, subst}
 use mathlib.Core.Bool.{Bool, true, false, cond}
-use mathlib.Core.List.{List, [], _∷_}
+use mathlib.Core.List.{List}
 use Prim.Native.Nat.{ℕ, _+_, _*_, _-_, _/_, _%_, _≤_, _<_}
 use native.Mathlib.Omega.{arith}
 use native.Mathlib.Decide.{decLt}
-use lib.Dec.{eqb, ltb, leb, lit<}
+use lib.Dec.{eqb, ltb, leb}
 use lib.ListN.{length, getD, List·getD-eq-default}
-use borrow.Author.Tests.{eq-eqb, ne-eqb, lt-ltb, le-ltb, le-leb, lt-leb, leb-true}
+use borrow.Author.Tests.{ltb-true, eq-eqb, ne-eqb, lt-ltb, le-ltb, le-leb, lt-leb, leb-true}
 use Rattle.schema.specs.Marks.{types, line}
 use Rattle.schema.specs.Kinds.{find, placeOf}
-use Rattle.schema.proofs.Table.{each}
+use Rattle.schema.proofs.Table.{agree}
 use Rattle.schema.proofs.Search.{place-marks}
 use Rattle.table.specs.Words.{lower, lineWord, lineAt, linesOf, heldAt, behindAt}
 
 abbrev hash : ℕ → ℕ
 hash m = m * 109 / 1024 % 16
 
--- the whole table, computed: each line's mark leads to its word
+-- computed for each line: its mark leads to its word, which has that mark
 own : (k : ℕ) → k < 12 → getD linesOf (hash (line k .first + 256 * line k .second)) 0 ≡ lineWord k
 unfolding linesOf lineWord lower types
-own = each (λ k. getD linesOf (hash (line k .first + 256 * line k .second)) 0 ≡ lineWord k) 12
-    (refl, (refl, (refl, (refl, (refl, (refl, (refl, (refl, (refl, (refl, (refl, (refl, tt))))))))))))
+own = agree (λ k. getD linesOf (hash (line k .first + 256 * line k .second)) 0) lineWord 12 refl
 
 own-mark : (k : ℕ) → k < 12 → lineWord k % 65536 ≡ line k .first + 256 * line k .second
-unfolding linesOf lineWord lower types
-own-mark = each (λ k. lineWord k % 65536 ≡ line k .first + 256 * line k .second) 12
-    (refl, (refl, (refl, (refl, (refl, (refl, (refl, (refl, (refl, (refl, (refl, (refl, tt))))))))))))
+unfolding lineWord lower types
+own-mark = agree (λ k. lineWord k % 65536) (λ k. line k .first + 256 * line k .second) 12 refl
 
 -- and each word that stands where its own mark leads has a mark of the table
 abbrev v : ℕ → ℕ
 v h = getD linesOf h 0 % 65536
 
-no-mark : (h : ℕ) → 0 < h → 0 ≡ h → placeOf 0 0 < 12
-no-mark h l e = absurd (omega arith)
+has-mark : (h : ℕ) → h < 16 → cond (eqb (hash (v h)) h) (ltb (placeOf (v h % 256) (v h / 256)) 12) true ≡ true
+unfolding linesOf types placeOf find
+has-mark = agree (λ h. cond (eqb (hash (v h)) h) (ltb (placeOf (v h % 256) (v h / 256)) 12) true) (λ h. true) 16 refl
 
 known : (h : ℕ) → h < 16 → hash (v h) ≡ h → placeOf (v h % 256) (v h / 256) < 12
-unfolding linesOf types placeOf find
-known = each (λ h. hash (v h) ≡ h → placeOf (v h % 256) (v h / 256) < 12) 16 (
-  (λ e. lit< tt),
-  (
-    (λ e. lit< tt),
-    (
-      (λ e. lit< tt),
-      (
-        (λ e. lit< tt),
-        (
-          (λ e. lit< tt),
-          (
-            (λ e. lit< tt),
-            (
-              (λ e. no-mark 6 (lit< tt) e),
-              (
-                (λ e. lit< tt),
-                (
-                  (λ e. lit< tt),
-                  (
-                    (λ e. no-mark 9 (lit< tt) e),
-                    (
-                      (λ e. no-mark 10 (lit< tt) e),
-                      (
-                        (λ e. lit< tt),
-                        (
-                          (λ e. lit< tt),
-                          ((λ e. lit< tt), ((λ e. lit< tt), ((λ e. no-mark 15 (lit< tt) e), tt))),
-                        ),
-                      ),
-                    ),
-                  ),
-                ),
-              ),
-            ),
-          ),
-        ),
-      ),
-    ),
-  ),
-)
+known h l e = ltb-true (placeOf (v h % 256) (v h / 256)) 12 (rw (eq-eqb (hash (v h)) h e) at (has-mark h l))
 
-module _ (a b m w : ℕ) (em : m ≡ a + 256 * b) (ha : a < 256) (hb : b < 256) (e : w ≡ getD linesOf (hash m) 0) where
+-- the mark numbered m is a b, and w the word to which it leads
+pub record Led (a b m w : ℕ) : Type 0 where
+  pub number : m ≡ a + 256 * b
+  pub one : a < 256
+  pub two : b < 256
+  pub leads : w ≡ getD linesOf (m * 109 / 1024 % 16) 0
+
+pub led : {a b x y w : ℕ} {l : List ℕ} → (x ≡ a) × (x < 256) → (y ≡ b) × (y < 256) → l ≡ linesOf
+    → w ≡ getD l ((x + 256 * y) * 109 / 1024 % 16) 0 → Led a b (x + 256 * y) w
+led {a} {b} {x} {y} p q e f = record {
+  number = omega (arith, p .0, q .0);
+  one = omega (arith, p .0, p .1);
+  two = omega (arith, q .0, q .1);
+  leads = f ∙ ap (λ (l : List ℕ). getD l ((x + 256 * y) * 109 / 1024 % 16) 0) e;
+}
+
+module _ {a b m w : ℕ} (l : Led a b m w) where
   word-is : placeOf a b < 12 → w ≡ lineWord (placeOf a b)
   word-is h =
       let q = place-marks a b h in
-      let n : line (placeOf a b) .first + 256 * line (placeOf a b) .second ≡ m = rw (q .first, q .second) (sym em) in
-      e ∙ sym (ap (λ (u : ℕ). getD linesOf (hash u) 0) n) ∙ own (placeOf a b) h
+      let n : line (placeOf a b) .first + 256 * line (placeOf a b) .second ≡ m = rw (q .first, q .second) (sym (l .number)) in
+      l .leads ∙ sym (ap (λ (u : ℕ). getD linesOf (hash u) 0) n) ∙ own (placeOf a b) h
 
   pub line-is : w % 65536 ≡ m → w ≡ lineAt a b
   unfolding lineAt
   line-is q =
-      let s : v (hash m) ≡ m = ap (λ (u : ℕ). u % 65536) (sym e) ∙ q in
-      let p : placeOf (m % 256) (m / 256) < 12 = subst (λ (u : ℕ). placeOf (u % 256) (u / 256) < 12) s (known (hash m) (omega arith) (ap hash s)) in
+      let s : v (hash m) ≡ m = ap (λ (u : ℕ). u % 65536) (sym (l .leads)) ∙ q in
+      let p : placeOf (m % 256) (m / 256) < 12 =
+      subst (λ (u : ℕ). placeOf (u % 256) (u / 256) < 12) s (known (hash m) (omega arith) (ap hash s)) in
       let x : m % 256 ≡ a = omega arith in
       let y : m / 256 ≡ b = omega arith in
       let r : placeOf a b < 12 = rw (← x, ← y) p in
@@ -103,7 +79,7 @@ module _ (a b m w : ℕ) (em : m ≡ a + 256 * b) (ha : a < 256) (hb : b < 256) 
       go : Dec (placeOf a b < 12) → 0 ≡ cond (ltb (placeOf a b) 12) (lineWord (placeOf a b)) 0
       go (yes h) =
           let q = place-marks a b h in
-          absurd (n (ap (λ (u : ℕ). u % 65536) (word-is h) ∙ own-mark (placeOf a b) h ∙ rw (q .first, q .second) (sym em)))
+          absurd (n (ap (λ (u : ℕ). u % 65536) (word-is h) ∙ own-mark (placeOf a b) h ∙ rw (q .first, q .second) (sym (l .number))))
       go (no h) = rw (le-ltb (placeOf a b) 12 (omega arith))
 
 -- ---- what a container holds

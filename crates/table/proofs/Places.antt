@@ -2,21 +2,21 @@
 -- type's place in the table of types and its count, and leads to the first child and to what stands behind the type. Assumes nothing.
 use mathlib.Core.Path.{_≡_, refl, ap, sym, _∙_, subst}
 use mathlib.Core.List.{List, [], _∷_, _++_, append-assoc, append-nil}
-use Prim.Native.Nat.{ℕ, zero, suc, _+_, _*_, _-_, _<_, _≤_}
+use Prim.Native.Nat.{ℕ, suc, _+_, _*_, _<_, _≤_}
 use native.Mathlib.Decide.{decLt}
 use native.Mathlib.Omega.{arith}
 use lib.Dec.{T}
-use lib.ListN.{length, take, drop, getD, length-append, drop-of-length-le}
+use lib.ListN.{length, take, drop, getD, length-append}
 use native.Mathlib.Numerals.{add-one}
 use lib.Seq.{take-all, take-at, drop-at, getD-at, getD-drop, take-suc}
 use Rattle.schema.specs.Marks.{markAt}
-use Rattle.schema.specs.Types.{Fixed, Text, Ty, fix, text, li, ma, ro, Tys, end, _then_, count, fixedPlace, textPlace, mark, place}
-use Rattle.schema.specs.House.{schema, schemas, depth, Right}
-use Rattle.schema.specs.Kinds.{placeAt, headKind}
-use Rattle.schema.specs.Reading.{Parsed, none, some, after, parse, judged}
+use Rattle.schema.specs.Types.{Ty, fix, text, li, ma, ro, Tys, end, _then_, count, mark, place}
+use Rattle.schema.specs.House.{schema, depth, Right}
+use Rattle.schema.specs.Kinds.{placeAt}
+use Rattle.schema.specs.Reading.{some, parse, judged}
 use Rattle.schema.specs.declared.Judged.the-variants.{Accepted}
 use Rattle.schema.specs.Walk.{size, sizes, Typed, typeAt, nextAt, fieldsOf}
-use Rattle.schema.proofs.Table.{fixed-high, text-low, text-high}
+use Rattle.schema.proofs.Table.{fixed-high, text-high}
 use Rattle.schema.proofs.Parse.{complete}
 use Rattle.schema.proofs.Laws.{size-fixed, size-text, size-li, size-ma, size-ro, sizes-done, sizes-more, size-two}
 use Rattle.schema.proofs.Typing.{typed-deeper, typed-room, next-is}
@@ -25,8 +25,7 @@ use Rattle.schema.proofs.Judging.{accepted-root}
 use Rattle.table.specs.Words.{word, placeIn, countIn, afterIn, bytesIn, Lined}
 use Rattle.table.specs.Tables.{many, manys, entries, entriesAll, tableOf, schemaOf, posOf, Table, EntryAt}
 use Rattle.table.proofs.Decode.{place-word, count-word, after-word, lined-word, bytes-other, bytes-struct}
-use Rattle.table.proofs.Spots.{Small, small-count, small-fields, many-one, entries-many, entries-manys, says-append, says, Spot, spot}
-use Rattle.table.proofs.Flat.{place-small, leaf-one, flat-all, past-front}
+use Rattle.table.proofs.Spots.{Small, small-count, many-one, entries-many, says-append, says, Spot, spot}
 
 -- an entry for every two bytes of a schema at most
 mutual
@@ -66,20 +65,20 @@ head-entry (li X) d i = refl
 head-entry (ma K U) d i = refl
 head-entry (ro ts) d i = refl
 
+place-small : (X : Ty) → place X < 12
+unfolding place
+place-small (fix f) = omega (arith, fixed-high f)
+place-small (text t) = omega (arith, text-high t)
+place-small (li X) = omega arith
+place-small (ma K U) = omega arith
+place-small (ro ts) = omega arith
+
 held-small : (X : Ty) (d i : ℕ) → Small d i X → held X < 256
 held-small (fix f) d i h = omega arith
 held-small (text t) d i h = omega arith
 held-small (li X) d i h = omega arith
 held-small (ma K U) d i h = omega arith
 held-small (ro ts) d i h = omega (arith, small-count d i ts h)
-
-depth-one : (X : Ty) → 1 ≤ depth X
-unfolding depth
-depth-one (fix f) = omega arith
-depth-one (text t) = omega arith
-depth-one (li X) = omega arith
-depth-one (ma K U) = omega arith
-depth-one (ro ts) = omega arith
 
 -- the type that a form begins with is the one that stands there
 form-type : (s : List ℕ) (at d : ℕ) (X : Ty) (r : List ℕ) → Right X → drop at s ≡ schema X ++ r → Typed s at d → typeAt s at d ≡ X
@@ -184,41 +183,6 @@ module _ (t : List ℕ) (h : Table t) where
     after-is : afterIn (getD t c 0) ≡ c + many X
     after-is = ap afterIn entry-is ∙ after-word (place X) (sp .d) (held X) c (c + many X) (place-small X) d-small (held-small X (sp .d) c (sp .small)) i-small
 
-    place-at : placeIn (getD t c 0) ≡ place X
-    place-at =
-        ap placeIn entry-is
-        ∙ place-word (place X) (sp .d) (held X) c (c + many X) (place-small X) d-small (held-small X (sp .d) c (sp .small)) i-small
-
-    count-at : countIn (getD t c 0) ≡ held X
-    count-at =
-        ap countIn entry-is
-        ∙ count-word (place X) (sp .d) (held X) c (c + many X) (place-small X) d-small (held-small X (sp .d) c (sp .small)) i-small
-
-    leaf-next : placeIn (getD t c 0) < 9 → afterIn (getD t c 0) ≡ c + 1
-    leaf-next l = after-is ∙ ap (λ (j : ℕ). c + j) (leaf-one X (omega (arith, place-at)))
-
-    -- a struct that has no more descendants than fields: each field is a leaf
-    pub flat-leaf : placeIn (getD t c 0) ≡ 11 → afterIn (getD t c 0) ≡ c + 1 + countIn (getD t c 0)
-        → (i : ℕ) → i < countIn (getD t c 0) → placeIn (getD t (c + 1 + i) 0) < 9
-    unfolding entries place many
-    flat-leaf e f i l = go X (sp .small) (sp .form) (sym place-at ∙ e) after-is count-at
-      where
-        go : (Y : Ty) → Small (sp .d) c Y → t ≡ sp .front ++ (entries (sp .d) c Y ++ sp .back) → place Y ≡ 11
-            → afterIn (getD t c 0) ≡ c + many Y → countIn (getD t c 0) ≡ held Y → placeIn (getD t (c + 1 + i) 0) < 9
-        go (fix g) z q m a n = absurd (omega (arith, fixed-high g))
-        go (text g) z q m a n = absurd (omega (arith, text-high g))
-        go (li Y) z q m a n = absurd (omega arith)
-        go (ma K U) z q m a n = absurd (omega arith)
-        go (ro ts) z q m a n =
-            let few : manys ts ≡ count ts = omega arith in
-            let in-count : i < count ts = omega arith in
-            let own = entriesAll (sp .d + 1) (c + 1) ts in
-            let j : getD t (c + 1 + i) 0 ≡ getD own i 0 =
-            ap (λ (u : List ℕ). getD u (c + 1 + i) 0) q
-            ∙ past-front (sp .front) (word 11 (sp .d) (count ts) c (c + suc (manys ts))) own (sp .back) c i (sp .before)
-            (omega (arith, entries-manys ts (sp .d + 1) (c + 1))) in
-            rw j (flat-all ts (sp .d + 1) (c + 1) (small-fields (sp .d) c ts z) few i in-count)
-
     -- the place behind its last descendant is that of what stands behind it
     pub next-place : posOf t (afterIn (getD t c 0)) ≡ nextAt s (posOf t c) d
     unfolding posOf size
@@ -290,7 +254,6 @@ module _ (t : List ℕ) (h : Table t) where
       place = place-is;
       next = next-place;
       room = next-room;
-      leaf = leaf-next;
       child = λ n. child-other (λ e. n (place-is ∙ e));
       first = λ e. child-struct (sym place-is ∙ e);
       count = λ e. count-is (sym place-is ∙ e);

@@ -1,20 +1,13 @@
 -- The fields that are left at each depth, and what they lead to: the invariant of building, with a law for each step. Assumes nothing.
-use mathlib.Core.Path.{_≡_, refl, ap, sym, _∙_, subst}
-use mathlib.Core.List.{List, [], _∷_, _++_}
-use Prim.Native.Nat.{ℕ, zero, suc, _+_, _*_, _-_, _/_, _%_, _<_, _≤_}
-use native.Mathlib.Decide.{decLt}
+use mathlib.Core.Path.{_≡_, refl, ap, sym, _∙_}
+use mathlib.Core.List.{List}
+use Prim.Native.Nat.{ℕ, zero, suc, _+_, _-_, _/_, _%_, _<_}
 use native.Mathlib.Omega.{arith}
 use native.Mathlib.Numerals.{add-one}
-use lib.ListN.{length, drop, getD, set}
+use lib.ListN.{length, getD, set}
 use lib.Seq.{getD-set-same, getD-set-other}
-use Rattle.schema.specs.Marks.{types}
-use Rattle.schema.specs.Types.{Ty}
-use Rattle.schema.specs.Kinds.{kindAt, placed, kindOf}
-use Rattle.schema.specs.declared.Kind.the-variants.{Fixed as FixedK, Text as TextK, List as ListK, Map as MapK, Struct as StructK, Nothing}
-use Rattle.schema.proofs.Marked.{fixed-placed, text-placed}
 use Rattle.table.specs.Words.{word}
-use Rattle.table.proofs.Filling.{Filled, nothing, filled, onward, fill, patch, Stand, fill-done, fill-none, fill-fixed, fill-text, fill-li, fill-ma}
-use Rattle.table.proofs.Filling.{fill-ro, fill-few, fill-stop}
+use Rattle.table.proofs.Filling.{Filled, nothing, filled, onward, fill, patch, fill-done}
 
 -- what a container's fields lead to once they are laid: its own entry is patched, and the fields left in its holder follow. A frame is
 -- 256 times the place of the container, plus how many are left in its holder.

@@ -1,14 +1,14 @@
 -- Each place of a table is the start of one type's entries, and the schema that a table says is the type's house form. Assumes nothing.
 use mathlib.Core.Path.{_≡_, refl, ap, sym, _∙_, subst}
 use mathlib.Core.List.{List, [], _∷_, _++_, append-assoc, append-nil}
-use Prim.Native.Nat.{ℕ, zero, suc, _+_, _<_, _≤_}
+use Prim.Native.Nat.{ℕ, suc, _+_, _<_, _≤_}
 use native.Mathlib.Decide.{decLt}
 use native.Mathlib.Omega.{arith}
-use lib.ListN.{length, take, drop, getD, length-append}
+use lib.ListN.{length, length-append}
 use Rattle.schema.specs.Marks.{markAt}
 use Rattle.schema.specs.Types.{Fixed, Text, Ty, fix, text, li, ma, ro, Tys, end, _then_, count, fixedPlace, textPlace, mark, place}
 use Rattle.schema.specs.House.{schema, schemas, depth, depths, Right, Rights}
-use Rattle.schema.proofs.Table.{fixed-high, text-low, text-high}
+use Rattle.schema.proofs.Table.{fixed-high, text-high}
 use Rattle.table.specs.Words.{word, bytesIn}
 use Rattle.table.specs.Tables.{many, manys, entries, entriesAll, schemaOf}
 use Rattle.table.proofs.Decode.{bytes-other, bytes-struct}
@@ -44,10 +44,6 @@ module _ (d i : ℕ) where
   pub small-count : (ts : Tys) → Small d i (ro ts) → count ts ≤ 128
   unfolding Right
   small-count ts h = h .right .0 .high
-
-  pub small-some : (ts : Tys) → Small d i (ro ts) → 1 ≤ count ts
-  unfolding Right
-  small-some ts h = h .right .0 .low
 
   pub small-first : (T : Ty) (ts : Tys) → Smalls d i (T then ts) → Small d i T
   unfolding Right depth many

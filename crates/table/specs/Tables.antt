@@ -76,7 +76,6 @@ pub record EntryAt (t : List ℕ) (c d w : ℕ) : Type 0 where
   -- behind its last descendant stands what follows the type
   pub next : posOf t (afterIn w) ≡ nextAt (schemaOf t) (posOf t c) d
   pub room : afterIn w ≤ length t
-  pub leaf : placeIn w < 9 → afterIn w ≡ c + 1
   -- its first child, and how many fields a struct has
   pub child : (placeIn w ≡ 11 → ⊥) → posOf t (c + 1) ≡ posOf t c + 2
   pub first : placeIn w ≡ 11 → posOf t (c + 1) ≡ posOf t c + 3

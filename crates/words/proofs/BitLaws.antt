@@ -4,7 +4,8 @@ use mathlib.Core.Logic.{_⊎_, inl, inr, ⊎-elim}
 use mathlib.Core.Bool.{Bool, true, false, not}
 use mathlib.Core.List.{List, [], _∷_}
 use Prim.Native.Nat.{ℕ, zero, suc, _+_, _-_, _*_, _/_, _%_, _^_, _≤_, _<_, max}
-use native.Mathlib.Nat.{pow-suc, mul-assoc, mod-lt, add-mul-div-right, mod-eq-of-lt, add-assoc, add-zero, add-comm, le-add-left, zero-mul, zero-add, zero-div, lt-of-lt-of-le, div-div-eq-div-mul}
+use native.Mathlib.Nat.{pow-suc, mul-assoc, mod-lt, add-mul-div-right, mod-eq-of-lt, add-assoc, add-zero, add-comm, le-add-left, zero-mul, zero-add}
+use native.Mathlib.Nat.{zero-div, lt-of-lt-of-le, div-div-eq-div-mul}
 use native.Mathlib.Decide.{decLt}
 use native.Mathlib.Omega.{arith}
 use lib.Dec.{eqb, lit<}
@@ -176,7 +177,8 @@ bits-ext zero x y p q h = omega arith
 bits-ext (suc n) x y p q h =
     let two : 2 ^ suc n ≡ 2 ^ n * 2 = pow-suc 2 n in
     let e : x / 2 ≡ y / 2 = bits-ext n (x / 2) (y / 2) (omega (arith, two)) (omega (arith, two)) (λ k. half x k ∙ h (1 + k) ∙ sym (half y k)) in
-    let one : x / 1 % 2 ≡ y / 1 % 2 = sym (digit-of (x / 1 % 2) (mod-lt (x / 1) (lit< tt))) ∙ ap digit (h 0) ∙ digit-of (y / 1 % 2) (mod-lt (y / 1) (lit< tt)) in
+    let one : x / 1 % 2 ≡ y / 1 % 2 = sym (digit-of (x / 1 % 2) (mod-lt (x / 1) (lit< tt))) ∙ ap digit (h 0)
+    ∙ digit-of (y / 1 % 2) (mod-lt (y / 1) (lit< tt)) in
     omega arith
   where
     half : (z k : ℕ) → bitOf (z / 2) k ≡ bitOf z (1 + k)
@@ -251,7 +253,8 @@ module _ (b : List ℕ) (at i : ℕ) (v : Bool) (fits : at + i / 8 < length b) w
       ∙ ap (set b (at + i / 8)) (with-with (getD b (at + i / 8) 0) (i % 8) v w)
 
   -- a store and a run that does not touch its byte, in either order
-  pub put-run : (p : ℕ) (u : List ℕ) → p + length u ≤ length b → (at + i / 8 < p) ⊎ (p + length u ≤ at + i / 8) → putBit (sets b p u) at i v ≡ sets (putBit b at i v) p u
+  pub put-run : (p : ℕ) (u : List ℕ) → p + length u ≤ length b → (at + i / 8 < p) ⊎ (p + length u ≤ at + i / 8)
+      → putBit (sets b p u) at i v ≡ sets (putBit b at i v) p u
   put-run p u h o =
       let q = at + i / 8 in
       let x = withBit (getD b q 0) (i % 8) v in
@@ -302,7 +305,8 @@ put-comm b at i j v w ne hi =
         ∙ set-set b p y (withBit y (i % 8) v))
 
 -- a run elsewhere leaves a bit as it was
-pub bit-run : (b : List ℕ) (p : ℕ) (u : List ℕ) (at i : ℕ) → p + length u ≤ length b → (at + i / 8 < p) ⊎ (p + length u ≤ at + i / 8) → bit (sets b p u) at i ≡ bit b at i
+pub bit-run : (b : List ℕ) (p : ℕ) (u : List ℕ) (at i : ℕ) → p + length u ≤ length b → (at + i / 8 < p) ⊎ (p + length u ≤ at + i / 8)
+    → bit (sets b p u) at i ≡ bit b at i
 bit-run b p u at i h o = ap (λ (x : ℕ). bitOf x (i % 8)) (⊎-elim (λ lo. getD-sets-lo b p u h (at + i / 8) lo) (λ hi. getD-sets-hi b p u h (at + i / 8) hi) o)
 
 -- a bitmap taken out of the run that holds it has the same bits

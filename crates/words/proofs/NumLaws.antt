@@ -24,7 +24,8 @@ pub num-append : (a b : List ℕ) → num (a ++ b) ≡ num a + 256 ^ length a * 
 unfolding num
 num-append [] b = omega arith
 num-append (x ∷ a) b =
-    let e : 256 ^ suc (length a) * num b ≡ 256 * (256 ^ length a * num b) = ap (λ (n : ℕ). n * num b) (pow-suc 256 (length a) ∙ mul-comm (256 ^ length a) 256) ∙ mul-assoc 256 (256 ^ length a) (num b) in
+    let e : 256 ^ suc (length a) * num b ≡ 256 * (256 ^ length a * num b) = ap (λ (n : ℕ). n * num b)
+    (pow-suc 256 (length a) ∙ mul-comm (256 ^ length a) 256) ∙ mul-assoc 256 (256 ^ length a) (num b) in
     rw (num-append a b, e) (omega arith)
 
 -- the number of k bytes of a run is below 256 ^ k

@@ -7,7 +7,8 @@ use Prim.Native.Nat.{ℕ, zero, suc, _+_, _-_, _≤_, _<_}
 use native.Mathlib.Nat.{add-zero, add-suc, suc-add, zero-add, not-suc-le-zero}
 use native.Mathlib.Omega.{arith}
 use lib.ListN.{length, take, drop, getD, set, length-append, length-set, length-take, take-append-drop, List·getD-append}
-use lib.Seq.{sets, sets-eq, length-sets, set-comm, set-set, set-append-left, drop-at, drop-length, take-add, ext-getD, length-take-le, getD-append-add, getD-take, getD-drop}
+use lib.Seq.{sets, sets-eq, length-sets, set-comm, set-set, set-append-left, drop-at, drop-length, take-add, ext-getD, length-take-le, getD-append-add}
+use lib.Seq.{getD-take, getD-drop}
 use Rattle.words.specs.Bytes.{Bytes, empty, byte, part}
 use Rattle.words.proofs.Parts.{around, length-part, getD-part, part-part}
 
@@ -16,7 +17,8 @@ use Rattle.words.proofs.Parts.{around, length-part, getD-part, part-par
 -- two runs that touch are one
 pub sets-append : (l : List ℕ) (p : ℕ) (us vs : List ℕ) → sets (sets l p us) (p + length us) vs ≡ sets l p (us ++ vs)
 sets-append l p [] vs = rw add-zero
-sets-append l p (a ∷ us) vs = ap (λ (k : ℕ). sets (sets (set l p a) (suc p) us) k vs) (add-suc p (length us) ∙ sym (suc-add p (length us))) ∙ sets-append (set l p a) (suc p) us vs
+sets-append l p (a ∷ us) vs = ap (λ (k : ℕ). sets (sets (set l p a) (suc p) us) k vs) (add-suc p (length us) ∙ sym (suc-add p (length us)))
+    ∙ sets-append (set l p a) (suc p) us vs
 
 pub sets-then : (l : List ℕ) (p q : ℕ) (us vs : List ℕ) → q ≡ p + length us → sets (sets l p us) q vs ≡ sets l p (us ++ vs)
 sets-then l p q us vs e = rw e (sets-append l p us vs)
@@ -174,7 +176,8 @@ module _ (b : List ℕ) (at n off : ℕ) (v : List ℕ) (h : at + n ≤ length b
       (λ i l. let l′ : i < n = omega (arith, same) in getD-part (sets b (at + off) v) at n i l′ ∙ at-each i l′)
 
 -- two lists that differ in a place alone: that place of the one set in the other gives the one
-pub sets-agree : (b r : List ℕ) (at n : ℕ) → length b ≡ length r → at + n ≤ length b → ((i : ℕ) → (i < at) ⊎ (at + n ≤ i) → getD b i 0 ≡ getD r i 0) → sets b at (part r at n) ≡ r
+pub sets-agree : (b r : List ℕ) (at n : ℕ) → length b ≡ length r → at + n ≤ length b → ((i : ℕ) → (i < at) ⊎ (at + n ≤ i) → getD b i 0 ≡ getD r i 0)
+    → sets b at (part r at n) ≡ r
 sets-agree b r at n e h same =
     let long : length (part r at n) ≡ n = length-part r at n (omega arith) in
     let fits : at + length (part r at n) ≤ length b = rw long h in
@@ -190,7 +193,8 @@ sets-agree b r at n e h same =
     (around i at n))
 
 -- what is set in a part is set in the whole, at the sum of the offsets
-pub sets-part-in : (b : List ℕ) (at n off : ℕ) (v : List ℕ) → at + n ≤ length b → off + length v ≤ n → sets b at (sets (part b at n) off v) ≡ sets b (at + off) v
+pub sets-part-in : (b : List ℕ) (at n off : ℕ) (v : List ℕ) → at + n ≤ length b → off + length v ≤ n
+    → sets b at (sets (part b at n) off v) ≡ sets b (at + off) v
 sets-part-in b at n off v h k =
     let w : at + off + length v ≤ length b = omega arith in
     ap (sets b at) (sym (part-sets-in b at n off v h k))

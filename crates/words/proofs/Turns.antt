@@ -83,7 +83,8 @@ pub div-next : (v i : ℕ) → v / 256 ^ i / 256 ≡ v / 256 ^ (i + 1)
 div-next v i = div-div-eq-div-mul v (256 ^ i) 256 ∙ ap (λ (x : ℕ). v / x) (sym (pow-suc 256 i) ∙ ap (λ (x : ℕ). 256 ^ x) (sym (add-one i)))
 
 -- a copy, and zeros
-pub copy-turn : (x l : List ℕ) (at from i : ℕ) → from + i < length l → set (sets x at (part l from i)) (at + i) (getD l (from + i) 0) ≡ sets x at (part l from (i + 1))
+pub copy-turn : (x l : List ℕ) (at from i : ℕ) → from + i < length l → set (sets x at (part l from i)) (at + i) (getD l (from + i) 0) ≡ sets x at
+    (part l from (i + 1))
 copy-turn x l at from i h =
     set-sets x at (at + i) (part l from i) _ (ap (λ (k : ℕ). at + k) (sym (length-part l from i (omega arith))))
     ∙ ap (sets x at) (sym (part-snoc l from i h))
@@ -134,7 +135,8 @@ module _ {b : List ℕ} (n end : ℕ) (h : Bytes b) (fits : bitmap n ≤ end) (r
       let last : at + k ≡ end - 8 = omega arith in
       let low : num (part b at k) < 256 ^ k = part-lt at k h (omega arith) in
       let all : num (part b at (bitmap n)) ≡ w * 256 ^ k + num (part b at k) =
-      ap (λ (m : ℕ). num (part b at m)) size ∙ num-part b at k 8 (omega arith) ∙ ap (λ (m : ℕ). num (part b m 8) * 256 ^ k + num (part b at k)) last ∙ ap (λ (m : ℕ). m * 256 ^ k + num (part b at k)) (sym e) in
+      ap (λ (m : ℕ). num (part b at m)) size ∙ num-part b at k 8 (omega arith) ∙ ap (λ (m : ℕ). num (part b m 8) * 256 ^ k + num (part b at k)) last
+      ∙ ap (λ (m : ℕ). m * 256 ^ k + num (part b at k)) (sym e) in
       let bits : n ≡ n % 64 + 8 * k = omega arith in
       let p : 2 ^ n ≡ 2 ^ (n % 64) * 256 ^ k = ap (λ (m : ℕ). 2 ^ m) bits ∙ pow-add 2 (n % 64) (8 * k) ∙ ap (λ (m : ℕ). 2 ^ (n % 64) * m) (sym (pow256 k)) in
       shift-test w (n % 64) ∙ ltb-high w (2 ^ (n % 64)) (256 ^ k) (num (part b at k)) low ∙ ap₂ ltb (sym all) (sym p)

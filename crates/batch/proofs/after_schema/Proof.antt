@@ -1,5 +1,5 @@
 -- `batch::after_schema` meets its contract. Assumes nothing.
-use mathlib.Core.Path.{sym, _∙_}
+use Rattle.batch.proofs.Orders.{judged-yes, judged-no}
 use borrow.Author.Needs.{needs}
 use Rattle.batch.proofs.after_schema.Statement.{statement}
 use Rattle.batch.proofs.after_schema.Tie as tie
@@ -14,10 +14,10 @@ enum-told-2 : tie.Need-enum-told-2
 enum-told-2 c = search needs
 
 returns : tie.Need-returns
-returns c = rw (sym (c .before .before .judge .ensures) ∙ c .enum-told .given .1)
+returns c = rw (judged-yes (c .before .before .before .before .args .schema .now) (c .before .before .judge .ensures) (c .enum-told .given .1))
 
 returns-2 : tie.Need-returns-2
-returns-2 c = rw (sym (c .before .before .judge .ensures) ∙ c .enum-told2 .given .1)
+returns-2 c = rw (judged-no (c .before .before .before .before .args .schema .now) (c .before .before .judge .ensures) (c .enum-told2 .given .1))
 
 pub after-schema-spec : {M : Type 1} → statement M
 after-schema-spec = tie.close (tie.spec judge-requires enum-told enum-told-2 returns returns-2)

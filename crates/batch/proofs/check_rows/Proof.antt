@@ -4,6 +4,7 @@ use Prim.Native.Nat.{_-_}
 use native.Mathlib.Omega.{arith}
 use lib.ListN.{length}
 use Rattle.answers.specs.Meaning.{outcomeMeans}
+use Rattle.table.specs.Tables.{schemaOf}
 use Rattle.batch.specs.Places.{Passed}
 use Rattle.batch.proofs.Passing.{passed-start, stands-of, passed-fits, passed-next, passed-broken}
 use Rattle.batch.proofs.InTurn.{InOrder, check-broken, order-start, order-next, order-refused, order-end}
@@ -12,13 +13,13 @@ use Rattle.batch.proofs.check_rows.Statement.{statement}
 use Rattle.batch.proofs.check_rows.Tie as tie
 
 abbrev Inv-loop : tie.InvT-loop
-Inv-loop schema batch at₀ n₀ at n = Passed batch at n × InOrder schema batch n
+Inv-loop t batch at₀ n₀ at n = Passed batch at n × InOrder (schemaOf t) batch n
 
 abbrev μ-loop : tie.MeasureT-loop
-μ-loop schema batch at₀ n₀ at n = length batch - at
+μ-loop t batch at₀ n₀ at n = length batch - at
 
 loop-holds : tie.Need-loop-holds Inv-loop μ-loop
-loop-holds c = (passed-start _, order-start _ _ (c .before .before .pre))
+loop-holds c = (passed-start _, order-start _ _ (c .before .before .pre .accepted))
 
 frame-end-requires : tie.Need-frame-end-requires Inv-loop μ-loop
 frame-end-requires c κs = c .before .loop .inv .0 .high
@@ -26,23 +27,23 @@ frame-end-requires c κs = c .before .loop .inv .0 .high
 returns : tie.Need-returns Inv-loop μ-loop
 returns c =
     let p = c .before .before .before .loop .inv .0 in
-    check-broken _ _ (c .before .before .before .before .before .before .pre)
+    check-broken _ _ (c .before .before .before .before .before .before .pre .accepted)
     (passed-broken p (c .before .before .loop-test .taken) (c .before .frame-end .ensures .broken (c .if1 .taken)))
 
 add-start : tie.Need-add-start Inv-loop μ-loop
 add-start c = let s = stands-of (c .before .frame-end .ensures) (c .if1 .left) in omega (arith, s .low, s .high)
 
-sub-judge-row : tie.Need-sub-judge-row Inv-loop μ-loop
-sub-judge-row c = let s = stands-of (c .before .frame-end .ensures) (c .if1 .left) in omega (arith, s .low)
+sub-check : tie.Need-sub-check Inv-loop μ-loop
+sub-check c = let s = stands-of (c .before .frame-end .ensures) (c .if1 .left) in omega (arith, s .low)
 
-part-judge-row-start : tie.Need-part-judge-row-start Inv-loop μ-loop
-part-judge-row-start c = let s = stands-of (c .before .frame-end .ensures) (c .if1 .left) in omega (arith, s .low, s .high)
+part-check-start : tie.Need-part-check-start Inv-loop μ-loop
+part-check-start c = let s = stands-of (c .before .frame-end .ensures) (c .if1 .left) in omega (arith, s .low, s .high)
 
-part-judge-row-end : tie.Need-part-judge-row-end Inv-loop μ-loop
-part-judge-row-end c = let s = stands-of (c .before .frame-end .ensures) (c .if1 .left) in omega (arith, s .low, s .high)
+part-check-end : tie.Need-part-check-end Inv-loop μ-loop
+part-check-end c = let s = stands-of (c .before .frame-end .ensures) (c .if1 .left) in omega (arith, s .low, s .high)
 
-judge-row-requires : tie.Need-judge-row-requires Inv-loop μ-loop
-judge-row-requires c κs = c .before .before .before .before .before .before .before .pre
+check-requires : tie.Need-check-requires Inv-loop μ-loop
+check-requires c κs = c .before .before .before .before .before .before .before .pre
 
 enum-told : tie.Need-enum-told Inv-loop μ-loop
 enum-told c = search needs
@@ -60,8 +61,8 @@ returns-2 c =
     let l = c .before .before .before .before .before .before .before .before .before .loop in
     let t = c .before .before .before .before .before .before in
     let s = stands-of (t .before .frame-end .ensures) (t .if1 .left) in
-    let a = c .before .before .before .before .before .before .before .before .before .before .before .before .pre in
-    let v = sym (ap outcomeMeans (c .before .before .r .given .1)) ∙ c .before .before .before .before .judge-row .ensures in
+    let a = c .before .before .before .before .before .before .before .before .before .before .before .before .pre .accepted in
+    let v = sym (ap outcomeMeans (c .before .before .r .given .1)) ∙ c .before .before .before .before .check .ensures in
     c .refuse-row .ensures ∙ order-refused a (l .inv .1) (l .inv .0) s _ v
 
 add-n : tie.Need-add-n Inv-loop μ-loop
@@ -78,8 +79,8 @@ loop-again : tie.Need-loop-again Inv-loop μ-loop
 loop-again c =
     let l = c .before .before .before .before .before .before .before .loop in
     let s = stands-of (c .before .before .before .before .before .frame-end .ensures) (c .before .before .before .before .if1 .left) in
-    let a = c .before .before .before .before .before .before .before .before .before .before .pre in
-    let v = sym (ap outcomeMeans (c .enum-told .given .1)) ∙ c .before .before .judge-row .ensures in
+    let a = c .before .before .before .before .before .before .before .before .before .before .pre .accepted in
+    let v = sym (ap outcomeMeans (c .enum-told .given .1)) ∙ c .before .before .check .ensures in
     (passed-next (l .inv .0) s, order-next a (l .inv .1) (l .inv .0) s v)
 
 returns-3 : tie.Need-returns-3 Inv-loop μ-loop
@@ -95,10 +96,10 @@ check-rows-spec =
     frame-end-requires
     returns
     add-start
-    sub-judge-row
-    part-judge-row-start
-    part-judge-row-end
-    judge-row-requires
+    sub-check
+    part-check-start
+    part-check-end
+    check-requires
     enum-told
     enum-known-r
     refuse-row-requires

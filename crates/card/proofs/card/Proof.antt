@@ -1,7 +1,8 @@
 -- `card::card` meets its contract: the input is refused, or its row is judged. Assumes nothing.
+use Rattle.lettering.proofs.Putting.{walked-as}
 use Rattle.card.specs.Output.{judgedText, outputOf}
 use Rattle.card.proofs.Apart.{ends-inside, split-short, split-parts}
-use Rattle.card.proofs.Checked.{walked-as, refusal-walked}
+use Rattle.card.proofs.Checked.{refusal-walked}
 use borrow.Author.Needs.{needs}
 use Rattle.card.proofs.card.Statement.{statement}
 use Rattle.card.proofs.card.Tie as tie

@@ -1,5 +1,5 @@
 -- `card::refused` meets its contract. Assumes nothing.
-use Rattle.card.specs.Lines.{refusal}
+use Rattle.card.specs.Output.{refusal}
 use borrow.Author.Needs.{needs}
 use Rattle.card.proofs.refused.Statement.{statement}
 use Rattle.card.proofs.refused.Tie as tie

@@ -1,6 +1,6 @@
 -- `card::row_text` meets its contract: what is walked was accepted. Assumes nothing.
-use native.Mathlib.Omega.{arith}
-use Rattle.card.proofs.Checked.{checked, text-done, text-refused, walked-as, refusal-walked}
+use Rattle.lettering.proofs.Putting.{walked-as}
+use Rattle.card.proofs.Checked.{checked, text-done, text-refused, refusal-walked}
 use borrow.Author.Needs.{needs}
 use Rattle.card.proofs.row_text.Statement.{statement}
 use Rattle.card.proofs.row_text.Tie as tie
@@ -11,8 +11,11 @@ check-requires c κs = search needs
 enum-told : tie.Need-enum-told
 enum-told c = search needs
 
-whole-requires : tie.Need-whole-requires
-whole-requires c κs = (checked _ _ _ (c .before .before .before .check .ensures) (c .before .enum-told .given .1), c .before .before .before .before .before .before .before .pre, omega arith)
+accepted-text-requires : tie.Need-accepted-text-requires
+accepted-text-requires c κs =
+    let entry = c .before .before .before .before .before .before .before in
+    let check = c .before .before .before .check in
+    (checked _ _ _ (check .ensures) (c .before .enum-told .given .1), entry .pre)
 
 enum-known-r : tie.Need-enum-known-r
 enum-known-r c = search needs
@@ -30,7 +33,11 @@ same-length : tie.Need-same-length
 same-length c = search needs
 
 returns : tie.Need-returns
-returns c = walked-as (text-done _ _ _ (c .before .before .before .before .before .before .check .ensures) (c .before .before .before .before .enum-told .given .1)) (c .before .before .whole .ensures)
+returns c =
+    let check = c .before .before .before .before .before .before .check in
+    let told = c .before .before .before .before .enum-told in
+    let accepted-text = c .before .before .accepted-text in
+    walked-as (text-done _ _ _ (check .ensures) (told .given .1)) (accepted-text .ensures)
 
 same-length-2 : tie.Need-same-length-2
 same-length-2 c = search needs
@@ -47,7 +54,7 @@ row-text-spec =
     (tie.spec
     check-requires
     enum-told
-    whole-requires
+    accepted-text-requires
     enum-known-r
     say-place-requires
     number-requires

@@ -28,7 +28,9 @@ shared-slice-read-held : tie.Need-shared-slice-read-held Inv-loop μ-loop
 shared-slice-read-held c = omega arith
 
 cast-held : tie.Need-cast-held Inv-loop μ-loop
-cast-held c = record { fits = omega (arith, c .shared-slice-known2 .given (18 * c .before .before .args .line + 1) .fits) }
+cast-held c =
+    let a = c .before .before .args in
+    record { fits = omega (arith, c .shared-slice-known2 .given (18 * a .line + 1) .fits) }
 
 held-requires : tie.Need-held-requires Inv-loop μ-loop
 held-requires c κs = search needs

@@ -21,7 +21,11 @@ same-length : tie.Need-same-length
 same-length c = search needs
 
 returns : tie.Need-returns
-returns c = record { answers = c .length-code .ensures ∙ ap sizedCode (c .before .before .before .list .ensures .answers); leaves = c .before .before .before .list .ensures .leaves }
+returns c = record {
+  answers = c .length-code .ensures ∙ ap sizedCode (c .before .before .before .list .ensures .answers);
+  leaves =
+      c .before .before .before .list .ensures .leaves;
+}
 
 pub loaf-list-spec : {M : Type 1} → statement M
 loaf-list-spec = tie.close (tie.spec list-requires length-code-requires same-length returns)

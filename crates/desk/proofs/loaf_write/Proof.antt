@@ -18,7 +18,11 @@ same-length : tie.Need-same-length
 same-length c = search needs
 
 returns : tie.Need-returns
-returns c = record { answers = c .length-code .ensures ∙ ap sizedCode (c .before .before .before .write .ensures .answers); leaves = c .before .before .before .write .ensures .leaves }
+returns c = record {
+  answers = c .length-code .ensures ∙ ap sizedCode (c .before .before .before .write .ensures .answers);
+  leaves =
+      c .before .before .before .write .ensures .leaves;
+}
 
 pub loaf-write-spec : {M : Type 1} → statement M
 loaf-write-spec = tie.close (tie.spec write-requires length-code-requires same-length returns)

@@ -1,9 +1,8 @@
 -- `listing::put_mark` meets its contract: the mark's two bytes where there is room for both. Assumes nothing.
-use mathlib.Core.Path.{refl}
-use native.Mathlib.Omega.{arith}
-use lib.ListN.{length-set}
-use Rattle.schema.specs.Marks.{types, markAt}
-use Rattle.listing.proofs.Wrote.{wrote-none, wrote-two}
+use mathlib.Core.Path.{refl, ap, _∙_}
+use lib.Seq.{sets}
+use Rattle.table.specs.Words.{placeIn}
+use Rattle.listing.proofs.Wrote.{wrote-none, wrote-run, mark-two, entry-mark}
 use borrow.Author.Needs.{needs}
 use Rattle.listing.proofs.put_mark.Statement.{statement}
 use Rattle.listing.proofs.put_mark.Tie as tie
@@ -12,41 +11,24 @@ add-end : tie.Need-add-end
 add-end c = search needs
 
 returns : tie.Need-returns
-unfolding markAt
-returns c = wrote-none _ _ _ 2 _ refl refl (c .if1 .taken)
+returns c = wrote-none _ _ _ 2 _ (mark-two (placeIn (c .before .before .args .w))) refl (c .if1 .taken)
 
-mul-e : tie.Need-mul-e
-mul-e c = search needs
+mark-requires : tie.Need-mark-requires
+mark-requires c κs = search needs
 
-array-copy-out-e : tie.Need-array-copy-out-e
-array-copy-out-e c = search needs
-
-slice-write-out : tie.Need-slice-write-out
-slice-write-out c = search needs
-
-add-out : tie.Need-add-out
-add-out c = search needs
-
-slice-write-out-2 : tie.Need-slice-write-out-2
-slice-write-out-2 c = simp length-set (omega arith)
+put2-requires : tie.Need-put2-requires
+put2-requires c κs = search needs
 
 same-length : tie.Need-same-length
 same-length c = search needs
 
 returns-2 : tie.Need-returns-2
-unfolding markAt types
-returns-2 c = wrote-two _ _ _ _ _ refl
+returns-2 c =
+    let e = c .before .before in
+    let f = e .before .before .before .before .before in
+    wrote-run _ _ _ _ 2 _ (mark-two (placeIn (f .args .w))) refl
+    (e .put2 .ensures ∙ ap (sets (f .args .out .now) (f .args .pos)) (entry-mark (f .pre .0) (e .before .mark .ensures)))
 
 pub put-mark-spec : {M : Type 1} → statement M
 put-mark-spec =
-    tie.close
-    (tie.spec
-    add-end
-    returns
-    mul-e
-    array-copy-out-e
-    slice-write-out
-    add-out
-    slice-write-out-2
-    same-length
-    returns-2)
+    tie.close (tie.spec add-end returns mark-requires put2-requires same-length returns-2)

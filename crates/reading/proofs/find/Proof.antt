@@ -1,32 +1,29 @@
 -- `reading::find` meets its contract. Assumes nothing.
-use Rattle.reading.proofs.OnPath.{find-long, find-none, find-walks}
-use borrow.Author.Needs.{needs}
+use Rattle.reading.proofs.Opening.{root-stands}
+use Rattle.reading.proofs.OnPath.{find-long, root-asks, root-finds}
 use Rattle.reading.proofs.find.Statement.{statement}
 use Rattle.reading.proofs.find.Tie as tie
 
 returns : tie.Need-returns
 returns c =
-    let s = c .before .before .before in
-    let a = s .args in
-    find-long (a .s .now) (a .row .now) (a .path) (c .if1 .taken)
+    let a = c .before .before .before .args in
+    find-long (a .t .now) (a .row .now) (a .path) (c .if1 .taken)
 
-is-place-requires : tie.Need-is-place-requires
-is-place-requires c κs = search needs
+open-requires : tie.Need-open-requires
+open-requires c κs = root-stands (c .before .before .before .pre .table)
 
-from-root-requires : tie.Need-from-root-requires
-from-root-requires c κs = search needs
+along-requires : tie.Need-along-requires
+along-requires c κs =
+    let a = c .before .before .before .before .args in
+    let pre = c .before .before .before .before .pre in
+    root-asks (a .path) pre (c .before .if1 .left) (c .«open» .ensures)
 
 returns-2 : tie.Need-returns-2
 returns-2 c =
-    let s = c .before .before .before .before .before .before in
-    let a = s .args in
-    find-walks (a .s .now) (a .row .now) (a .path) (c .before .before .before .if1 .left) _ (c .before .before .is-place .ensures) (c .before .if2 .taken) _ (c .from-root .ensures)
-
-returns-3 : tie.Need-returns-3
-returns-3 c =
-    let s = c .before .before .before .before .before in
-    let a = s .args in
-    find-none (a .s .now) (a .row .now) (a .path) (c .before .before .if1 .left) _ (c .before .is-place .ensures) (c .if2 .left)
+    let a = c .before .before .before .before .before .args in
+    let pre = c .before .before .before .before .before .pre in
+    let if1 = c .before .before .if1 in
+    root-finds (a .path) pre (if1 .left) (c .before .«open» .ensures) (c .along .ensures)
 
 pub find-spec : {M : Type 1} → statement M
-find-spec = tie.close (tie.spec returns is-place-requires from-root-requires returns-2 returns-3)
+find-spec = tie.close (tie.spec returns open-requires along-requires returns-2)

@@ -1,5 +1,7 @@
--- `row::ask` meets its contract: a walk of its MIR, by hand. The struct is taken apart, and `read_both` is called on the two slices and the path. All that the proof knows of `read_both` is that it meets its contract.
--- The struct and the path are Copy: what each owns is had twice, one copy is kept whole for the exit, and of the other what the fields and the path own goes to the callee, beside the lifetime's token, which comes back.
+-- `row::ask` meets its contract: a walk of its MIR, by hand. The struct is taken apart, and `read_both` is called on the two slices and the
+-- path. All that the proof knows of `read_both` is that it meets its contract. The struct and the path are Copy: what each owns is had
+-- twice, one copy is kept whole for the exit, and of the other what the fields and the path own goes to the callee, beside the lifetime's
+-- token, which comes back.
 -- Assumes nothing.
 use lib.Dec.{T as Holds}
 use Rattle.row.proofs.read_both.Symbol.{name as #row·read-both}
@@ -19,9 +21,11 @@ use ghost.Atoms.{Atoms, sem}
 use contract.Lifetimes.{Lfts}
 use contract.Monad.{Fun, fact}
 use contract.Running.{givenOf, tables, tablesOf}
-use types.Kit.{Given, ‵, raw, _⊛_, given, ⋆, some, later, _$_, _∵_, !, qed, by, move, drop, use1, use2, split, join, learn, pick, fsplit, fjoin, suffices, frame, await, done}
+use types.Kit.{Given, ‵, raw, _⊛_, given, ⋆, some, later, _$_, _∵_, !, qed, by, move, drop, use1, use2, split, join, learn, pick, fsplit, fjoin, suffices}
+use types.Kit.{frame, await, done}
 use types.Part.{whole, sub, look-in}
-use types.Run.{look, init, forget, stop, fld, from, load, of-opd, and-then, no-more, assigns, land, returns, enter, alloc1, alloc0, params1, pass1, pass0, free1, free0}
+use types.Run.{look, init, forget, stop, fld, from, load, of-opd, and-then, no-more, assigns, land, returns, enter, alloc1, alloc0, params1, pass1, pass0}
+use types.Run.{free1, free0}
 use sound.WpLaws.{FmC, fmOf, WpFn-mono}
 use denote.RattleType.{RattleType, owns}
 use denote.Laws.{Is, shows}
@@ -80,7 +84,8 @@ module _ {M : Type 1} (𝓤 : URA M) (H : Heap 𝓤) (A : Atoms 𝓤) (mem : Mem
   abbrev Read : Contract 𝓤
   Read = tripleOf 𝓤 H A read.signature (read.spec 𝓤 H A mem run)
 
-module _ {M : Type 1} (𝓤 : URA M) (H : Heap 𝓤) (A : Atoms 𝓤) (W : Given 𝓤 H A) (mem : Memory → SProp 𝓤) (run : Routine → Fun 𝓤) (κ : Lft) (q : Share) (d : Opened) (p : Path) where
+module _ {M : Type 1} (𝓤 : URA M) (H : Heap 𝓤) (A : Atoms 𝓤) (W : Given 𝓤 H A) (mem : Memory → SProp 𝓤) (run : Routine → Fun 𝓤) (κ : Lft) (q : Share)
+    (d : Opened) (p : Path) where
   abbrev κs : Lfts 1
   κs = (κ, tt)
 
@@ -118,14 +123,16 @@ module _ {M : Type 1} (𝓤 : URA M) (H : Heap 𝓤) (A : Atoms 𝓤) (W : Given
   to = ((κs, (q, tt), tt, (d .schema, (d .row, (p, tt))), passed), tt)
 
   asked : ent 𝓤 (onEntry 𝓤 H A read.signature κs (q, tt) (d .schema, (d .row, (p, tt))) passed) (Read 𝓤 H A mem run .pre to)
-  asked = qed W ((‵ (flft κ q) ⊛ ‵ ftrue) ∷ ‵ (owns (ShrSlice (named 0) κ u8 ∷ ShrSlice (named 0) κ u8 ∷ P.the-row ∷ []) (d .schema, (d .row, (p, tt))) passed) ∷ []) ∵ join ! $ frame ! $ done !
+  asked = qed W ((‵ (flft κ q) ⊛ ‵ ftrue) ∷ ‵ (owns (ShrSlice (named 0) κ u8 ∷ ShrSlice (named 0) κ u8 ∷ P.the-row ∷ [])
+      (d .schema, (d .row, (p, tt))) passed) ∷ []) ∵ join ! $ frame ! $ done !
 
   -- what the parameters own gives what the callee asks, and is kept
   apart : ent 𝓤 (onEntry 𝓤 H A ask.signature κs (q, tt) (d, (p, tt)) at) (sep 𝓤 (Read 𝓤 H A mem run .pre to) (sem 𝓤 H A Kept))
   apart =
       qed W ((‵ (flft κ q) ⊛ ‵ ftrue) ∷ ‵ Kept ∷ []) ∵
       move ! (1 ∷ []) $ fsplit ! $ use1 W (‵ OwnD ⊛ ‵ OwnD) (LL.copy (D κs) (T′.the-copy (namedLft 1 0 tt κs)) 𝓤 H A W .twice d (mach ∷ [])) $ split ! $
-      use1 W (given (mach ∷ [] ≡ mach ∷ []) (‵ (all-own (D κs .parts) (L κs) (d .schema, (d .row, tt))))) (own-open 𝓤 H A W (D κs) (L κs) (d .schema, (d .row, tt)) mach) $ learn ! (λ _.
+      use1 W (given (mach ∷ [] ≡ mach ∷ []) (‵ (all-own (D κs .parts) (L κs) (d .schema, (d .row, tt)))))
+      (own-open 𝓤 H A W (D κs) (L κs) (d .schema, (d .row, tt)) mach) $ learn ! (λ _.
       -- [what the fields own together; what the struct owns; the path's and true; the token]
       fsplit ! $ move ! (1 ∷ []) $ fsplit ! $ move ! (1 ∷ []) $ drop ! $
       -- [row's; schema's; the struct's; the path's and true; the token]
@@ -143,25 +150,32 @@ module _ {M : Type 1} (𝓤 : URA M) (H : Heap 𝓤) (A : Atoms 𝓤) (W : Given
   exits : (r : Answer) (u : Val) → meaning r ≡ found → ent 𝓤 (⋆ 𝓤 H A (‵ (S.the-row .own r (u ∷ [])) ∷ (‵ (flft κ q) ⊛ ‵ ftrue) ∷ ‵ Kept ∷ [])) (Post u)
   exits r u e =
       qed W (‵ (S.the-row .own r (u ∷ [])) ∷ (‵ (flft κ q) ⊛ ‵ ftrue) ∷ ‵ Kept ∷ []) ∵
-      suffices ! _ (ends-at 𝓤 H A ask.ended stayed (ask.clauses 𝓤 H A mem run) W ((κs, (q, tt), tt, (d, (p, tt)), at), tt) u r (tt, (tt, tt)) (tt, (tt, tt))) $ says ! e $
+      suffices ! _ (ends-at 𝓤 H A ask.ended stayed (ask.clauses 𝓤 H A mem run) W ((κs, (q, tt), tt, (d, (p, tt)), at), tt) u r (tt, (tt, tt))
+      (tt, (tt, tt))) $ says ! e $
       move ! (1 ∷ []) $ frame ! $ move ! (1 ∷ []) $ frame ! $ done !
 
   module _ (C : Calls 𝓤 H) (Λ : Loops 𝓤 H) (fm : FmC 𝓤 H (W .laws) C) (known : Triple 𝓤 (C #row·read-both) (Read 𝓤 H A mem run)) where
-    walk : Holds (hasTy (T′.mir (named 0)) mach) × WT mach → Holds (hasTy P′.mir pm) × WT pm → ent 𝓤 (onEntry 𝓤 H A ask.signature κs (q, tt) (d, (p, tt)) at) (WpFn 𝓤 H C Λ code.function (mach ∷ pm ∷ []) Post)
+    walk : Holds (hasTy (T′.mir (named 0)) mach) × WT mach → Holds (hasTy P′.mir pm) × WT pm
+        → ent 𝓤 (onEntry 𝓤 H A ask.signature κs (q, tt) (d, (p, tt)) at) (WpFn 𝓤 H C Λ code.function (mach ∷ pm ∷ []) Post)
     walk wt wp =
         qed W (raw (onEntry 𝓤 H A ask.signature κs (q, tt) (d, (p, tt)) at) ∷ []) ∵ enter ! C Λ code.function (mach ∷ pm ∷ []) _ $
-        alloc1 ! (λ l₀. alloc1 ! (λ l₁. alloc1 ! (λ l₂. alloc1 ! (λ l₃. alloc1 ! (λ l₄. alloc0 ! $ params1 ! $ pass1 ! (init ! 6 refl wt) $ pass1 ! (init ! 4 refl wp) $ pass0 ! $
+        alloc1 ! (λ l₀. alloc1 ! (λ l₁. alloc1 ! (λ l₂. alloc1 !
+        (λ l₃. alloc1 ! (λ l₄. alloc0 ! $ params1 ! $ pass1 ! (init ! 6 refl wt) $ pass1 ! (init ! 4 refl wp) $ pass0 ! $
         assigns ! (of-opd ! (load ! (from ! (fld ! refl (stop !))) (look-in ! 6 (sub ! 0 refl (whole !))))) (from ! (stop !)) (init ! 2 refl (tt, wt .1 .0)) $
-        assigns ! (of-opd ! (load ! (from ! (fld ! refl (stop !))) (look-in ! 6 (sub ! 1 refl (whole !))))) (from ! (stop !)) (init ! 0 refl (tt, wt .1 .1 .0)) $
+        assigns ! (of-opd ! (load ! (from ! (fld ! refl (stop !))) (look-in ! 6 (sub ! 1 refl (whole !))))) (from ! (stop !))
+        (init ! 0 refl (tt, wt .1 .1 .0)) $
         move ! (10 ∷ []) $ use1 W (raw (Read 𝓤 H A mem run .pre to) ⊛ ‵ Kept) apart $ split ! $
-        calls-at ! fm (Read 𝓤 H A mem run) known to (and-then ! (load ! (from ! (stop !)) (look ! 4 refl)) (and-then ! (load ! (from ! (stop !)) (look ! 2 refl)) (and-then ! (load ! (from ! (stop !)) (look ! 6 refl)) (no-more !)))) (λ u.
-        use1 W (later (some (λ (r : Answer). ((‵ (flft κ q) ⊛ ‵ ftrue) ⊛ ‵ (S.the-row .own r (u ∷ []))) ⊛ raw (ensured 𝓤 H A read.ended (read.clauses 𝓤 H A mem run) κs (d .schema, (d .row, (p, tt))) tt r)))) (id⊢ 𝓤 _) $ await ! tt $ pick ! (λ r.
+        calls-at ! fm (Read 𝓤 H A mem run) known to (and-then ! (load ! (from ! (stop !)) (look ! 4 refl))
+        (and-then ! (load ! (from ! (stop !)) (look ! 2 refl)) (and-then ! (load ! (from ! (stop !)) (look ! 6 refl)) (no-more !)))) (λ u.
+        use1 W (later (some (λ (r : Answer). ((‵ (flft κ q) ⊛ ‵ ftrue) ⊛ ‵ (S.the-row .own r (u ∷ []))) ⊛ raw
+        (ensured 𝓤 H A read.ended (read.clauses 𝓤 H A mem run) κs (d .schema, (d .row, (p, tt))) tt r)))) (id⊢ 𝓤 _) $ await ! tt $ pick ! (λ r.
         split ! $ move ! (1 ∷ []) $ use1 W (raw (fact 𝓤 (meaning r ≡ found))) (said r) $ heard ! (meaning r ≡ found) (λ e. split ! $ move ! (1 ∷ []) $
         -- [the result; the token; what the parameters own; _4; …; _3; …; _2; …; _1; …; room for _0; …]
         peeks ! S.the-row (Is S.the-row) (shows 𝓤 H A S.the-row) r (u ∷ []) (λ is.
         land ! (from ! (stop !)) (init ! 11 refl (EL.lawful S.the-type S′.the-laws 𝓤 H A W tt .typed r _ is .0)) $
         returns ! (look ! 11 refl) $ forget ! 3 refl $ forget ! 5 refl $ forget ! 7 refl $ forget ! 9 refl $ forget ! 11 refl $
-        move ! (11 ∷ 12 ∷ []) $ free1 ! $ move ! (9 ∷ 10 ∷ []) $ free1 ! $ move ! (7 ∷ 8 ∷ []) $ free1 ! $ move ! (5 ∷ 6 ∷ []) $ free1 ! $ move ! (3 ∷ 4 ∷ []) $ free1 ! $ free0 ! $ by ! (exits r u e))))))))))
+        move ! (11 ∷ 12 ∷ []) $ free1 ! $ move ! (9 ∷ 10 ∷ []) $ free1 ! $ move ! (7 ∷ 8 ∷ []) $ free1 ! $ move ! (5 ∷ 6 ∷ []) $ free1 ! $ move !
+        (3 ∷ 4 ∷ []) $ free1 ! $ free0 ! $ by ! (exits r u e))))))))))
 
 module _ {M : Type 1} (𝓤 : URA M) (H : Heap 𝓤) (A : Atoms 𝓤) (W : Given 𝓤 H A) (mem : Memory → SProp 𝓤) (run : Routine → Fun 𝓤) where
   ask-walks : (C : Calls 𝓤 H) (Λ : Loops 𝓤 H) → FmC 𝓤 H (W .laws) C → Triple 𝓤 (C #row·read-both) (Read 𝓤 H A mem run)
@@ -174,7 +188,9 @@ module _ {M : Type 1} (𝓤 : URA M) (H : Heap 𝓤) (A : Atoms 𝓤) (W : Given
 ask-meets : {M : Type 1} (𝓤 : URA M) (H : Heap 𝓤) (A : Atoms 𝓤) (W : Given 𝓤 H A) (mem : Memory → SProp 𝓤) (run : Routine → Fun 𝓤) (𝓣 : Tables 𝓤 H)
     → Triple 𝓤 (𝓣 .C #row·read-both) (Read 𝓤 H A mem run)
     → Meets 𝓤 H A ask.signature (WpFn 𝓤 H (𝓣 .C) (𝓣 .Λ) code.function) (ask.spec 𝓤 H A mem run)
-ask-meets 𝓤 H A W mem run 𝓣 known-read = walk-meets 𝓤 H A ask.ended stayed W (goes-none 𝓤 H A W 1 B yes (λ κs x f. refl), (goes-none 𝓤 H A W 1 (λ _. P.the-row) yes (λ κs x f. refl), tt)) (ask.clauses 𝓤 H A mem run) (WpFn 𝓤 H (𝓣 .C) (𝓣 .Λ) code.function) (WpFn-mono 𝓤 H (W .laws) 𝓣 code.function)
+ask-meets 𝓤 H A W mem run 𝓣 known-read = walk-meets 𝓤 H A ask.ended stayed W
+    (goes-none 𝓤 H A W 1 B yes (λ κs x f. refl), (goes-none 𝓤 H A W 1 (λ _. P.the-row) yes (λ κs x f. refl), tt)) (ask.clauses 𝓤 H A mem run)
+    (WpFn 𝓤 H (𝓣 .C) (𝓣 .Λ) code.function) (WpFn-mono 𝓤 H (W .laws) 𝓣 code.function)
     (ask-walks 𝓤 H A W mem run (𝓣 .C) (𝓣 .Λ) (fmOf 𝓤 H (W .laws) 𝓣) known-read)
 
 pub ask-spec : {M : Type 1} → stated.statement M

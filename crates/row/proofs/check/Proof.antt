@@ -1,65 +1,51 @@
 -- `row::check` meets its contract. Assumes nothing.
-use mathlib.Core.Path.{sym, _∙_}
-use native.Mathlib.Omega.{arith}
-use Rattle.row.proofs.Orders.{check-no, check-long, check-bad, check-good}
+use Rattle.row.proofs.Orders.{check-no}
+use Rattle.schema.proofs.Judging.{judged-long}
 use borrow.Author.Needs.{needs}
 use Rattle.row.proofs.check.Statement.{statement}
 use Rattle.row.proofs.check.Tie as tie
 
-judge-requires : tie.Need-judge-requires
-judge-requires c κs = search needs
+slice-aggregate-check-in : tie.Need-slice-aggregate-check-in
+slice-aggregate-check-in c = search needs
 
-enum-told : tie.Need-enum-told
-enum-told c = search needs
-
-enum-told-2 : tie.Need-enum-told-2
-enum-told-2 c = search needs
+check-in-requires : tie.Need-check-in-requires
+check-in-requires c κs = search needs
 
 returns : tie.Need-returns
-returns c =
-    let a = c .before .before .before .before .before .args in
-    check-no (a .schema .now) (a .row .now) (sym (c .before .before .judge .ensures) ∙ c .enum-told2 .given .1)
+returns c = search needs
+
+slice-aggregate-check-in-2 : tie.Need-slice-aggregate-check-in-2
+slice-aggregate-check-in-2 c = search needs
+
+check-in-requires-2 : tie.Need-check-in-requires-2
+check-in-requires-2 c κs = search needs
 
 returns-2 : tie.Need-returns-2
-returns-2 c =
-    let a = c .before .before .before .before .before .before .args in
-    check-long (a .schema .now) (a .row .now) (sym (c .before .before .before .judge .ensures) ∙ c .before .enum-told .given .1)
-    (omega (arith, c .if1 .taken))
-
-check-row-requires : tie.Need-check-row-requires
-check-row-requires c κs = (sym (c .before .before .before .judge .ensures) ∙ c .before .enum-told .given .1, omega (arith, c .if1 .left))
-
-enum-told-3 : tie.Need-enum-told-3
-enum-told-3 c = search needs
-
-enum-known-place : tie.Need-enum-known-place
-enum-known-place c = search needs
+returns-2 c = search needs
 
 returns-3 : tie.Need-returns-3
-returns-3 c =
-    let a = c .before .before .before .before .before .before .before .before .before .args in
-    check-good (a .schema .now) (a .row .now)
-    (sym (c .before .before .before .before .before .before .judge .ensures) ∙ c .before .before .before .before .enum-told .given .1)
-    (omega (arith, c .before .before .before .if1 .left)) _ (c .before .before .check-row .ensures) (c .enum-told3 .given .1)
+returns-3 c = check-no _ _ (judged-long _ (c .if3 .taken))
+
+slice-aggregate-check-in-3 : tie.Need-slice-aggregate-check-in-3
+slice-aggregate-check-in-3 c = search needs
+
+check-in-requires-3 : tie.Need-check-in-requires-3
+check-in-requires-3 c κs = search needs
 
 returns-4 : tie.Need-returns-4
-returns-4 c =
-    let a = c .before .before .before .before .before .before .before .before .before .before .args in
-    check-bad (a .schema .now) (a .row .now)
-    (sym (c .before .before .before .before .before .before .before .judge .ensures) ∙ c .before .before .before .before .before .enum-told .given .1)
-    (omega (arith, c .before .before .before .before .if1 .left)) _ (c .before .before .before .check-row .ensures) _ (c .before .place .given .1)
+returns-4 c = search needs
 
 pub check-spec : {M : Type 1} → statement M
 check-spec =
     tie.close
     (tie.spec
-    judge-requires
-    enum-told
-    enum-told-2
+    slice-aggregate-check-in
+    check-in-requires
     returns
+    slice-aggregate-check-in-2
+    check-in-requires-2
     returns-2
-    check-row-requires
-    enum-told-3
-    enum-known-place
     returns-3
+    slice-aggregate-check-in-3
+    check-in-requires-3
     returns-4)

@@ -1,24 +1,51 @@
 -- `row::judge` meets its contract. Assumes nothing.
-use mathlib.Core.Path.{sym, _∙_}
-use Rattle.row.proofs.Orders.{judge-yes, judge-no}
+use Rattle.row.proofs.Orders.{judge-no}
+use Rattle.schema.proofs.Judging.{judged-long}
 use borrow.Author.Needs.{needs}
 use Rattle.row.proofs.judge.Statement.{statement}
 use Rattle.row.proofs.judge.Tie as tie
 
-judge-requires : tie.Need-judge-requires
-judge-requires c κs = search needs
+slice-aggregate-judge-in : tie.Need-slice-aggregate-judge-in
+slice-aggregate-judge-in c = search needs
 
-enum-told : tie.Need-enum-told
-enum-told c = search needs
-
-enum-told-2 : tie.Need-enum-told-2
-enum-told-2 c = search needs
+judge-in-requires : tie.Need-judge-in-requires
+judge-in-requires c κs = search needs
 
 returns : tie.Need-returns
-returns c = judge-yes (c .before .before .before .before .args .schema .now) (sym (c .before .before .judge .ensures) ∙ c .enum-told .given .1)
+returns c = search needs
+
+slice-aggregate-judge-in-2 : tie.Need-slice-aggregate-judge-in-2
+slice-aggregate-judge-in-2 c = search needs
+
+judge-in-requires-2 : tie.Need-judge-in-requires-2
+judge-in-requires-2 c κs = search needs
 
 returns-2 : tie.Need-returns-2
-returns-2 c = judge-no (c .before .before .before .before .args .schema .now) (sym (c .before .before .judge .ensures) ∙ c .enum-told2 .given .1)
+returns-2 c = search needs
+
+returns-3 : tie.Need-returns-3
+returns-3 c = judge-no _ (judged-long _ (c .if3 .taken))
+
+slice-aggregate-judge-in-3 : tie.Need-slice-aggregate-judge-in-3
+slice-aggregate-judge-in-3 c = search needs
+
+judge-in-requires-3 : tie.Need-judge-in-requires-3
+judge-in-requires-3 c κs = search needs
+
+returns-4 : tie.Need-returns-4
+returns-4 c = search needs
 
 pub judge-spec : {M : Type 1} → statement M
-judge-spec = tie.close (tie.spec judge-requires enum-told enum-told-2 returns returns-2)
+judge-spec =
+    tie.close
+    (tie.spec
+    slice-aggregate-judge-in
+    judge-in-requires
+    returns
+    slice-aggregate-judge-in-2
+    judge-in-requires-2
+    returns-2
+    returns-3
+    slice-aggregate-judge-in-3
+    judge-in-requires-3
+    returns-4)

@@ -3,8 +3,6 @@ use mathlib.Core.Path.{refl}
 use Rattle.table.specs.Words.{afterIn}
 use Rattle.table.proofs.after.Statement.{statement}
 use Rattle.table.proofs.after.Tie as tie
-use Rattle.table.proofs.after.Reads as reads
-use Rattle.table.proofs.after.Lts as lts
 
 -- src/lib.rt:223:1
 returns : tie.Need-returns

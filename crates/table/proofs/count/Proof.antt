@@ -3,8 +3,6 @@ use mathlib.Core.Path.{refl}
 use Rattle.table.specs.Words.{countIn}
 use Rattle.table.proofs.count.Statement.{statement}
 use Rattle.table.proofs.count.Tie as tie
-use Rattle.table.proofs.count.Reads as reads
-use Rattle.table.proofs.count.Lts as lts
 
 -- src/lib.rt:216:1
 returns : tie.Need-returns

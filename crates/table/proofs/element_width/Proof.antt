@@ -3,10 +3,6 @@ use Rattle.table.proofs.Decode.{element-fixed, element-varies}
 use borrow.Author.Needs.{needs}
 use Rattle.table.proofs.element_width.Statement.{statement}
 use Rattle.table.proofs.element_width.Tie as tie
-use Rattle.table.proofs.element_width.Reads as reads
-use Rattle.table.proofs.element_width.Lts as lts
-use Rattle.table.proofs.place.Reads as place-reads
-use Rattle.table.proofs.width.Reads as width-reads
 
 -- src/lib.rt:234:8
 place-requires : tie.Need-place-requires

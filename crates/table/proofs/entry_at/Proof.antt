@@ -3,8 +3,6 @@ use native.Mathlib.Omega.{arith}
 use Rattle.table.proofs.Places.{place-room, table-short, entry-says}
 use Rattle.table.proofs.entry_at.Statement.{statement}
 use Rattle.table.proofs.entry_at.Tie as tie
-use Rattle.table.proofs.entry_at.Reads as reads
-use Rattle.table.proofs.entry_at.Lts as lts
 
 -- src/lib.rt:185:5
 mul-result : tie.Need-mul-result

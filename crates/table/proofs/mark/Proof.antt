@@ -3,8 +3,6 @@ use mathlib.Core.Path.{refl}
 use Rattle.table.specs.Words.{markIn}
 use Rattle.table.proofs.mark.Statement.{statement}
 use Rattle.table.proofs.mark.Tie as tie
-use Rattle.table.proofs.mark.Reads as reads
-use Rattle.table.proofs.mark.Lts as lts
 
 -- src/lib.rt:195:1
 returns : tie.Need-returns

@@ -3,8 +3,6 @@ use mathlib.Core.Path.{refl}
 use Rattle.table.specs.Words.{placeIn}
 use Rattle.table.proofs.place.Statement.{statement}
 use Rattle.table.proofs.place.Tie as tie
-use Rattle.table.proofs.place.Reads as reads
-use Rattle.table.proofs.place.Lts as lts
 
 -- src/lib.rt:189:1
 returns : tie.Need-returns

@@ -3,8 +3,6 @@ use mathlib.Core.Path.{refl}
 use Rattle.table.specs.Words.{topIn}
 use Rattle.table.proofs.top.Statement.{statement}
 use Rattle.table.proofs.top.Tie as tie
-use Rattle.table.proofs.top.Reads as reads
-use Rattle.table.proofs.top.Lts as lts
 
 -- src/lib.rt:209:1
 returns : tie.Need-returns

@@ -3,8 +3,6 @@ use mathlib.Core.Path.{refl}
 use Rattle.table.specs.Words.{widthIn}
 use Rattle.table.proofs.width.Statement.{statement}
 use Rattle.table.proofs.width.Tie as tie
-use Rattle.table.proofs.width.Reads as reads
-use Rattle.table.proofs.width.Lts as lts
 
 -- src/lib.rt:202:1
 returns : tie.Need-returns

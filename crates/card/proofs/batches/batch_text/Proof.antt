@@ -1,5 +1,6 @@
 -- `card::batches::batch_text` meets its contract: what is shown was accepted. Assumes nothing.
-use Rattle.card.proofs.Checked.{walked-as, refusal-walked}
+use Rattle.lettering.proofs.Putting.{walked-as}
+use Rattle.card.proofs.Checked.{refusal-walked}
 use Rattle.card.proofs.Turns.{batch-accepted, batch-done, batch-refused, row-refused}
 use borrow.Author.Needs.{needs}
 use Rattle.card.proofs.batches.batch_text.Statement.{statement}
@@ -11,8 +12,8 @@ check-requires c κs = search needs
 enum-told : tie.Need-enum-told
 enum-told c = search needs
 
-rows-text-requires : tie.Need-rows-text-requires
-rows-text-requires c κs =
+accepted-text-requires : tie.Need-accepted-text-requires
+accepted-text-requires c κs =
     let k = c .before .before .before .check .ensures in
     (batch-accepted _ _ _ k (c .before .enum-told .given .1), c .before .before .before .before .before .before .before .pre)
 
@@ -43,7 +44,7 @@ same-length c = search needs
 returns : tie.Need-returns
 returns c =
     let k = c .before .before .before .before .before .before .check .ensures in
-    walked-as (batch-done _ _ _ k (c .before .before .before .before .enum-told .given .1)) (c .before .before .rows-text .ensures)
+    walked-as (batch-done _ _ _ k (c .before .before .before .before .enum-told .given .1)) (c .before .before .accepted-text .ensures)
 
 same-length-2 : tie.Need-same-length-2
 same-length-2 c = search needs
@@ -72,7 +73,7 @@ batch-text-spec =
     (tie.spec
     check-requires
     enum-told
-    rows-text-requires
+    accepted-text-requires
     enum-known-r
     number-requires
     refused-requires

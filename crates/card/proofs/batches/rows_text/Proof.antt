@@ -5,6 +5,7 @@ use Prim.Native.Nat.{_-_}
 use native.Mathlib.Omega.{arith}
 use lib.ListN.{length}
 use Rattle.words.proofs.Numbers.{bytes-of}
+use Rattle.table.specs.Tables.{schemaOf}
 use Rattle.batch.specs.Places.{Passed}
 use Rattle.batch.proofs.Passing.{passed-start, passed-fits, passed-next}
 use Rattle.card.proofs.Lengths.{heading-most}
@@ -15,14 +16,14 @@ use Rattle.card.proofs.batches.rows_text.Lts as lts
 use Rattle.card.proofs.batches.rows_text.Reads as reads
 use Rattle.batch.proofs.frames.frame_end.Reads as frame-end
 use Rattle.card.proofs.batches.heading.Reads as heading
-use Rattle.card.proofs.walk.spill.Reads as spill
-use Rattle.card.proofs.walk.whole.Reads as whole
+use Rattle.lettering.proofs.spill.Reads as spill
+use Rattle.leaves.proofs.whole.Reads as whole
 
 abbrev Inv-loop : tie.InvT-loop
-Inv-loop s b out₀ used₀ at₀ n₀ out used at n = Passed b at n × Written s b out₀ n used out
+Inv-loop t b out₀ used₀ at₀ n₀ out used at n = Passed b at n × Written (schemaOf t) b out₀ n used out
 
 abbrev μ-loop : tie.MeasureT-loop
-μ-loop s b out₀ used₀ at₀ n₀ out used at n = length b - at
+μ-loop t b out₀ used₀ at₀ n₀ out used at n = length b - at
 
 -- behind the frame's end the next row is known
 abbrev Here : Type 0
@@ -30,15 +31,15 @@ Here = lts.After-frame-end
     (frame-end.Asked, frame-end.Learnt, spill.Asked, spill.Learnt, heading.Asked, heading.Learnt, whole.Asked, whole.Learnt)
     reads.Pre reads.Post Inv-loop μ-loop
 
-next : (c : Here) → Next (c .before .before .before .before .before .before .args .s .now) (c .before .before .before .before .before .before .args .b .now)
+next : (c : Here) → let a = c .before .before .before .before .before .before .args in Next (schemaOf (a .t .now)) (a .b .now)
     (c .before .before .loop .at) (c .before .before .loop .n) (c .frame-end .result)
 next c =
     let bytes = bytes-of _ (λ i. c .before .before .before .before .shared-slice-known2 .given i .fits) in
-    next-row _ _ bytes (c .before .before .before .before .before .before .pre .0)
+    next-row _ _ bytes (c .before .before .before .before .before .before .pre .1)
     (c .before .before .loop .inv .0) (c .frame-end .ensures) (c .before .loop-test .taken)
 
 loop-holds : tie.Need-loop-holds Inv-loop μ-loop
-loop-holds c = (passed-start _, written-start _ _ (c .before .before .before .pre .1))
+loop-holds c = (passed-start _, written-start _ _ (c .before .before .before .pre .2))
 
 frame-end-requires : tie.Need-frame-end-requires Inv-loop μ-loop
 frame-end-requires c κs = c .before .loop .inv .0 .high
@@ -64,8 +65,9 @@ part-whole-end c = next (c .before .before .before .before .before .before) .sta
 whole-requires : tie.Need-whole-requires Inv-loop μ-loop
 whole-requires c κs =
     let l = c .before .before .before .before .before .before .before .before .before .before .loop in
+    let entry = c .before .before .before .before .before .before .before .before .before .before .before .before .before .before in
     let h = c .before .before .before .before .heading in (
-      next (c .before .before .before .before .before .before .before .before) .opened,
+      record { table = entry .pre .0; short = next (c .before .before .before .before .before .before .before .before) .ready .short },
       h .kept .0 ∙ l .inv .1 .long ∙ l .inv .1 .room,
       omega (arith, h .ensures .next, heading-most (l .n), c .before .before .before .before .before .spill .ensures .few),
     )

@@ -44,7 +44,9 @@ mul-chart-2 : tie.Need-mul-chart-2 Inv-loop μ-loop
 mul-chart-2 c = search needs
 
 slice-write-chart-2 : tie.Need-slice-write-chart-2 Inv-loop μ-loop
-slice-write-chart-2 c = simp length-set (omega (arith, c .before .before .before .before .pre .within, c .before .before .before .before .pre .long))
+slice-write-chart-2 c =
+    let pre = c .before .before .before .before .pre in
+    simp length-set (omega (arith, pre .within, pre .long))
 
 loop-holds : tie.Need-loop-holds Inv-loop μ-loop
 loop-holds c = (omega arith, simp length-set (c .before .before .before .before .pre .long), rw add-zero)
@@ -65,7 +67,9 @@ mul-chart-4 : tie.Need-mul-chart-4 Inv-loop μ-loop
 mul-chart-4 c = search needs
 
 slice-write-chart-3 : tie.Need-slice-write-chart-3 Inv-loop μ-loop
-slice-write-chart-3 c = omega (arith, c .before .before .before .before .before .before .pre .within, c .before .loop .inv .1)
+slice-write-chart-3 c =
+    let pre = c .before .before .before .before .before .before .pre in
+    omega (arith, pre .within, c .before .loop .inv .1)
 
 add-k : tie.Need-add-k Inv-loop μ-loop
 add-k c = omega arith

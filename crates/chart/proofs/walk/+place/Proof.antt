@@ -29,12 +29,12 @@ abbrev place-below : ℕ → In 3 place-kinds.ps
 place-below t = and 3 place-kinds.ps (falls 3 place-kinds.ps _<_ μ-place t) place.Pre
 
 abbrev place-Inv-loop : place-lts.InvT-loop
-place-Inv-loop s row chart₀ n count child₀ i₀ chart child i =
+place-Inv-loop table row chart₀ n count child₀ i₀ chart child i =
     (i ≤ count) × (length chart ≡ 36864) × (child .len ≡ child₀ .len) × ((j : ℕ) → set (child .steps) n j ≡ set (child₀ .steps) n j)
-    × (chart ≡ through (beneath s row n (take n (child₀ .steps))) i chart₀)
+    × (chart ≡ through (beneath table row n (take n (child₀ .steps))) i chart₀)
 
 abbrev place-μ-loop : place-lts.MeasureT-loop
-place-μ-loop s row chart₀ n count child₀ i₀ chart child i = count - i
+place-μ-loop table row chart₀ n count child₀ i₀ chart child i = count - i
 
 abbrev place-calls : ℕ → place-lts.Claims
 place-calls t = (label-reads.Asked, label-reads.Learnt, place-below t, place.Post)
@@ -98,7 +98,9 @@ place-loop-again t c =
     )
 
 place-same-length : (t : ℕ) → place-lts.Need-same-length (place-calls t) (place-at t) place.Post place-Inv-loop place-μ-loop
-place-same-length t c = c .before .loop .inv .1 ∙ sym (c .before .before .before .before .before .before .before .before .before .before .pre .1 .long)
+place-same-length t c =
+    let pre = c .before .before .before .before .before .before .before .before .before .before .pre in
+    c .before .loop .inv .1 ∙ sym (pre .1 .long)
 
 place-returns-2 : (t : ℕ) → place-lts.Need-returns-2 (place-calls t) (place-at t) place.Post place-Inv-loop place-μ-loop
 place-returns-2 t c =

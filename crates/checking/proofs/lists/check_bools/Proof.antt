@@ -3,15 +3,10 @@ use Prim.Native.Nat.{_-_}
 use native.Mathlib.Omega.{arith}
 use Rattle.words.proofs.Numbers.{bytes-of}
 use Rattle.checking.proofs.Leaves.{
-  end-gap,
-  end-done,
-  end-over,
   BoolsAt,
   bools-start,
   bools-stop,
-  bools-pad,
-  bools-search,
-  bools-found,
+  bools-behind,
   bools-end,
   bools-bit,
   bools-byte,
@@ -59,8 +54,7 @@ add-result-2 : tie.Need-add-result-2 Inv-loop μ-loop
 add-result-2 c = bools-told (c .before .before .before .before .before .loop .inv) (c .before .before .before .before .loop-test .taken)
 
 returns : tie.Need-returns Inv-loop μ-loop
-returns c =
-    bools-wrong (c .before .before .before .before .before .loop .inv) (c .before .before .before .before .loop-test .taken)
+returns c = bools-wrong (c .before .before .before .before .before .loop .inv) (c .before .before .before .before .loop-test .taken)
     (c .before .before .before .is-null .ensures) (c .before .before .if1 .left) (c .if2 .taken)
 
 add-i-2 : tie.Need-add-i-2 Inv-loop μ-loop
@@ -70,39 +64,17 @@ loop-less-2 : tie.Need-loop-less-2 Inv-loop μ-loop
 loop-less-2 c = omega arith
 
 loop-again-2 : tie.Need-loop-again-2 Inv-loop μ-loop
-loop-again-2 c =
-    bools-next (c .before .before .before .before .before .loop .inv) (c .before .before .before .before .loop-test .taken)
+loop-again-2 c = bools-next (c .before .before .before .before .before .loop .inv) (c .before .before .before .before .loop-test .taken)
     (c .before .before .before .is-null .ensures) (c .before .before .if1 .left) (c .if2 .left)
 
-add-pad-clear : tie.Need-add-pad-clear Inv-loop μ-loop
-add-pad-clear c = bools-stop (c .before .loop .inv)
+add-check-end : tie.Need-add-check-end Inv-loop μ-loop
+add-check-end c = bools-stop (c .before .loop .inv)
 
-pad-clear-requires : tie.Need-pad-clear-requires Inv-loop μ-loop
-pad-clear-requires c κs = bools-pad (c .before .loop .inv)
-
-add-first-set : tie.Need-add-first-set Inv-loop μ-loop
-add-first-set c = bools-stop (c .before .before .before .loop .inv)
-
-first-set-requires : tie.Need-first-set-requires Inv-loop μ-loop
-first-set-requires c κs = bools-search (c .before .before .before .loop .inv)
-
-add-result-3 : tie.Need-add-result-3 Inv-loop μ-loop
-add-result-3 c = bools-found (c .before .before .before .before .loop .inv) (c .first-set .ensures)
+check-end-requires : tie.Need-check-end-requires Inv-loop μ-loop
+check-end-requires c κs = bools-behind (c .before .loop .inv)
 
 returns-2 : tie.Need-returns-2 Inv-loop μ-loop
-returns-2 c =
-    end-gap _ _ _ _ (bools-end (c .before .before .before .before .loop .inv) (c .before .before .before .loop-test .left))
-    (c .before .before .pad-clear .ensures) (c .before .if3 .taken) (c .first-set .ensures)
-
-returns-3 : tie.Need-returns-3 Inv-loop μ-loop
-returns-3 c =
-    end-over _ _ _ _ (bools-end (c .before .before .before .before .loop .inv) (c .before .before .before .loop-test .left))
-    (c .before .before .pad-clear .ensures) (c .before .if3 .left) (c .if4 .taken)
-
-returns-4 : tie.Need-returns-4 Inv-loop μ-loop
-returns-4 c =
-    end-done _ _ _ _ (bools-end (c .before .before .before .before .loop .inv) (c .before .before .before .loop-test .left))
-    (c .before .before .pad-clear .ensures) (c .before .if3 .left) (c .if4 .left)
+returns-2 c = bools-end (c .before .before .loop .inv) (c .before .loop-test .left) (c .check-end .ensures)
 
 pub check-bools-spec : {M : Type 1} → statement M
 check-bools-spec =
@@ -123,11 +95,6 @@ check-bools-spec =
     add-i-2
     loop-less-2
     loop-again-2
-    add-pad-clear
-    pad-clear-requires
-    add-first-set
-    first-set-requires
-    add-result-3
-    returns-2
-    returns-3
-    returns-4)
+    add-check-end
+    check-end-requires
+    returns-2)

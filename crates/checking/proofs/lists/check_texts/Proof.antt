@@ -1,28 +1,215 @@
--- `checking::lists::check_texts` meets its contract: both loops come to the same. Assumes nothing.
-use mathlib.Core.Path.{subst}
-use Rattle.checking.specs.Room.{NoNullsIf}
-use borrow.Author.Needs.{needs}
+-- `checking::lists::check_texts` meets its contract: before element i, what is left leads to the same end. Assumes nothing.
+use mathlib.Core.Path.{refl, sym, _∙_}
+use Prim.Native.Nat.{_+_, _*_, _-_}
+use native.Mathlib.Omega.{arith}
+use Rattle.words.proofs.Numbers.{bytes-of}
+use Rattle.schema.specs.Types.{text, st}
+use Rattle.checking.proofs.Leaves.{text-sound, texts-slots, null-ask, nulls-room}
+use Rattle.checking.proofs.Loops.{
+  items,
+  At,
+  astray,
+  slots-in,
+  loop-start,
+  loop-since,
+  loop-sum,
+  loop-told,
+  loop-unfit,
+  loop-done,
+  loop-over,
+  loop-bit,
+  loop-upper-on,
+  loop-upper,
+  loop-lower,
+  loop-slot-on,
+  loop-on,
+  loop-falls,
+  loop-null,
+}
+use Rattle.checking.proofs.Cursor.{
+  Told,
+  Here,
+  told-moves,
+  told-less,
+  stop-fits,
+  stop-small,
+  here-slot-on,
+  here-on,
+  here-less,
+  here-told,
+  here-long,
+  here-pad,
+  here-unpadded,
+  here-next,
+  here-search,
+  here-found,
+}
 use Rattle.checking.proofs.lists.check_texts.Statement.{statement}
 use Rattle.checking.proofs.lists.check_texts.Tie as tie
 
-no-nulls-requires : tie.Need-no-nulls-requires
-no-nulls-requires c κs = search needs
+abbrev Inv-loop : tie.InvT-loop
+Inv-loop b n slots start full slot₀ cur₀ i₀ stop₀ done₀ since₀ slot cur i stop done since = At (items (text st) n) b n slots start i slot cur stop done since
 
-full-texts-requires : tie.Need-full-texts-requires
-full-texts-requires c κs =
-    let A = c .before .before .before .args in
-    (c .before .before .before .pre, subst (NoNullsIf (A .b .now) (A .n)) (c .if1 .taken) (c .before .no-nulls .ensures))
+abbrev μ-loop : tie.MeasureT-loop
+μ-loop b n slots start full slot₀ cur₀ i₀ stop₀ done₀ since₀ slot cur i stop done since = 2 * (n - i) + astray b slot cur
 
-returns : tie.Need-returns
-returns c = search needs
+no-nulls-requires : tie.Need-no-nulls-requires Inv-loop μ-loop
+no-nulls-requires c κs = nulls-room (c .before .pre)
 
-some-texts-requires : tie.Need-some-texts-requires
-some-texts-requires c κs = search needs
+loop-holds : tie.Need-loop-holds Inv-loop μ-loop
+loop-holds c = loop-start (texts-slots (c .before .before .pre) (bytes-of _ (λ i. c .before .shared-slice-known .given i .fits)))
 
-returns-2 : tie.Need-returns-2
-returns-2 c = search needs
+null-at-requires : tie.Need-null-at-requires Inv-loop μ-loop
+null-at-requires c κs = null-ask _ (c .before .before .no-nulls .ensures) (omega (arith, c .before .loop .inv .within, c .loop-test .taken))
+    (loop-bit (c .before .loop .inv) (c .loop-test .taken))
+
+add-slot : tie.Need-add-slot Inv-loop μ-loop
+add-slot c = loop-slot-on (c .before .before .before .loop .inv) (c .before .before .loop-test .taken)
+
+add-i : tie.Need-add-i Inv-loop μ-loop
+add-i c = loop-on (c .before .before .before .loop .inv) (c .before .before .loop-test .taken)
+
+loop-less : tie.Need-loop-less Inv-loop μ-loop
+loop-less c = loop-falls (c .before .before .before .loop .inv) (c .before .before .loop-test .taken) _
+
+loop-again : tie.Need-loop-again Inv-loop μ-loop
+loop-again c = loop-null (c .before .before .before .loop .inv) (c .before .before .loop-test .taken) (c .before .null-at .ensures) (c .if1 .taken)
+
+add-get4 : tie.Need-add-get4 Inv-loop μ-loop
+add-get4 c = loop-upper-on (c .before .before .before .loop .inv) (c .before .before .loop-test .taken)
+
+get4-requires : tie.Need-get4-requires Inv-loop μ-loop
+get4-requires c κs = loop-upper (c .before .before .before .loop .inv) (c .before .before .loop-test .taken)
+
+-- what the slot says
+told : (c : tie.After-get4 Inv-loop μ-loop) → Told (c .before .before .before .before .loop .inv) (c .get4 .result)
+told c = record {
+  less = c .before .before .before .loop-test .taken;
+  ranged = refl;
+  here = sym (c .before .before .null-at .ensures) ∙ c .before .if1 .left;
+  reads = c .get4 .ensures;
+}
+
+items-stand-requires : tie.Need-items-stand-requires Inv-loop μ-loop
+items-stand-requires c κs = slots-in (c .before .before .before .before .before .loop .inv .fixed)
+
+sub-done : tie.Need-sub-done Inv-loop μ-loop
+sub-done c = loop-since (c .before .before .before .before .before .before .loop .inv)
+
+add-done : tie.Need-add-done Inv-loop μ-loop
+add-done c = loop-sum (c .before .before .before .before .before .before .loop .inv)
+
+loop-less-2 : tie.Need-loop-less-2 Inv-loop μ-loop
+loop-less-2 c = told-less (told (c .before .before)) (c .before .if2 .taken)
+
+loop-again-2 : tie.Need-loop-again-2 Inv-loop μ-loop
+loop-again-2 c = told-moves (told (c .before .before)) (c .items-stand .ensures)
+
+get4-requires-2 : tie.Need-get4-requires-2 Inv-loop μ-loop
+get4-requires-2 c κs = loop-lower (c .before .before .before .before .before .loop .inv) (c .before .before .before .before .loop-test .taken)
+
+add-end : tie.Need-add-end Inv-loop μ-loop
+add-end c = stop-fits (c .before .before .before .before .before .before .loop .inv) (c .get42 .ensures)
+
+pad-size-requires : tie.Need-pad-size-requires Inv-loop μ-loop
+pad-size-requires c κs = stop-small (c .before .before .before .before .before .before .loop .inv) (c .get42 .ensures)
+
+-- and that the cursor is there
+here : (c : tie.After-pad-size Inv-loop μ-loop)
+    → Here (c .before .before .before .before .before .before .before .loop .inv) (c .before .get42 .result) (c .pad-size .result)
+here c = record {
+  offset = c .before .before .before .get4 .result;
+  told = told (c .before .before .before);
+  from = c .before .before .if2 .left;
+  size = c .before .get42 .ensures;
+  to = c .pad-size .ensures;
+}
+
+add-result : tie.Need-add-result Inv-loop μ-loop
+add-result c = here-told (here (c .before))
+
+returns : tie.Need-returns Inv-loop μ-loop
+returns c = here-long (here (c .before)) (c .if3 .taken)
+
+pad-clear-requires : tie.Need-pad-clear-requires Inv-loop μ-loop
+pad-clear-requires c κs = here-pad (here (c .before)) (c .if3 .left)
+
+first-set-requires : tie.Need-first-set-requires Inv-loop μ-loop
+first-set-requires c κs = here-search (here (c .before .before .before)) (c .before .before .if3 .left)
+
+add-result-2 : tie.Need-add-result-2 Inv-loop μ-loop
+add-result-2 c = here-found (here (c .before .before .before .before)) (c .before .before .before .if3 .left) (c .first-set .ensures)
+
+returns-2 : tie.Need-returns-2 Inv-loop μ-loop
+returns-2 c = here-unpadded (here (c .before .before .before .before)) (c .before .before .before .if3 .left) (text-sound _)
+    (c .before .before .pad-clear .ensures) (c .before .if4 .taken) (c .first-set .ensures)
+
+add-slot-2 : tie.Need-add-slot-2 Inv-loop μ-loop
+add-slot-2 c = here-slot-on (here (c .before .before .before))
+
+add-i-2 : tie.Need-add-i-2 Inv-loop μ-loop
+add-i-2 c = here-on (here (c .before .before .before))
+
+loop-less-3 : tie.Need-loop-less-3 Inv-loop μ-loop
+loop-less-3 c = here-less (here (c .before .before .before))
+
+loop-again-3 : tie.Need-loop-again-3 Inv-loop μ-loop
+loop-again-3 c = here-next (here (c .before .before .before)) (c .before .before .if3 .left) (text-sound _) (c .before .pad-clear .ensures) (c .if4 .left)
+
+add-result-3 : tie.Need-add-result-3 Inv-loop μ-loop
+add-result-3 c = loop-told (c .before .before .loop .inv) (c .before .loop-test .left) (c .if5 .taken)
+
+returns-3 : tie.Need-returns-3 Inv-loop μ-loop
+returns-3 c = loop-unfit (c .before .before .loop .inv) (c .before .loop-test .left) (c .if5 .taken)
+
+sub-if6 : tie.Need-sub-if6 Inv-loop μ-loop
+sub-if6 c = loop-since (c .before .before .loop .inv)
+
+add-if6 : tie.Need-add-if6 Inv-loop μ-loop
+add-if6 c = loop-sum (c .before .before .loop .inv)
+
+returns-4 : tie.Need-returns-4 Inv-loop μ-loop
+returns-4 c = loop-over (c .before .before .before .loop .inv) (c .before .before .loop-test .left) (c .before .if5 .left) (c .if6 .taken)
+
+returns-5 : tie.Need-returns-5 Inv-loop μ-loop
+returns-5 c = loop-done (c .before .before .before .loop .inv) (c .before .before .loop-test .left) (c .before .if5 .left) (c .if6 .left)
 
 pub check-texts-spec : {M : Type 1} → statement M
 check-texts-spec =
     tie.close
-    (tie.spec no-nulls-requires full-texts-requires returns some-texts-requires returns-2)
+    (tie.spec
+    Inv-loop
+    μ-loop
+    no-nulls-requires
+    loop-holds
+    null-at-requires
+    add-slot
+    add-i
+    loop-less
+    loop-again
+    add-get4
+    get4-requires
+    items-stand-requires
+    sub-done
+    add-done
+    loop-less-2
+    loop-again-2
+    get4-requires-2
+    add-end
+    pad-size-requires
+    add-result
+    returns
+    pad-clear-requires
+    first-set-requires
+    add-result-2
+    returns-2
+    add-slot-2
+    add-i-2
+    loop-less-3
+    loop-again-3
+    add-result-3
+    returns-3
+    sub-if6
+    add-if6
+    returns-4
+    returns-5)

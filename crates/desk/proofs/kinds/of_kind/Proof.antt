@@ -23,7 +23,8 @@ returns-2 : tie.Need-returns-2
 returns-2 c = λ u. kind-bool _ _ u (c .before .match .keys2) _ (c .of-bool .ensures u)
 
 returns-3 : tie.Need-returns-3
-returns-3 c = λ u. kind-number _ _ u (c .before .match .keys3) _ (toZ-ofZ w64 (c .to-signed .result) (record { sfits = c .to-signed .ok }) ∙ c .to-signed .ensures)
+returns-3 c = λ u. kind-number _ _ u (c .before .match .keys3) _
+    (toZ-ofZ w64 (c .to-signed .result) (record { sfits = c .to-signed .ok }) ∙ c .to-signed .ensures)
 
 returns-4 : tie.Need-returns-4
 returns-4 c = λ u. kind-float32 _ _ u (c .before .match .keys4) _ (c .of-float32 .ensures u)
@@ -35,7 +36,8 @@ returns-6 : tie.Need-returns-6
 returns-6 c = λ u. kind-bytes _ _ u (c .match .keys6)
 
 returns-7 : tie.Need-returns-7
-returns-7 c = λ u. kind-none _ _ u (c .match .rest .0 .0 .0 .0 .0 .1) (c .match .rest .0 .0 .0 .0 .1) (c .match .rest .0 .0 .0 .1) (c .match .rest .0 .0 .1) (c .match .rest .0 .1) (c .match .rest .1)
+returns-7 c = λ u. kind-none _ _ u (c .match .rest .0 .0 .0 .0 .0 .1) (c .match .rest .0 .0 .0 .0 .1) (c .match .rest .0 .0 .0 .1)
+    (c .match .rest .0 .0 .1) (c .match .rest .0 .1) (c .match .rest .1)
 
 pub of-kind-spec : {M : Type 1} → statement M
 of-kind-spec =

@@ -91,19 +91,25 @@ same-length : tie.Need-same-length
 same-length c = search needs
 
 returns : tie.Need-returns
-returns c = tells-null _ _ _ (c .before .before .before .before .before .before .before .args .x) (c .before .before .before .before .enum-told .given .1) (c .before .before .put .ensures)
+returns c = tells-null _ _ _ (c .before .before .before .before .before .before .before .args .x) (c .before .before .before .before .enum-told .given .1)
+    (c .before .before .put .ensures)
 
 same-length-2 : tie.Need-same-length-2
 same-length-2 c = search needs
 
 returns-2 : tie.Need-returns-2
-returns-2 c = tells-bool _ _ _ (c .before .before .before .before .before .before .before .before .args .x) _ _ (c .before .before .before .before .before .x .given .1) refl (c .before .before .put2 .ensures)
+returns-2 c = tells-bool _ _ _ (c .before .before .before .before .before .before .before .before .args .x) _ _
+    (c .before .before .before .before .before .x .given .1) refl (c .before .before .put2 .ensures)
 
 same-length-3 : tie.Need-same-length-3
 same-length-3 c = search needs
 
 returns-3 : tie.Need-returns-3
-returns-3 c = tells-number _ _ _ (c .before .before .before .before .before .before .before .before .before .args .x) _ _ (c .before .before .before .before .before .before .x2 .given .1) (c .before .before .before .of-signed .ensures ∙ ap (ofSigned (halfOf 8)) (toZ-ofZ w64 (c .before .before .before .before .before .before .x2 .given .0 .0) (record { sfits = c .before .before .before .before .before .known-told2 .given .0 .1 }))) (c .before .before .put3 .ensures)
+returns-3 c = tells-number _ _ _ (c .before .before .before .before .before .before .before .before .before .args .x) _ _
+    (c .before .before .before .before .before .before .x2 .given .1)
+    (c .before .before .before .of-signed .ensures ∙ ap (ofSigned (halfOf 8))
+    (toZ-ofZ w64 (c .before .before .before .before .before .before .x2 .given .0 .0)
+    (record { sfits = c .before .before .before .before .before .known-told2 .given .0 .1 }))) (c .before .before .put3 .ensures)
 
 same-length-4 : tie.Need-same-length-4
 same-length-4 c = search needs
@@ -145,13 +151,15 @@ same-length-8 : tie.Need-same-length-8
 same-length-8 c = search needs
 
 returns-8 : tie.Need-returns-8
-returns-8 c = tells-bytes _ _ _ (c .before .before .before .before .before .before .before .before .args .x) _ _ (c .before .before .before .before .before .x7 .given .1) (c .before .before .put8 .ensures)
+returns-8 c = tells-bytes _ _ _ (c .before .before .before .before .before .before .before .before .args .x) _ _
+    (c .before .before .before .before .before .x7 .given .1) (c .before .before .put8 .ensures)
 
 same-length-9 : tie.Need-same-length-9
 same-length-9 c = search needs
 
 returns-9 : tie.Need-returns-9
-returns-9 c = tells-container _ _ _ (c .before .before .before .before .before .before .before .before .args .x) _ _ _ (c .before .before .before .before .before .x8 .given .1) (c .before .before .put9 .ensures)
+returns-9 c = tells-container _ _ _ (c .before .before .before .before .before .before .before .before .args .x) _ _ _
+    (c .before .before .before .before .before .x8 .given .1) (c .before .before .put9 .ensures)
 
 returns-10 : tie.Need-returns-10
 returns-10 c =

@@ -1,27 +1,17 @@
 -- `reading::own::element_width` meets its contract. Assumes nothing.
-use Prim.Native.Nat.{_-_}
-use Rattle.reading.proofs.Rules.{open-is, open-small, element-wide}
+use Rattle.reading.proofs.Rules.{element-wide}
 use borrow.Author.Needs.{needs}
 use Rattle.reading.proofs.own.element_width.Statement.{statement}
 use Rattle.reading.proofs.own.element_width.Tie as tie
 
-open-requires : tie.Need-open-requires
-open-requires c κs = search needs
+entry-at-requires : tie.Need-entry-at-requires
+entry-at-requires c κs = search needs
 
-width-requires : tie.Need-width-requires
-width-requires c κs =
-    let s = c .before .before in
-    let a = s .args in
-    open-small (a .s .now) (a .depth - 1) (c .«open» .result) (open-is (a .s .now) (a .at) (a .depth) (s .pre) _ (c .«open» .ensures))
-
-slot-width-requires : tie.Need-slot-width-requires
-slot-width-requires c κs = search needs
+element-width-requires : tie.Need-element-width-requires
+element-width-requires c κs = search needs
 
 returns : tie.Need-returns
-returns c =
-    let s = c .before .before .before .before in
-    let a = s .args in
-    element-wide (a .s .now) (a .at) (a .depth) (s .pre) _ (c .before .before .«open» .ensures) _ _ (c .before .width .ensures) (c .slot-width .ensures)
+returns c = element-wide (c .before .before .before .pre) (c .before .entry-at .ensures) (c .element-width .ensures)
 
 pub element-width-spec : {M : Type 1} → statement M
-element-width-spec = tie.close (tie.spec open-requires width-requires slot-width-requires returns)
+element-width-spec = tie.close (tie.spec entry-at-requires element-width-requires returns)

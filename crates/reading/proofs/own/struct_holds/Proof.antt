@@ -18,9 +18,8 @@ add-result c = search needs
 
 returns : tie.Need-returns
 returns c =
-    let s = c .before .before in
-    let a = s .args in
-    struct-test (a .n) (a .size) _ _ (c .before .bitmap-size .ensures) (c .pad-size .ensures)
+    let a = c .before .before .args in
+    struct-test (a .n) (a .size) (c .before .bitmap-size .ensures) (c .pad-size .ensures)
 
 pub struct-holds-spec : {M : Type 1} → statement M
 struct-holds-spec =

@@ -1,5 +1,5 @@
 -- `reading::slots::child` meets its contract. Assumes nothing.
-use Rattle.reading.proofs.Pointing.{small, slot-of, null-child, far-child, near-child}
+use Rattle.reading.proofs.Pointing.{small, null-child, slot-of, front-is, far-child, near-child}
 use Rattle.words.proofs.Numbers.{bytes-of}
 use native.Mathlib.Omega.{arith}
 use borrow.Author.Needs.{needs}
@@ -13,41 +13,26 @@ add-bits : tie.Need-add-bits
 add-bits c = search needs
 
 mul-slot : tie.Need-mul-slot
-mul-slot c =
-    let s = c .before .before in
-    let a = s .args in
-    let m = small (a .row .now) (a .base) (a .size) (a .h) (a .n) (a .w) (a .v) (a .i) (s .pre) in
-    omega (arith, c .bitmap-size .ensures)
+mul-slot c = omega (arith, small (c .before .before .pre) .before)
 
 add-slot : tie.Need-add-slot
-add-slot c =
-    let s = c .before .before in
-    let a = s .args in
-    let m = small (a .row .now) (a .base) (a .size) (a .h) (a .n) (a .w) (a .v) (a .i) (s .pre) in
-    omega (arith, c .bitmap-size .ensures)
+add-slot c = omega (arith, small (c .before .before .pre) .end, c .bitmap-size .ensures)
 
 add-slot-2 : tie.Need-add-slot-2
-add-slot-2 c =
-    let s = c .before .before in
-    let a = s .args in
-    let m = small (a .row .now) (a .base) (a .size) (a .h) (a .n) (a .w) (a .v) (a .i) (s .pre) in
-    omega (arith, c .bitmap-size .ensures)
+add-slot-2 c = omega (arith, small (c .before .before .pre) .end, c .bitmap-size .ensures)
 
 add-slot-3 : tie.Need-add-slot-3
-add-slot-3 c =
-    let s = c .before .before in
-    let a = s .args in
-    let m = small (a .row .now) (a .base) (a .size) (a .h) (a .n) (a .w) (a .v) (a .i) (s .pre) in
-    omega (arith, c .bitmap-size .ensures)
+add-slot-3 c = omega (arith, small (c .before .before .pre) .end, c .bitmap-size .ensures)
 
 is-null-requires : tie.Need-is-null-requires
 is-null-requires c κs = search needs
 
 returns : tie.Need-returns
 returns c =
-    let s = c .before .before .before .before in
-    let a = s .args in
-    null-child (a .row .now) (a .base) (a .size) (a .h) (a .n) (a .w) (a .v) (a .i) (s .pre) _ (c .before .before .bitmap-size .ensures) (bytes-of _ (λ j. c .before .before .before .shared-slice-known .given j .fits)) _ (c .before .is-null .ensures) (c .if1 .taken)
+    let pre = c .before .before .before .before .pre in
+    let bitmap-size = c .before .before .bitmap-size in
+    let shared-slice-known = c .before .before .before .shared-slice-known in
+    null-child pre (bitmap-size .ensures) (bytes-of _ (λ j. shared-slice-known .given j .fits)) (c .before .is-null .ensures) (c .if1 .taken)
 
 add-pointed : tie.Need-add-pointed
 add-pointed c = search needs
@@ -63,22 +48,29 @@ add-pointed-2 c = search needs
 
 pointed-requires : tie.Need-pointed-requires
 pointed-requires c κs =
-    let s = c .before .before .before .before .before .before in
-    let a = s .args in
-    slot-of (a .row .now) (a .base) (a .size) (a .h) (a .n) (a .w) (a .v) (a .i) (s .pre) _ (c .before .before .before .before .bitmap-size .ensures) (search needs)
+    let pre = c .before .before .before .before .before .before .pre in
+    let bitmap-size = c .before .before .before .before .bitmap-size in
+    slot-of pre (bitmap-size .ensures) (c .before .if2 .taken)
 
 returns-2 : tie.Need-returns-2
 returns-2 c =
-    let s = c .before .before .before .before .before .before .before in
-    let a = s .args in
-    far-child (a .row .now) (a .base) (a .size) (a .h) (a .n) (a .w) (a .v) (a .i) (s .pre) _ (c .before .before .before .before .before .bitmap-size .ensures) (bytes-of _ (λ j. c .before .before .before .before .before .before .shared-slice-known .given j .fits)) _ (c .before .before .before .before .is-null .ensures) (c .before .before .before .if1 .left) (search needs) _
-    (omega (arith, c .before .pad-size .ensures, c .before .before .before .before .before .bitmap-size .ensures)) _ (c .pointed .ensures)
+    let pre = c .before .before .before .before .before .before .before .pre in
+    let bitmap-size = c .before .before .before .before .before .bitmap-size in
+    let shared-slice-known = c .before .before .before .before .before .before .shared-slice-known in
+    let is-null = c .before .before .before .before .is-null in
+    let if1 = c .before .before .before .if1 in
+    let if2 = c .before .before .if2 in
+    far-child pre (bitmap-size .ensures) (bytes-of _ (λ j. shared-slice-known .given j .fits)) (is-null .ensures) (if1 .left) (if2 .taken)
+    (front-is pre (bitmap-size .ensures) (c .before .pad-size .ensures)) (c .pointed .ensures)
 
 returns-3 : tie.Need-returns-3
 returns-3 c =
-    let s = c .before .before .before .before .before in
-    let a = s .args in
-    near-child (a .row .now) (a .base) (a .size) (a .h) (a .n) (a .w) (a .v) (a .i) (s .pre) _ (c .before .before .before .bitmap-size .ensures) (bytes-of _ (λ j. c .before .before .before .before .shared-slice-known .given j .fits)) _ (c .before .before .is-null .ensures) (c .before .if1 .left) (search needs)
+    let pre = c .before .before .before .before .before .pre in
+    let bitmap-size = c .before .before .before .bitmap-size in
+    let shared-slice-known = c .before .before .before .before .shared-slice-known in
+    let is-null = c .before .before .is-null in
+    near-child pre (bitmap-size .ensures) (bytes-of _ (λ j. shared-slice-known .given j .fits)) (is-null .ensures) (c .before .if1 .left)
+    (c .if2 .left)
 
 pub child-spec : {M : Type 1} → statement M
 child-spec =

@@ -15,33 +15,42 @@ slot-size-requires c κs = search needs
 
 returns : tie.Need-returns
 returns c =
-    let s = c .before .before .before .before .before in
-    let a = s .args in
-    pointed-low (a .row .now) (a .base) (a .size) (a .fixed) (a .seat) (s .pre) _ (c .before .before .before .get8 .ensures .is) _ _ (c .before .before .slot-offset .ensures) (c .before .slot-size .ensures) (search needs)
+    let pre = c .before .before .before .before .before .pre in
+    let get8 = c .before .before .before .get8 in
+    let slot-offset = c .before .before .slot-offset in
+    pointed-low pre (get8 .ensures .is) (slot-offset .ensures) (c .before .slot-size .ensures) (c .if1 .taken)
 
 returns-2 : tie.Need-returns-2
 returns-2 c =
-    let s = c .before .before .before .before .before .before in
-    let a = s .args in
-    pointed-odd (a .row .now) (a .base) (a .size) (a .fixed) (a .seat) (s .pre) _ (c .before .before .before .before .get8 .ensures .is) _ _ (c .before .before .before .slot-offset .ensures) (c .before .before .slot-size .ensures) (search needs) (search needs)
+    let pre = c .before .before .before .before .before .before .pre in
+    let get8 = c .before .before .before .before .get8 in
+    let slot-offset = c .before .before .before .slot-offset in
+    let slot-size = c .before .before .slot-size in
+    pointed-odd pre (get8 .ensures .is) (slot-offset .ensures) (slot-size .ensures) (c .before .if1 .left) (c .if2 .taken)
 
 add-if3 : tie.Need-add-if3
 add-if3 c = search needs
 
 returns-3 : tie.Need-returns-3
 returns-3 c =
-    let s = c .before .before .before .before .before .before .before in
-    let a = s .args in
-    pointed-long (a .row .now) (a .base) (a .size) (a .fixed) (a .seat) (s .pre) _ (c .before .before .before .before .before .get8 .ensures .is) _ _ (c .before .before .before .before .slot-offset .ensures) (c .before .before .before .slot-size .ensures) (search needs) (search needs) (search needs)
+    let pre = c .before .before .before .before .before .before .before .pre in
+    let get8 = c .before .before .before .before .before .get8 in
+    let slot-offset = c .before .before .before .before .slot-offset in
+    let slot-size = c .before .before .before .slot-size in
+    let if1 = c .before .before .if1 in
+    pointed-long pre (get8 .ensures .is) (slot-offset .ensures) (slot-size .ensures) (if1 .left) (c .before .if2 .left) (c .if3 .taken)
 
 add-start : tie.Need-add-start
 add-start c = search needs
 
 returns-4 : tie.Need-returns-4
 returns-4 c =
-    let s = c .before .before .before .before .before .before .before in
-    let a = s .args in
-    pointed-at (a .row .now) (a .base) (a .size) (a .fixed) (a .seat) (s .pre) _ (c .before .before .before .before .before .get8 .ensures .is) _ _ (c .before .before .before .before .slot-offset .ensures) (c .before .before .before .slot-size .ensures) (search needs) (search needs) (search needs)
+    let pre = c .before .before .before .before .before .before .before .pre in
+    let get8 = c .before .before .before .before .before .get8 in
+    let slot-offset = c .before .before .before .before .slot-offset in
+    let slot-size = c .before .before .before .slot-size in
+    let if1 = c .before .before .if1 in
+    pointed-at pre (get8 .ensures .is) (slot-offset .ensures) (slot-size .ensures) (if1 .left) (c .before .if2 .left) (c .if3 .left)
 
 pub pointed-spec : {M : Type 1} → statement M
 pointed-spec =

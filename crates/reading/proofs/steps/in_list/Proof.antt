@@ -1,47 +1,45 @@
 -- `reading::steps::in_list` meets its contract. Assumes nothing.
-use Rattle.reading.proofs.Moving.{into-small, into-enters, header-room, list-stop, list-child, list-step}
+use Rattle.reading.proofs.Moving.{header-room, list-stop, list-of, list-child, list-step}
 use borrow.Author.Needs.{needs}
 use Rattle.reading.proofs.steps.in_list.Statement.{statement}
 use Rattle.reading.proofs.steps.in_list.Tie as tie
 
 get8-requires : tie.Need-get8-requires
-get8-requires c κs =
-    let s = c .before .before in
-    let a = s .args in
-    header-room (a .s .now) (a .row .now) (a .p) (a .i) (a .y) (a .e) (s .pre)
+get8-requires c κs = header-room (c .before .before .pre)
 
 returns : tie.Need-returns
-returns c =
-    let s = c .before .before .before .before in
-    let a = s .args in
-    list-stop (a .s .now) (a .row .now) (a .p) (a .i) (a .y) (a .e) (s .pre) _ (c .before .get8 .ensures .is) (c .if1 .taken)
+returns c = list-stop (c .before .before .before .before .pre) (c .before .get8 .ensures .is) (c .if1 .taken)
+
+element-requires : tie.Need-element-requires
+element-requires c κs = list-of (c .before .before .before .before .pre)
 
 width-requires : tie.Need-width-requires
-width-requires c κs =
-    let s = c .before .before .before .before in
-    let a = s .args in
-    into-small (a .s .now) (a .row .now) (a .p) (a .i) (a .y) (a .e) (s .pre .into)
+width-requires c κs = search needs
 
 slot-width-requires : tie.Need-slot-width-requires
 slot-width-requires c κs = search needs
 
 child-requires : tie.Need-child-requires
 child-requires c κs =
-    let s = c .before .before .before .before .before .before in
-    let a = s .args in
-    list-child (a .s .now) (a .row .now) (a .p) (a .i) (a .y) (a .e) (s .pre) _ (c .before .before .before .get8 .ensures .is) (c .before .before .if1 .left) _ (c .before .width .ensures) _ (c .slot-width .ensures)
+    let pre = c .before .before .before .before .before .before .before .pre in
+    let get8 = c .before .before .before .before .get8 in
+    let if1 = c .before .before .before .if1 in
+    let element = c .before .before .element in
+    list-child pre (get8 .ensures .is) (if1 .left) (element .ensures _) (c .before .width .ensures) (c .slot-width .ensures)
 
 enter-requires : tie.Need-enter-requires
-enter-requires c κs =
-    let s = c .before .before .before .before .before .before .before in
-    let a = s .args in
-    into-enters (a .s .now) (a .row .now) (a .p) (a .i) (a .y) (a .e) (s .pre .into) _ _ _ _ (c .before .before .width .ensures) _ (c .child .ensures)
+enter-requires c κs = search needs
 
 returns-2 : tie.Need-returns-2
 returns-2 c =
-    let s = c .before .before .before .before .before .before .before .before in
-    let a = s .args in
-    list-step (a .s .now) (a .row .now) (a .p) (a .i) (a .y) (a .e) (s .pre) _ (c .before .before .before .before .before .get8 .ensures .is) (c .before .before .before .before .if1 .left) _ (c .before .before .before .width .ensures) _ (c .before .before .slot-width .ensures) _ (c .before .child .ensures) _ (c .enter .ensures)
+    let pre = c .before .before .before .before .before .before .before .before .before .pre in
+    let get8 = c .before .before .before .before .before .before .get8 in
+    let if1 = c .before .before .before .before .before .if1 in
+    let element = c .before .before .before .before .element in
+    let width = c .before .before .before .width in
+    let slot-width = c .before .before .slot-width in
+    list-step pre (get8 .ensures .is) (if1 .left) (element .ensures _) (width .ensures) (slot-width .ensures) (c .before .child .ensures)
+    (c .enter .ensures)
 
 pub in-list-spec : {M : Type 1} → statement M
 in-list-spec =
@@ -49,6 +47,7 @@ in-list-spec =
     (tie.spec
     get8-requires
     returns
+    element-requires
     width-requires
     slot-width-requires
     child-requires

@@ -1,70 +1,73 @@
 -- `reading::steps::in_map` meets its contract. Assumes nothing.
-use Rattle.reading.proofs.Moving.{map-room, keys-room, array-rests, keys-step, values-step}
-use native.Mathlib.Omega.{arith}
+use Rattle.reading.proofs.Moving.{map-stop, map-of, map-room, keys-step, before-fits, values-fits, keys-room, values-step}
 use borrow.Author.Needs.{needs}
 use Rattle.reading.proofs.steps.in_map.Statement.{statement}
 use Rattle.reading.proofs.steps.in_map.Tie as tie
 
-get8-requires : tie.Need-get8-requires
-get8-requires c κs = let s = c .before .before in let a = s .args in map-room (a .s .now) (a .row .now) (a .p) (a .i) (a .y) (a .e) (s .pre)
-
-add-first : tie.Need-add-first
-add-first c = search needs
-
-settle-requires : tie.Need-settle-requires
-settle-requires c κs =
-    let s = c .before .before .before .before .before in let a = s .args in
-    let m = keys-room (a .s .now) (a .row .now) (a .p) (a .i) (a .y) (a .e) (s .pre) _ (c .before .before .get8 .ensures .is) in
-    array-rests (a .s .now) (a .row .now) (a .p) (a .i) (a .y) (a .e) (s .pre) _ (c .before .before .get8 .ensures .is) _ _
-    (omega (arith, s .pre .into .stands .rests .within))
-
 returns : tie.Need-returns
 returns c =
-    let s = c .before .before .before .before .before .before in let a = s .args in
-    keys-step (a .s .now) (a .row .now) (a .p) (a .i) (a .y) (a .e) (s .pre) _ (c .before .before .before .get8 .ensures .is) (search needs) _
-    (c .settle .ensures)
+    let pre = c .before .before .before .pre in
+    let a = c .before .before .before .args in
+    map-stop (pre .stands) (a .i) (pre .kind) (c .if1 .taken)
 
-add-before : tie.Need-add-before
-add-before c =
-    let s = c .before .before .before .before in let a = s .args in
-    let m = keys-room (a .s .now) (a .row .now) (a .p) (a .i) (a .y) (a .e) (s .pre) _ (c .before .get8 .ensures .is) in
-    omega (arith, s .pre .into .stands .rests .within, s .pre .into .stands .rests .short)
+array-requires : tie.Need-array-requires
+array-requires c κs = map-of (c .before .before .before .pre) (c .if1 .left)
 
-add-start : tie.Need-add-start
-add-start c =
-    let s = c .before .before .before .before .before in let a = s .args in
-    let m = keys-room (a .s .now) (a .row .now) (a .p) (a .i) (a .y) (a .e) (s .pre) _ (c .before .before .get8 .ensures .is) in
-    omega (arith, s .pre .into .stands .rests .within, s .pre .into .stands .rests .short)
+get8-requires : tie.Need-get8-requires
+get8-requires c κs = map-room (c .before .before .before .before .pre)
 
-sub-len : tie.Need-sub-len
-sub-len c =
-    let s = c .before .before .before .before .before .before in let a = s .args in
-    let m = keys-room (a .s .now) (a .row .now) (a .p) (a .i) (a .y) (a .e) (s .pre) _ (c .before .before .before .get8 .ensures .is) in
-    omega (arith, s .pre .into .stands .rests .within, s .pre .into .stands .rests .short)
+add-array-at : tie.Need-add-array-at
+add-array-at c = search needs
 
-settle-requires-2 : tie.Need-settle-requires-2
-settle-requires-2 c κs =
-    let s = c .before .before .before .before .before .before in let a = s .args in
-    let m = keys-room (a .s .now) (a .row .now) (a .p) (a .i) (a .y) (a .e) (s .pre) _ (c .before .before .before .get8 .ensures .is) in
-    array-rests (a .s .now) (a .row .now) (a .p) (a .i) (a .y) (a .e) (s .pre) _ (c .before .before .before .get8 .ensures .is) _ _
-    (omega (arith, s .pre .into .stands .rests .within))
+array-at-requires : tie.Need-array-at-requires
+array-at-requires c κs = search needs
 
 returns-2 : tie.Need-returns-2
 returns-2 c =
-    let s = c .before .before .before .before .before .before .before in let a = s .args in
-    values-step (a .s .now) (a .row .now) (a .p) (a .i) (a .y) (a .e) (s .pre) _ (c .before .before .before .before .get8 .ensures .is) (search needs) _
-    (c .settle2 .ensures)
+    let pre = c .before .before .before .before .before .before .before .before .pre in
+    let get8 = c .before .before .before .get8 in
+    let array = c .before .before .before .before .array in
+    let if2 = c .before .before .if2 in
+    keys-step pre (get8 .ensures .is) (array .ensures) (if2 .taken) (c .array-at .ensures)
+
+add-before : tie.Need-add-before
+add-before c = before-fits (c .before .before .before .before .before .before .pre) (c .before .get8 .ensures .is)
+
+add-array-at-2 : tie.Need-add-array-at-2
+add-array-at-2 c =
+    let pre = c .before .before .before .before .before .before .before .pre in
+    let get8 = c .before .before .get8 in
+    values-fits pre (get8 .ensures .is)
+
+sub-array-at : tie.Need-sub-array-at
+sub-array-at c =
+    let pre = c .before .before .before .before .before .before .before .before .pre in
+    let get8 = c .before .before .before .get8 in
+    keys-room pre (get8 .ensures .is)
+
+array-at-requires-2 : tie.Need-array-at-requires-2
+array-at-requires-2 c κs = search needs
+
+returns-3 : tie.Need-returns-3
+returns-3 c =
+    let pre = c .before .before .before .before .before .before .before .before .before .pre in
+    let get8 = c .before .before .before .before .get8 in
+    let array = c .before .before .before .before .before .array in
+    let if2 = c .before .before .before .if2 in
+    values-step pre (get8 .ensures .is) (array .ensures) (if2 .left) (c .array-at2 .ensures)
 
 pub in-map-spec : {M : Type 1} → statement M
 in-map-spec =
     tie.close
     (tie.spec
-    get8-requires
-    add-first
-    settle-requires
     returns
+    array-requires
+    get8-requires
+    add-array-at
+    array-at-requires
+    returns-2
     add-before
-    add-start
-    sub-len
-    settle-requires-2
-    returns-2)
+    add-array-at-2
+    sub-array-at
+    array-at-requires-2
+    returns-3)

@@ -7,8 +7,8 @@ use Rattle.setting.proofs.nulls.set_no_text.Tie as tie
 enum-told : tie.Need-enum-told
 enum-told c = search needs
 
-zero-requires : tie.Need-zero-requires
-zero-requires c κs = search needs
+clear-requires : tie.Need-clear-requires
+clear-requires c κs = search needs
 
 enum-told-2 : tie.Need-enum-told-2
 enum-told-2 c = search needs
@@ -30,40 +30,32 @@ same-length c = search needs
 
 returns : tie.Need-returns
 returns c =
-    let a = c .before .before .before .before .before .before .before .args in
-    λ u. no-text-null u (a .seat) (a .row .now) (a .g) (c .before .before .before .before .enum-told .given .1) _ (c .before .before .zero .ensures)
+    let e = c .before .before in
+    let f = e .before .before in
+    let a = (f .before .before .before .args) in
+    λ u. no-text-null u (a .seat) (a .row .now) (a .g) (f .enum-told .given .1) _ (e .clear .ensures)
 
 returns-2 : tie.Need-returns-2
-returns-2 c =
-    let a = c .before .before .before .args in
-    λ u. no-text-bool u (a .seat) (a .row .now) (a .g) _ (c .enum-told2 .given .1)
+returns-2 c = let a = c .before .before .before .args in λ u. no-text-bool u (a .seat) (a .row .now) (a .g) _ (c .enum-told2 .given .1)
 
 returns-3 : tie.Need-returns-3
-returns-3 c =
-    let a = c .before .before .before .args in
-    λ u. no-text-number u (a .seat) (a .row .now) (a .g) _ (c .enum-told3 .given .1)
+returns-3 c = let a = c .before .before .before .args in λ u. no-text-number u (a .seat) (a .row .now) (a .g) _ (c .enum-told3 .given .1)
 
 returns-4 : tie.Need-returns-4
-returns-4 c =
-    let a = c .before .before .before .args in
-    λ u. no-text-float32 u (a .seat) (a .row .now) (a .g) _ (c .enum-told4 .given .1)
+returns-4 c = let a = c .before .before .before .args in λ u. no-text-float32 u (a .seat) (a .row .now) (a .g) _ (c .enum-told4 .given .1)
 
 returns-5 : tie.Need-returns-5
-returns-5 c =
-    let a = c .before .before .before .args in
-    λ u. no-text-float64 u (a .seat) (a .row .now) (a .g) _ (c .enum-told5 .given .1)
+returns-5 c = let a = c .before .before .before .args in λ u. no-text-float64 u (a .seat) (a .row .now) (a .g) _ (c .enum-told5 .given .1)
 
 returns-6 : tie.Need-returns-6
-returns-6 c =
-    let a = c .before .before .before .args in
-    λ u. no-text-bytes u (a .seat) (a .row .now) (a .g) (c .enum-told6 .given .1)
+returns-6 c = let a = c .before .before .before .args in λ u. no-text-bytes u (a .seat) (a .row .now) (a .g) (c .enum-told6 .given .1)
 
 pub set-no-text-spec : {M : Type 1} → statement M
 set-no-text-spec =
     tie.close
     (tie.spec
     enum-told
-    zero-requires
+    clear-requires
     enum-told-2
     enum-told-3
     enum-told-4

@@ -61,7 +61,8 @@ same-length c = search needs
 returns-7 : tie.Need-returns-7
 returns-7 c =
     let a = c .before .before .before .before .before .before .before .before .before .args in
-    text-bytes (a .bytes .now) (a .start) (a .len) (a .row .now) (a .g) (c .before .before .before .before .before .enum-told6 .given .1) (search needs) _ (c .before .before .copy .ensures)
+    text-bytes (a .bytes .now) (a .start) (a .len) (a .row .now) (a .g) (c .before .before .before .before .before .enum-told6 .given .1) (search needs) _
+    (c .before .before .copy .ensures)
 
 pub set-text-spec : {M : Type 1} → statement M
 set-text-spec =

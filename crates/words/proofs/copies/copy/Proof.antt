@@ -52,4 +52,5 @@ returns c =
     rw e at (p .2)
 
 pub copy-spec : {M : Type 1} → statement M
-copy-spec = tie.close (tie.spec Inv-loop μ-loop loop-holds add-out shared-slice-read-out add-out-2 slice-write-out add-i loop-less loop-again same-length returns)
+copy-spec = tie.close
+    (tie.spec Inv-loop μ-loop loop-holds add-out shared-slice-read-out add-out-2 slice-write-out add-i loop-less loop-again same-length returns)

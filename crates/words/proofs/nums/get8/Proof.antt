@@ -80,9 +80,13 @@ returns : tie.Need-returns
 returns c =
     let a = c .before .before .before .before .before .before .before .before .before .before .before .before .before .before .before .before .before .args in
     let h = bytes-of (a .b .now) (λ i. c .before .shared-slice-known9 .given i .fits) in
-    let r1 = reads-one (a .at) _ h (c .before .before .before .before .before .before .before .before .before .before .before .before .before .before .wide .ensures .0) (omega arith) in
-    let r2 = reads-next (a .at) 1 _ _ h r1 (c .before .before .before .before .before .before .before .before .before .before .before .before .wide2 .ensures .0) (lit< tt) (omega arith) in
-    let r3 = reads-next (a .at) 2 _ _ h r2 (c .before .before .before .before .before .before .before .before .before .before .wide3 .ensures .0) (lit< tt) (omega arith) in
+    let r1 = reads-one (a .at) _ h
+    (c .before .before .before .before .before .before .before .before .before .before .before .before .before .before .wide .ensures .0)
+    (omega arith) in
+    let r2 = reads-next (a .at) 1 _ _ h r1
+    (c .before .before .before .before .before .before .before .before .before .before .before .before .wide2 .ensures .0) (lit< tt) (omega arith) in
+    let r3 = reads-next (a .at) 2 _ _ h r2 (c .before .before .before .before .before .before .before .before .before .before .wide3 .ensures .0) (lit< tt)
+    (omega arith) in
     let r4 = reads-next (a .at) 3 _ _ h r3 (c .before .before .before .before .before .before .before .before .wide4 .ensures .0) (lit< tt) (omega arith) in
     let r5 = reads-next (a .at) 4 _ _ h r4 (c .before .before .before .before .before .before .wide5 .ensures .0) (lit< tt) (omega arith) in
     let r6 = reads-next (a .at) 5 _ _ h r5 (c .before .before .before .before .wide6 .ensures .0) (lit< tt) (omega arith) in

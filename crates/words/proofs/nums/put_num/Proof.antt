@@ -42,7 +42,8 @@ loop-again c =
     let l = c .before .loop in (
       omega arith,
       length-set (l .b) _ _ ∙ l .inv .1,
-      puts-next (a .b .now) (l .b) (a .at) (l .i) (a .v) (l .x) (l .inv .2) (l .inv .3) ∙ ap (λ (n : ℕ). sets (a .b .now) (a .at) (le n (a .v))) (sym (add-one (l .i))),
+      puts-next (a .b .now) (l .b) (a .at) (l .i) (a .v) (l .x) (l .inv .2) (l .inv .3)
+          ∙ ap (λ (n : ℕ). sets (a .b .now) (a .at) (le n (a .v))) (sym (add-one (l .i))),
       ap (λ (n : ℕ). n / 256) (l .inv .3) ∙ div-next (a .v) (l .i),
     )
 

@@ -14,7 +14,8 @@ use Rattle.words.proofs.signed.get_signed.Tie as tie
 get-num-requires : tie.Need-get-num-requires
 get-num-requires c κs = search needs
 
-fits : (c : tie.After-shared-slice-known) → num (part (c .before .args .b .now) (c .before .args .at) (c .before .args .k)) < halfOf (c .before .args .k) + halfOf (c .before .args .k)
+fits : (c : tie.After-shared-slice-known) → num (part (c .before .args .b .now) (c .before .args .at) (c .before .args .k)) < halfOf
+    (c .before .args .k) + halfOf (c .before .args .k)
 fits c =
     let a = c .before .args in
     rw (half-bytes (a .k) (c .before .pre .1)) (part-lt (a .at) (a .k) (bytes-of (a .b .now) (λ i. c .shared-slice-known .given i .fits)) (c .before .pre .0))
@@ -26,7 +27,8 @@ returns : tie.Need-returns
 returns c =
     let s = c .before .before .before in
     let n = num (part (s .args .b .now) (s .args .at) (s .args .k)) in
-    passed (c .to-signed .result) (toSigned (halfOf (s .args .k)) n) (c .to-signed .ensures ∙ ap (toSigned (halfOf (s .args .k))) (c .before .get-num .ensures .is))
+    passed (c .to-signed .result) (toSigned (halfOf (s .args .k)) n)
+    (c .to-signed .ensures ∙ ap (toSigned (halfOf (s .args .k))) (c .before .get-num .ensures .is))
     (lt-of-lt-of-le (toSigned-mag (halfOf (s .args .k)) n (fits (c .before .before))) (half-le (s .args .k) (s .pre .2)))
 
 pub get-signed-spec : {M : Type 1} → statement M

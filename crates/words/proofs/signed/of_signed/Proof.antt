@@ -32,7 +32,11 @@ sub-result-2 : tie.Need-sub-result-2
 sub-result-2 c = omega (arith, size (c .before .before), c .before .before .before .half .ensures, c .before .before .before .before .pre .2)
 
 add-result : tie.Need-add-result
-add-result c = omega (arith, half-le (c .before .before .before .before .args .k) (c .before .before .before .before .pre .1), c .before .before .before .half .ensures)
+add-result c = omega (
+  arith,
+  half-le (c .before .before .before .before .args .k) (c .before .before .before .before .pre .1),
+  c .before .before .before .half .ensures,
+)
 
 returns : tie.Need-returns
 returns c =

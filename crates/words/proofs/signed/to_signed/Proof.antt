@@ -39,7 +39,8 @@ returns-2 c =
     let l : halfOf (s .args .k) ≤ s .args .n = rw h at (c .before .if1 .left) in
     let e : c .of-magnitude2 .result ≡ negsuc (halfOf (s .args .k) - 1 - (s .args .n - halfOf (s .args .k))) =
     c .of-magnitude2 .ensures ∙ ap (λ (x : ℕ). negsuc (x - 1 - (s .args .n - x))) h in
-    passed (c .of-magnitude2 .result) (negsuc (halfOf (s .args .k) - 1 - (s .args .n - halfOf (s .args .k)))) e (omega (arith, half-le (s .args .k) (s .pre .1), s .pre .2))
+    passed (c .of-magnitude2 .result) (negsuc (halfOf (s .args .k) - 1 - (s .args .n - halfOf (s .args .k)))) e
+    (omega (arith, half-le (s .args .k) (s .pre .1), s .pre .2))
     ∙ sym (to-high (halfOf (s .args .k)) (s .args .n) l (s .pre .2))
 
 pub to-signed-spec : {M : Type 1} → statement M

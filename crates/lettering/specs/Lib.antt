@@ -1,0 +1,3 @@
+-- What the contracts of `lettering` cite.
+pub mod Text
+pub mod Held

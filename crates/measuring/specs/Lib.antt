@@ -1,0 +1,3 @@
+-- What the contracts of `measuring` cite.
+pub mod Measure
+pub mod Row

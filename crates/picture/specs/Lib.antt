@@ -1,0 +1,2 @@
+-- What the contracts of `picture` cite.
+pub mod Picture

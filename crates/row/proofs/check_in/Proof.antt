@@ -1,0 +1,44 @@
+-- `row::check_in` meets its contract. Assumes nothing.
+use Rattle.row.proofs.Opening.{check-by}
+use Rattle.row.proofs.Orders.{check-no}
+use Rattle.table.proofs.Got.{got, none}
+use borrow.Author.Needs.{needs}
+use Rattle.row.proofs.check_in.Statement.{statement}
+use Rattle.row.proofs.check_in.Tie as tie
+
+build-requires : tie.Need-build-requires
+build-requires c κs = search needs
+
+same-length : tie.Need-same-length
+same-length c = search needs
+
+returns : tie.Need-returns
+returns c = check-no _ _ (none (c .before .before .before .build .ensures) (c .if1 .taken))
+
+slice-reshare-prefix-check : tie.Need-slice-reshare-prefix-check
+slice-reshare-prefix-check c = got (c .before .before .before .build .ensures) (c .if1 .left) .room
+
+slice-aggregate-check : tie.Need-slice-aggregate-check
+slice-aggregate-check c = got (c .before .before .before .before .build .ensures) (c .before .if1 .left) .size
+
+check-requires : tie.Need-check-requires
+check-requires c κs = got (c .before .before .before .before .build .ensures) (c .before .if1 .left) .table
+
+same-length-2 : tie.Need-same-length-2
+same-length-2 c = search needs
+
+returns-2 : tie.Need-returns-2
+returns-2 c = check-by (got (c .before .before .before .before .before .build .ensures) (c .before .before .if1 .left)) _ (c .check .ensures)
+
+pub check-in-spec : {M : Type 1} → statement M
+check-in-spec =
+    tie.close
+    (tie.spec
+    build-requires
+    same-length
+    returns
+    slice-reshare-prefix-check
+    slice-aggregate-check
+    check-requires
+    same-length-2
+    returns-2)

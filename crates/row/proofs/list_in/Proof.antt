@@ -1,0 +1,49 @@
+-- `row::list_in` meets its contract. Assumes nothing.
+use Rattle.row.proofs.Listings.{list-no}
+use Rattle.row.proofs.Opening.{list-by}
+use Rattle.table.proofs.Got.{got, none}
+use borrow.Author.Needs.{needs}
+use Rattle.row.proofs.list_in.Statement.{statement}
+use Rattle.row.proofs.list_in.Tie as tie
+
+build-requires : tie.Need-build-requires
+build-requires c κs = search needs
+
+same-length : tie.Need-same-length
+same-length c = search needs
+
+returns : tie.Need-returns
+returns c = list-no _ _ _ (none (c .before .before .before .build .ensures) (c .if1 .taken))
+
+slice-reshare-prefix-list : tie.Need-slice-reshare-prefix-list
+slice-reshare-prefix-list c = got (c .before .before .before .build .ensures) (c .if1 .left) .room
+
+slice-aggregate-list : tie.Need-slice-aggregate-list
+slice-aggregate-list c = got (c .before .before .before .before .build .ensures) (c .before .if1 .left) .size
+
+list-requires : tie.Need-list-requires
+list-requires c κs = got (c .before .before .before .before .before .build .ensures) (c .before .before .if1 .left) .table
+
+same-length-2 : tie.Need-same-length-2
+same-length-2 c = search needs
+
+same-length-3 : tie.Need-same-length-3
+same-length-3 c = search needs
+
+returns-2 : tie.Need-returns-2
+returns-2 c = list-by (got (c .before .before .before .before .before .before .before .before .build .ensures)
+    (c .before .before .before .before .before .if1 .left)) (c .before .before .list .ensures)
+
+pub list-in-spec : {M : Type 1} → statement M
+list-in-spec =
+    tie.close
+    (tie.spec
+    build-requires
+    same-length
+    returns
+    slice-reshare-prefix-list
+    slice-aggregate-list
+    list-requires
+    same-length-2
+    same-length-3
+    returns-2)

@@ -1,0 +1,43 @@
+-- `row::look_in` meets its contract. Assumes nothing.
+use Rattle.row.proofs.Opening.{read-by, read-no}
+use Rattle.table.proofs.Got.{got, none}
+use borrow.Author.Needs.{needs}
+use Rattle.row.proofs.look_in.Statement.{statement}
+use Rattle.row.proofs.look_in.Tie as tie
+
+build-requires : tie.Need-build-requires
+build-requires c κs = search needs
+
+same-length : tie.Need-same-length
+same-length c = search needs
+
+returns : tie.Need-returns
+returns c = read-no _ (none (c .before .before .before .build .ensures) (c .if1 .taken)) _ _
+
+slice-reshare-prefix-read : tie.Need-slice-reshare-prefix-read
+slice-reshare-prefix-read c = got (c .before .before .before .build .ensures) (c .if1 .left) .room
+
+slice-aggregate-read : tie.Need-slice-aggregate-read
+slice-aggregate-read c = got (c .before .before .before .before .build .ensures) (c .before .if1 .left) .size
+
+read-requires : tie.Need-read-requires
+read-requires c κs = got (c .before .before .before .before .build .ensures) (c .before .if1 .left) .table
+
+same-length-2 : tie.Need-same-length-2
+same-length-2 c = search needs
+
+returns-2 : tie.Need-returns-2
+returns-2 c = read-by (got (c .before .before .before .before .before .build .ensures) (c .before .before .if1 .left)) (c .read .ensures)
+
+pub look-in-spec : {M : Type 1} → statement M
+look-in-spec =
+    tie.close
+    (tie.spec
+    build-requires
+    same-length
+    returns
+    slice-reshare-prefix-read
+    slice-aggregate-read
+    read-requires
+    same-length-2
+    returns-2)

@@ -1,0 +1,49 @@
+-- `row::set_in` meets its contract. Assumes nothing.
+use Rattle.row.proofs.Opening.{set-by}
+use Rattle.setting.proofs.Refused.{set-schema}
+use Rattle.table.proofs.Got.{got, none}
+use borrow.Author.Needs.{needs}
+use Rattle.row.proofs.set_in.Statement.{statement}
+use Rattle.row.proofs.set_in.Tie as tie
+
+build-requires : tie.Need-build-requires
+build-requires c κs = search needs
+
+same-length : tie.Need-same-length
+same-length c = search needs
+
+returns : tie.Need-returns
+returns c = set-schema _ _ _ _ (none (c .before .before .before .build .ensures) (c .if1 .taken))
+
+slice-reshare-prefix-set : tie.Need-slice-reshare-prefix-set
+slice-reshare-prefix-set c = got (c .before .before .before .build .ensures) (c .if1 .left) .room
+
+slice-aggregate-set : tie.Need-slice-aggregate-set
+slice-aggregate-set c = got (c .before .before .before .before .build .ensures) (c .before .if1 .left) .size
+
+set-requires : tie.Need-set-requires
+set-requires c κs = got (c .before .before .before .before .before .build .ensures) (c .before .before .if1 .left) .table
+
+same-length-2 : tie.Need-same-length-2
+same-length-2 c = search needs
+
+same-length-3 : tie.Need-same-length-3
+same-length-3 c = search needs
+
+returns-2 : tie.Need-returns-2
+returns-2 c = set-by (got (c .before .before .before .before .before .before .before .before .build .ensures)
+    (c .before .before .before .before .before .if1 .left)) _ _ (c .before .before .set .ensures)
+
+pub set-in-spec : {M : Type 1} → statement M
+set-in-spec =
+    tie.close
+    (tie.spec
+    build-requires
+    same-length
+    returns
+    slice-reshare-prefix-set
+    slice-aggregate-set
+    set-requires
+    same-length-2
+    same-length-3
+    returns-2)

@@ -1,0 +1,52 @@
+-- `row::write_in` meets its contract. Assumes nothing.
+use Rattle.row.proofs.Opening.{write-by, write-no}
+use Rattle.table.proofs.Got.{got, none}
+use borrow.Author.Needs.{needs}
+use Rattle.row.proofs.write_in.Statement.{statement}
+use Rattle.row.proofs.write_in.Tie as tie
+
+build-requires : tie.Need-build-requires
+build-requires c κs = search needs
+
+same-length : tie.Need-same-length
+same-length c = search needs
+
+returns : tie.Need-returns
+returns c = write-no _ (none (c .before .before .before .build .ensures) (c .if1 .taken)) _ _
+
+slice-reshare-prefix-write : tie.Need-slice-reshare-prefix-write
+slice-reshare-prefix-write c = got (c .before .before .before .build .ensures) (c .if1 .left) .room
+
+slice-aggregate-write : tie.Need-slice-aggregate-write
+slice-aggregate-write c = got (c .before .before .before .before .build .ensures) (c .before .if1 .left) .size
+
+write-requires : tie.Need-write-requires
+write-requires c κs = got (c .before .before .before .before .before .build .ensures) (c .before .before .if1 .left) .table
+
+same-length-2 : tie.Need-same-length-2
+same-length-2 c = search needs
+
+same-length-3 : tie.Need-same-length-3
+same-length-3 c = search needs
+
+returns-2 : tie.Need-returns-2
+returns-2 c = write-by (got (c .before .before .before .before .before .before .before .before .build .ensures)
+    (c .before .before .before .before .before .if1 .left)) (record {
+      answers = c .before .before .write .ensures .0;
+      leaves =
+          c .before .before .write .ensures .1;
+    })
+
+pub write-in-spec : {M : Type 1} → statement M
+write-in-spec =
+    tie.close
+    (tie.spec
+    build-requires
+    same-length
+    returns
+    slice-reshare-prefix-write
+    slice-aggregate-write
+    write-requires
+    same-length-2
+    same-length-3
+    returns-2)

@@ -1,0 +1,57 @@
+// What an entry does by the table of an accepted schema.
+ghost use mathlib.Core.Path.{_≡_};
+ghost use Rattle.layout.specs.Entries.{checkOf, setOf};
+ghost use Rattle.answers.specs.Meaning.{outcomeMeans, settingOf};
+ghost use Rattle.answers.specs.Paths.{pathOf};
+ghost use Rattle.setting.specs.Writes.{SetAs};
+ghost use Rattle.table.specs.Tables.{Table, schemaOf};
+ghost use Rattle.row.specs.Outcomes.{ListsTo};
+use answers::Length;
+use answers::Outcome;
+use answers::Path;
+use answers::Refusal;
+use answers::Setting;
+use checking::Checked;
+
+pub fn check(t: &[u64], row: &[u8]) -> Outcome
+    requires { ⌜ Table (now t) ⌝ }
+    ensures { λ r. ⌜ outcomeMeans r ≡ checkOf (schemaOf (now (t .entry))) (now (row .entry)) ⌝ }
+{
+    if 16384 < row.len() {
+        return Outcome::Refused(Refusal::TooLong);
+    }
+    match checking::check_row(t, row) {
+        Checked::Sound => Outcome::Done,
+        Checked::Broken { place } => Outcome::Refused(Refusal::Layout { place }),
+    }
+}
+
+pub fn list(t: &[u64], row: &[u8], out: &mut [u8]) -> Length
+    requires { ⌜ Table (now t) ⌝ }
+    ensures { λ r. ⌜ ListsTo (schemaOf (now (t .entry))) (now (row .entry)) (now (out .entry)) r (now (out .exit)) ⌝ }
+{
+    match check(t, row) {
+        Outcome::Done => {
+            let room = out.len();
+            let needed = listing::list_row(t, row, out);
+            if room < needed {
+                Length::Refused(Refusal::Room { needed })
+            } else {
+                Length::Done(needed)
+            }
+        }
+        Outcome::Refused(r) => Length::Refused(r),
+    }
+}
+
+pub fn set(t: &[u64], row: &mut [u8], path: Path, value: Setting, bytes: &[u8]) -> Outcome
+    requires { ⌜ Table (now t) ⌝ }
+    ensures { λ r. ⌜ SetAs
+        (setOf (schemaOf (now (t .entry))) (now (row .entry)) (pathOf path) (settingOf value (now (bytes .entry))))
+        (now (row .entry)) (now (row .exit)) r ⌝ }
+{
+    match check(t, row) {
+        Outcome::Done => setting::set(t, row, path, value, bytes),
+        Outcome::Refused(r) => Outcome::Refused(r),
+    }
+}

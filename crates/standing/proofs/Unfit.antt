@@ -1,0 +1,68 @@
+-- What the slots of a container tell: the ranges before a child, one child after the other, and the first that may not stand.
+-- Assumes nothing.
+use mathlib.Core.Path.{_≡_, refl, sym, ap, _∙_}
+use mathlib.Core.Bool.{Bool, true, false, not, cond}
+use mathlib.Core.List.{List, _∷_}
+use Prim.Native.Nat.{ℕ, _+_, _*_, _≤_, _<_}
+use native.Mathlib.Decide.{decLe}
+use native.Mathlib.Numerals.{add-one}
+use native.Mathlib.Omega.{arith}
+use Rattle.words.specs.Bits.{bit}
+use Rattle.layout.specs.Tiles.{Range}
+use Rattle.standing.specs.Maps.{both}
+use Rattle.standing.specs.Standing.{rangeAt, rangesTo, StandsAt, FirstUnfit}
+use Rattle.standing.proofs.Marks.{clash}
+
+-- ---- the ranges, with one child more
+
+module _ (h slots : ℕ) (vary : ℕ → Bool) (b : List ℕ) (i : ℕ) where
+  abbrev before : List Range
+  before = rangesTo h slots vary b i
+
+  ranges-on : rangesTo h slots vary b (i + 1) ≡ cond (both (vary i) (not (bit b h i))) (rangeAt b (slots + 8 * i) ∷ before) before
+  unfolding rangesTo
+  ranges-on = ap (rangesTo h slots vary b) (add-one i)
+
+  pub ranges-fixed : vary i ≡ false → rangesTo h slots vary b (i + 1) ≡ before
+  ranges-fixed v = ranges-on ∙ rw v
+
+  pub ranges-null : bit b h i ≡ true → rangesTo h slots vary b (i + 1) ≡ before
+  ranges-null e = ranges-on ∙ go (vary i)
+    where
+      go : (v : Bool) → cond (both v (not (bit b h i))) (rangeAt b (slots + 8 * i) ∷ before) before ≡ before
+      go true = rw e
+      go false = refl
+
+  pub ranges-there : vary i ≡ true → bit b h i ≡ false → rangesTo h slots vary b (i + 1) ≡ rangeAt b (slots + 8 * i) ∷ before
+  ranges-there v e = ranges-on ∙ rw (v, e)
+
+-- ---- the first that may not stand
+
+module _ {h slots start : ℕ} {vary : ℕ → Bool} {b : List ℕ} {n r : ℕ} (u : FirstUnfit h slots start vary b n r) where
+  -- it varies and is not null
+  pub unfit-varies : r < n → vary r ≡ true
+  unfit-varies l = go (vary r) refl
+    where
+      go : (v : Bool) → vary r ≡ v → vary r ≡ true
+      go true e = e
+      go false e = absurd (u .fault l (λ v. absurd (clash (sym v ∙ e))))
+
+  pub unfit-there : r < n → bit b h r ≡ false
+  unfit-there l = go (bit b h r) refl
+    where
+      go : (v : Bool) → bit b h r ≡ v → bit b h r ≡ false
+      go true e = absurd (u .fault l (λ v z. absurd (clash (sym e ∙ z))))
+      go false e = e
+
+  -- it is none of those that may
+  pub unfit-from : (i : ℕ) → i ≤ n → ((j : ℕ) → j < i → StandsAt h slots start vary b j) → i ≤ r
+  unfit-from i m s = go (decLe i r)
+    where
+      go : Dec (i ≤ r) → i ≤ r
+      go (yes l) = l
+      go (no l) = absurd (u .fault (omega arith) (s r (omega arith)))
+
+-- and is one alone
+pub unfit-same : {h slots start : ℕ} {vary : ℕ → Bool} {b : List ℕ} {n r q : ℕ} → FirstUnfit h slots start vary b n r
+    → FirstUnfit h slots start vary b n q → r ≡ q
+unfit-same {r = r} {q = q} u v = omega (arith, unfit-from u q (v .most) (v .stand), unfit-from v r (u .most) (u .stand))

@@ -1,0 +1,3 @@
+-- What the contracts of `standing` cite.
+pub mod Maps
+pub mod Standing
