@@ -12,7 +12,7 @@ use mir.Val.{Fits}
 use mir.Syntax.{w64}
 use lib.Dec.{eqb}
 use lib.ListN.{length, length-replicate, getD-replicate}
-use borrow.Author.Tests.{eq-eqb, ne-eqb}
+use borrow.Author.Tests.{eq-eqb, ne-eqb, eqb-true}
 use Rattle.words.specs.Bytes.{Bytes, num, bitmap, part}
 use Rattle.words.specs.Bits.{bit}
 use Rattle.schema.specs.Types.{Ty, fix, text, li, ma, ro, Tys, field, count}
@@ -328,3 +328,8 @@ module _ {k : Held} {b : List ℕ} {n slots start i slot cur stop done since : �
         let f : bit b (headOf k) i ≡ true = sym e ∙ q in
         loop-pass (λ _ g. clash f g)
         (λ rs. good-null (headOf k) 8 (kidsOf k) b (slots-fit d) (d .bytes) i (omega (arith, a .within, held-count k (d .right))) rs f)
+
+-- the end of a loop whose cursor never moved
+pub loop-plain : {k : Held} {b : List ℕ} {n slots start i slot cur : ℕ} → At k b n slots start i slot cur n 0 0 → n ≤ i
+    → eqb cur (length b) ≡ true → 0 ≡ faultIn k b
+loop-plain {b = b} {cur = cur} a over e = loop-done a over (omega arith) (omega (arith, eqb-true cur (length b) e))

@@ -11,10 +11,11 @@ use lib.Dec.{ltb}
 use lib.ListN.{length}
 use Rattle.words.specs.Bytes.{Bytes, num, bitmap, part, pastByte}
 use Rattle.words.specs.Bits.{bit}
-use Rattle.schema.specs.Types.{Ty, Tys, ro, fixedAt, width, place, field}
-use Rattle.schema.specs.Walk.{Typed, typeAt, nextAt, fieldAt}
+use Rattle.schema.specs.Types.{Ty, fix, text, li, ma, Tys, ro, fixedAt, width, place, field}
+use Rattle.schema.specs.Walk.{size, Typed, typeAt, nextAt, fieldAt}
 use Rattle.schema.proofs.Table.{width-8}
-use Rattle.schema.proofs.Typing.{FieldLaw, field-typed, typed-count, field-here}
+use Rattle.schema.proofs.Laws.{size-fixed, size-text}
+use Rattle.schema.proofs.Typing.{next-is, FieldLaw, field-typed, typed-count, field-here}
 use Rattle.schema.proofs.Places.{typed-place, fixed-of, text-of, holding-of}
 use Rattle.layout.specs.Tiles.{Range}
 use Rattle.layout.specs.Layout.{number, inside, kidOf, kid, codec, kids, limit, front}
@@ -117,6 +118,12 @@ module _ {t : List ℕ} {first d n : ℕ} {b : List ℕ} (f : FieldsFrom t first
       });
     }
 
+    -- where a field's place is counted from the first
+    pub leaves-start : Bytes b → FieldAt t first d n b r (r + 8 * n) (first + 0) 0 r (r + 8 * n) n 0 0
+    leaves-start hb =
+        let z : first ≡ first + 0 = omega arith in
+        subst (λ (c : ℕ). FieldAt t first d n b r (r + 8 * n) c 0 r (r + 8 * n) n 0 0) z (fields-start hb)
+
 module _ {t : List ℕ} {first d n : ℕ} {b : List ℕ} {slots start c i slot cur stop done since : ℕ}
     (a : FieldAt t first d n b slots start c i slot cur stop done since) where
   -- the cursor moves
@@ -137,6 +144,22 @@ module _ {t : List ℕ} {first d n : ℕ} {b : List ℕ} {slots start c i slot c
 
     type-is : typeOf t c d ≡ field (typesOf t first d n) i
     type-is = ap (λ (x : ℕ). typeAt (schemaOf t) x d) (a .type) ∙ law .same
+
+-- a leaf's type takes its mark
+leaf-size : (X : Ty) → place X < 9 → size X ≡ 2
+unfolding place
+leaf-size (fix f) h = size-fixed f
+leaf-size (text x) h = size-text x
+leaf-size (li X) h = absurd (omega arith)
+leaf-size (ma K X) h = absurd (omega arith)
+leaf-size (ro ts) h = absurd (omega arith)
+
+pub fixed-leaf : {k : ℕ} → k < 7 → k < 9
+fixed-leaf h = omega arith
+
+-- a place counted from the first
+pub one-on : (first i : ℕ) → first + (i + 1) ≡ first + i + 1
+one-on first i = omega arith
 
 -- the field's entry is w, and its kind k
 pub record Reached {t : List ℕ} {first d n : ℕ} {b : List ℕ} {slots start c i slot cur stop done since : ℕ}
@@ -182,15 +205,30 @@ module _ {t : List ℕ} {first d n : ℕ} {b : List ℕ} {slots start c i slot c
   reached-fault p e = as-type _ _ p _ (sym same) e
 
   -- the next field
-  pub reached-next : {c′ cur′ : ℕ} → c′ ≡ afterIn w → At (fields ts) b n slots start (i + 1) (slot + 8) cur′ stop done since
+  reached-at : {c′ cur′ : ℕ} → posOf t c′ ≡ nextAt (schemaOf t) (posOf t c) d → At (fields ts) b n slots start (i + 1) (slot + 8) cur′ stop done since
       → FieldAt t first d n b slots start c′ (i + 1) (slot + 8) cur′ stop done since
-  reached-next e s = record {
+  reached-at e s = record {
     given = a .given;
     type =
-        ap (posOf t) e ∙ r .entry .next ∙ ap (λ (x : ℕ). nextAt (schemaOf t) x d) (a .type) ∙ field-next (schemaOf t) d i (posOf t first)
+        e ∙ ap (λ (x : ℕ). nextAt (schemaOf t) x d) (a .type) ∙ field-next (schemaOf t) d i (posOf t first)
         ∙ ap (fieldAt (schemaOf t) (posOf t first) d) (sym (add-one i));
     state = s;
   }
+
+  pub reached-next : {c′ cur′ : ℕ} → c′ ≡ afterIn w → At (fields ts) b n slots start (i + 1) (slot + 8) cur′ stop done since
+      → FieldAt t first d n b slots start c′ (i + 1) (slot + 8) cur′ stop done since
+  reached-next e s = reached-at (ap (posOf t) e ∙ r .entry .next) s
+
+  -- behind a leaf it stands at the next place
+  leaf-next : k < 9 → posOf t (c + 1) ≡ nextAt (schemaOf t) (posOf t c) d
+  leaf-next h =
+      r .entry .child (λ q. omega (arith, r .kind))
+      ∙ sym (next-is (schemaOf t) (posOf t c) d ∙ ap (λ (x : Ty). posOf t c + size x) same
+      ∙ ap (λ (x : ℕ). posOf t c + x) (leaf-size own (omega (arith, kind-is))))
+
+  pub reached-leaf : k < 9 → {c′ cur′ : ℕ} → c′ ≡ c + 1 → At (fields ts) b n slots start (i + 1) (slot + 8) cur′ stop done since
+      → FieldAt t first d n b slots start c′ (i + 1) (slot + 8) cur′ stop done since
+  reached-leaf h e s = reached-at (ap (posOf t) e ∙ leaf-next h) s
 
   -- a field of a fixed width
   module _ (h : k < 7) where
@@ -247,8 +285,11 @@ module _ {t : List ℕ} {first d n : ℕ} {b : List ℕ} {slots start c i slot c
       leaf-wrong q ey =
           ey ∙ loop-wrong (a .state) (r .less) (λ rs. judged rs ∙ field-hides (fixedAt (placeIn w)) b i slot _ (failed e q))
 
+      pub leaf-passes : not v ≡ false → At (fields ts) b n slots start (i + 1) (slot + 8) cur stop done since
+      leaf-passes q =
+          loop-pass (a .state) (r .less) (λ vary _. clash vary (kind-fixed own (omega (arith, kind-is))))
+          (λ rs. judged rs ∙ field-passes (fixedAt (placeIn w)) b i slot _ (passed e q))
+
       pub leaf-good : not v ≡ false → {c′ : ℕ} → c′ ≡ afterIn w
           → FieldAt t first d n b slots start c′ (i + 1) (slot + 8) cur stop done since
-      leaf-good q ec =
-          reached-next ec (loop-pass (a .state) (r .less) (λ vary _. clash vary (kind-fixed own (omega (arith, kind-is))))
-          (λ rs. judged rs ∙ field-passes (fixedAt (placeIn w)) b i slot _ (passed e q)))
+      leaf-good q ec = reached-next ec (leaf-passes q)

@@ -25,6 +25,13 @@ use Rattle.checking.proofs.Loops.{items, Slots}
 pub as-type : (t u : Ty) (b : List ℕ) (r : ℕ) → t ≡ u → r ≡ faultOf u b → r ≡ faultOf t b
 as-type t u b r e h = h ∙ ap (λ (x : Ty). faultOf x b) (sym e)
 
+-- a struct is no list and no map
+pub no-list : {k : ℕ} → k ≡ 11 → k ≡ 9 → ⊥
+no-list e q = omega arith
+
+pub no-map : {k : ℕ} → k ≡ 11 → k ≡ 10 → ⊥
+no-map e q = omega arith
+
 -- the types of a struct's n fields stand from a place on, and b is short enough for a row
 pub record Fields (t : List ℕ) (first n d : ℕ) (b : List ℕ) : Type 0 where
   pub table : Table t
@@ -32,7 +39,11 @@ pub record Fields (t : List ℕ) (first n d : ℕ) (b : List ℕ) : Type 0 where
   pub high : n ≤ 128
   pub small : length b ≤ 16384
 
--- a place of a table has a next one
+-- a place of a table is small
+pub place-fits : {t : List ℕ} {c d : ℕ} → Stands t c d → Fits w64 c
+place-fits {t} {c} {d} s = omega (arith, place-room t (s .table) c d (s .typed), table-short t (s .table))
+
+-- and has a next one
 pub next-place : {t : List ℕ} {c d : ℕ} → Stands t c d → Fits w64 (c + 1)
 next-place {t} {c} {d} s = omega (arith, place-room t (s .table) c d (s .typed), table-short t (s .table))
 
@@ -48,6 +59,10 @@ module _ {t : List ℕ} {c d w : ℕ} {b : List ℕ} (v : Container t c d w b) w
 
   pub value-child : Fits w64 (c + 1)
   value-child = next-place (v .stands)
+
+  -- and one behind as many leaves as a struct may hold
+  pub value-leaves : {n : ℕ} → n ≤ 128 → Fits w64 (c + 1 + n)
+  value-leaves h = omega (arith, place-room t (v .stands .table) c d (v .stands .typed), table-short t (v .stands .table))
 
   -- the calls are one deeper
   pub value-falls : (j : ℕ) → j < 8 → {m : ℕ} → d * 8 ≡ m → (d - 1) * 8 + j < m

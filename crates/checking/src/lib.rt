@@ -90,6 +90,81 @@ fn fields_stand(
     stop
 }
 
+// Whether the n fields of a struct, whose types stand from a place on, are leaves without a fault, and their values stand in the order of
+// their slots: each type has the place after the one before it. A look that answers no says nothing.
+fn plain_fields(t: &[u64], first: usize, n: usize, depth: usize, b: &[u8]) -> bool
+    requires { ⌜ FieldsFrom (now t) first depth n (now b) ⌝ }
+    ensures { λ r. ⌜ (r ≡ true → 0 ≡ faultFrom 0 8 (kids (typesOf (now (t .entry)) first depth n)) (now (b .entry)) 0 []) ⌝ }
+{
+    let slots = words::sizes::bitmap_size(n);
+    let mut slot = slots;
+    let mut cur = slots + 8 * n;
+    let mut i: usize = 0;
+    while i < n {
+        let w = table::entry_at(t, first + i, depth);
+        let k = table::place(w);
+        if k < table::STRING {
+            if !check_field(b, i, slot, w) {
+                return false;
+            }
+            slot += 8;
+            i += 1;
+            continue;
+        }
+        if k >= table::LIST {
+            return false;
+        }
+        if words::nulls::is_null(b, 0, i) {
+            slot += 8;
+            i += 1;
+            continue;
+        }
+        if words::nums::get4(b, slot + 4) != cur {
+            return false;
+        }
+        let end = cur + words::nums::get4(b, slot);
+        let next = words::sizes::pad_size(end);
+        if b.len() < next {
+            return false;
+        }
+        if !words::sizes::pad_clear(b, end, next) {
+            return false;
+        }
+        cur = next;
+        slot += 8;
+        i += 1;
+    }
+    cur == b.len()
+}
+
+// Whether a container is a struct of leaves without a fault, whose values stand in the order of their slots: most that a container holds
+// are. A look that answers no says nothing.
+fn is_plain(t: &[u64], c: usize, depth: usize, w: u64, b: &[u8]) -> bool
+    requires { ⌜ Container (now t) c depth w (now b) ⌝ }
+    ensures { λ r. ⌜ (r ≡ true → faultOf (typeOf (now (t .entry)) c depth) (now (b .entry)) ≡ 0) ⌝ }
+{
+    let k = table::place(w);
+    if k != table::STRUCT {
+        return false;
+    }
+    let n = table::count(w);
+    // a field that is no leaf would have descendants
+    if table::after(w) != c + 1 + n {
+        return false;
+    }
+    let slots = words::sizes::bitmap_size(n);
+    if b.len() % 8 != 0 {
+        return false;
+    }
+    if b.len() < slots + 8 * n {
+        return false;
+    }
+    if !words::nulls::past_clear(b, n, slots) {
+        return false;
+    }
+    plain_fields(t, c + 1, n, depth - 1, b)
+}
+
 // Bytes that should stand for contents of a container type, whose entry is w. Of a struct, which most are, the size and the bitmap, then
 // the fields.
 fn check_value(t: &[u64], c: usize, depth: usize, w: u64, b: &[u8]) -> usize
@@ -186,6 +261,12 @@ fn check_items(t: &[u64], c: usize, depth: usize, w: u64, b: &[u8], n: usize) ->
         let next = words::sizes::pad_size(end);
         if b.len() < next {
             return slot + 2;
+        }
+        if is_plain(t, c, depth, w, &b[cur..end]) {
+            cur = next;
+            slot += 8;
+            i += 1;
+            continue;
         }
         let r = check_value(t, c, depth, w, &b[cur..end]);
         if r != 0 {
@@ -288,6 +369,13 @@ fn check_fields(t: &[u64], first: usize, n: usize, depth: usize, b: &[u8]) -> us
             if !words::sizes::pad_clear(b, end, next) {
                 return words::finds::first_set(b, end, next) + 2;
             }
+            c = table::after(w);
+            cur = next;
+            slot += 8;
+            i += 1;
+            continue;
+        }
+        if is_plain(t, c, depth, w, &b[cur..end]) {
             c = table::after(w);
             cur = next;
             slot += 8;

@@ -168,6 +168,7 @@ use Rattle.checking.proofs.check_field.Reads as check-field-reads
 use Rattle.checking.proofs.field_fault.Reads as field-fault-reads
 use Rattle.checking.proofs.fields_stand.Reads as fields-stand-reads
 use Rattle.checking.proofs.in_child.Reads as in-child-reads
+use Rattle.checking.proofs.is_plain.Reads as is-plain-reads
 use Rattle.checking.proofs.lists.check_bools.Reads as check-bools-reads
 use Rattle.checking.proofs.lists.check_end.Reads as check-end-reads
 use Rattle.checking.proofs.lists.check_texts.Reads as check-texts-reads
@@ -266,6 +267,8 @@ fields-calls t = (
   pad-clear-reads.Learnt,
   first-set-reads.Asked,
   first-set-reads.Learnt,
+  is-plain-reads.Asked,
+  is-plain-reads.Learnt,
   value-below t,
   check-value.Post,
   in-child-reads.Asked,
@@ -465,38 +468,19 @@ fields-loop-again-4 t c =
     (c .before .before .before .before .before .before .before .before .before .before .before .if1 .left) (c .before .before .before .if6 .taken) _)
     (c .before .before .pad-clear .ensures) (c .before .if7 .left))
 
-fields-sub-check-value : OfFields in-fields.Need-sub-check-value
-fields-sub-check-value t c = here-part (fields-here t (c .before .before)) (c .before .if5 .left)
+fields-sub-is-plain : OfFields in-fields.Need-sub-is-plain
+fields-sub-is-plain t c = here-part (fields-here t (c .before .before)) (c .before .if5 .left)
 
-fields-part-check-value-start : OfFields in-fields.Need-part-check-value-start
-fields-part-check-value-start t c = here-part (fields-here t (c .before .before)) (c .before .if5 .left)
+fields-part-is-plain-start : OfFields in-fields.Need-part-is-plain-start
+fields-part-is-plain-start t c = here-part (fields-here t (c .before .before)) (c .before .if5 .left)
 
-fields-part-check-value-end : OfFields in-fields.Need-part-check-value-end
-fields-part-check-value-end t c = here-end (fields-here t (c .before .before)) (c .before .if5 .left)
+fields-part-is-plain-end : OfFields in-fields.Need-part-is-plain-end
+fields-part-is-plain-end t c = here-end (fields-here t (c .before .before)) (c .before .if5 .left)
 
-fields-check-value-requires : OfFields in-fields.Need-check-value-requires
-fields-check-value-requires t c κs =
-    let s =
-    (c .before .before .before .before .before .before .before .before .before .before .before .before .before .before .before .before .before) in (
-      falls-order (s .args .depth) (s .pre .0),
-      reached-part (fields-reached t
-          (c .before .before .before .before .before .before .before .before .before .before)) (c .before .if6 .left)
-          (here-short (fields-here t (c .before .before .before)) (c .before .before .if5 .left)),
-    )
-
-fields-in-child-requires : OfFields in-fields.Need-in-child-requires
-fields-in-child-requires t c κs =
-    here-asks (fields-here t (c .before .before .before .before .before)) (c .before .before .before .before .if5 .left)
-    (reached-fault (fields-reached t (c .before .before .before .before .before .before .before .before .before .before .before .before)) _
-    (c .before .check-value .ensures))
-    (c .if8 .taken)
-
-fields-returns-4 : OfFields in-fields.Need-returns-4
-fields-returns-4 t c =
-    here-bad (fields-here t (c .before .before .before .before .before .before)) (c .before .before .before .before .before .if5 .left)
-    (reached-fault (fields-reached t (c .before .before .before .before .before .before .before .before .before .before .before .before .before)) _
-    (c .before .before .check-value .ensures))
-    (c .before .if8 .taken) (c .in-child .ensures)
+fields-is-plain-requires : OfFields in-fields.Need-is-plain-requires
+fields-is-plain-requires t c κs =
+    reached-part (fields-reached t (c .before .before .before .before .before .before .before .before .before .before)) (c .before .if6 .left)
+    (here-short (fields-here t (c .before .before .before)) (c .before .before .if5 .left))
 
 fields-add-slot-4 : OfFields in-fields.Need-add-slot-4
 fields-add-slot-4 t c = here-slot-on (fields-here t (c .before .before .before .before .before .before))
@@ -510,31 +494,83 @@ fields-loop-less-5 t c = here-less (fields-here t (c .before .before .before .be
 fields-loop-again-5 : OfFields in-fields.Need-loop-again-5
 fields-loop-again-5 t c =
     reached-next (fields-reached t (c .before .before .before .before .before .before .before .before .before .before .before .before .before))
-    (c .after4 .ensures)
-    (here-whole (fields-here t (c .before .before .before .before .before .before)) (c .before .before .before .before .before .if5 .left)
-    (reached-fault (fields-reached t (c .before .before .before .before .before .before .before .before .before .before .before .before .before)) _
-    (c .before .before .check-value .ensures)) (reached-eights
+    (c .after4 .ensures) (here-whole (fields-here t (c .before .before .before .before .before .before))
+    (c .before .before .before .before .before .if5 .left) (reached-fault
+    (fields-reached t (c .before .before .before .before .before .before .before .before .before .before .before .before .before)) _
+    (sym (c .before .before .is-plain .ensures (c .before .if8 .taken)))) (reached-eights
     (fields-reached t (c .before .before .before .before .before .before .before .before .before .before .before .before .before))
-    (c .before .before .before .before .if6 .left)) (c .before .if8 .left))
+    (c .before .before .before .before .if6 .left)) refl)
+
+fields-sub-check-value : OfFields in-fields.Need-sub-check-value
+fields-sub-check-value t c = here-part (fields-here t (c .before .before .before .before .before)) (c .before .before .before .before .if5 .left)
+
+fields-part-check-value-start : OfFields in-fields.Need-part-check-value-start
+fields-part-check-value-start t c = here-part (fields-here t (c .before .before .before .before .before)) (c .before .before .before .before .if5 .left)
+
+fields-part-check-value-end : OfFields in-fields.Need-part-check-value-end
+fields-part-check-value-end t c = here-end (fields-here t (c .before .before .before .before .before)) (c .before .before .before .before .if5 .left)
+
+fields-check-value-requires : OfFields in-fields.Need-check-value-requires
+fields-check-value-requires t c κs =
+    let r = (c .before .before .before .before .before .before .before .before .before .before .before .before .before) in
+    let s = (r .before .before .before .before .before .before .before) in (
+      falls-order (s .args .depth) (s .pre .0),
+      reached-part (fields-reached t r) (c .before .before .before .before .if6 .left)
+          (here-short (fields-here t (c .before .before .before .before .before .before)) (c .before .before .before .before .before .if5 .left)),
+    )
+
+fields-in-child-requires : OfFields in-fields.Need-in-child-requires
+fields-in-child-requires t c κs =
+    here-asks (fields-here t (c .before .before .before .before .before .before .before .before))
+    (c .before .before .before .before .before .before .before .if5 .left) (reached-fault
+    (fields-reached t (c .before .before .before .before .before .before .before .before .before .before .before .before .before .before .before)) _
+    (c .before .check-value .ensures)) (c .if9 .taken)
+
+fields-returns-4 : OfFields in-fields.Need-returns-4
+fields-returns-4 t c =
+    here-bad (fields-here t (c .before .before .before .before .before .before .before .before .before))
+    (c .before .before .before .before .before .before .before .before .if5 .left) (reached-fault
+    (fields-reached t (c .before .before .before .before .before .before .before .before .before .before .before .before .before .before .before .before))
+    _ (c .before .before .check-value .ensures)) (c .before .if9 .taken) (c .in-child .ensures)
+
+fields-add-slot-5 : OfFields in-fields.Need-add-slot-5
+fields-add-slot-5 t c = here-slot-on (fields-here t (c .before .before .before .before .before .before .before .before .before))
+
+fields-add-i-5 : OfFields in-fields.Need-add-i-5
+fields-add-i-5 t c = here-on (fields-here t (c .before .before .before .before .before .before .before .before .before))
+
+fields-loop-less-6 : OfFields in-fields.Need-loop-less-6
+fields-loop-less-6 t c = here-less (fields-here t (c .before .before .before .before .before .before .before .before .before))
+
+fields-loop-again-6 : OfFields in-fields.Need-loop-again-6
+fields-loop-again-6 t c =
+    reached-next
+    (fields-reached t (c .before .before .before .before .before .before .before .before .before .before .before .before .before .before .before .before))
+    (c .after5 .ensures) (here-whole (fields-here t (c .before .before .before .before .before .before .before .before .before))
+    (c .before .before .before .before .before .before .before .before .if5 .left) (reached-fault
+    (fields-reached t (c .before .before .before .before .before .before .before .before .before .before .before .before .before .before .before .before))
+    _ (c .before .before .check-value .ensures)) (reached-eights
+    (fields-reached t (c .before .before .before .before .before .before .before .before .before .before .before .before .before .before .before .before))
+    (c .before .before .before .before .before .before .before .if6 .left)) (c .before .if9 .left))
 
 fields-add-result-3 : OfFields in-fields.Need-add-result-3
-fields-add-result-3 t c = loop-told (c .before .before .loop .inv .state) (c .before .loop-test .left) (c .if9 .taken)
+fields-add-result-3 t c = loop-told (c .before .before .loop .inv .state) (c .before .loop-test .left) (c .if10 .taken)
 
 fields-returns-5 : OfFields in-fields.Need-returns-5
-fields-returns-5 t c = loop-unfit (c .before .before .loop .inv .state) (c .before .loop-test .left) (c .if9 .taken)
+fields-returns-5 t c = loop-unfit (c .before .before .loop .inv .state) (c .before .loop-test .left) (c .if10 .taken)
 
-fields-sub-if10 : OfFields in-fields.Need-sub-if10
-fields-sub-if10 t c = loop-since (c .before .before .loop .inv .state)
+fields-sub-if11 : OfFields in-fields.Need-sub-if11
+fields-sub-if11 t c = loop-since (c .before .before .loop .inv .state)
 
-fields-add-if10 : OfFields in-fields.Need-add-if10
-fields-add-if10 t c = loop-sum (c .before .before .loop .inv .state)
+fields-add-if11 : OfFields in-fields.Need-add-if11
+fields-add-if11 t c = loop-sum (c .before .before .loop .inv .state)
 
 fields-returns-6 : OfFields in-fields.Need-returns-6
 fields-returns-6 t c =
-    loop-over (c .before .before .before .loop .inv .state) (c .before .before .loop-test .left) (c .before .if9 .left) (c .if10 .taken)
+    loop-over (c .before .before .before .loop .inv .state) (c .before .before .loop-test .left) (c .before .if10 .left) (c .if11 .taken)
 
 fields-returns-7 : OfFields in-fields.Need-returns-7
-fields-returns-7 t c = loop-done (c .before .before .before .loop .inv .state) (c .before .before .loop-test .left) (c .before .if9 .left) (c .if10 .left)
+fields-returns-7 t c = loop-done (c .before .before .before .loop .inv .state) (c .before .before .loop-test .left) (c .before .if10 .left) (c .if11 .left)
 
 -- ---- check_items
 
@@ -550,6 +586,8 @@ items-calls t = (
   items-stand-reads.Learnt,
   pad-size-reads.Asked,
   pad-size-reads.Learnt,
+  is-plain-reads.Asked,
+  is-plain-reads.Learnt,
   value-below t,
   check-value.Post,
   in-child-reads.Asked,
@@ -664,29 +702,19 @@ items-add-result t c = here-told (items-here t (c .before))
 items-returns : OfItems in-items.Need-returns
 items-returns t c = here-long (items-here t (c .before)) (c .if3 .taken)
 
-items-sub-check-value : OfItems in-items.Need-sub-check-value
-items-sub-check-value t c = here-part (items-here t (c .before)) (c .if3 .left)
+items-sub-is-plain : OfItems in-items.Need-sub-is-plain
+items-sub-is-plain t c = here-part (items-here t (c .before)) (c .if3 .left)
 
-items-part-check-value-start : OfItems in-items.Need-part-check-value-start
-items-part-check-value-start t c = here-part (items-here t (c .before)) (c .if3 .left)
+items-part-is-plain-start : OfItems in-items.Need-part-is-plain-start
+items-part-is-plain-start t c = here-part (items-here t (c .before)) (c .if3 .left)
 
-items-part-check-value-end : OfItems in-items.Need-part-check-value-end
-items-part-check-value-end t c = here-end (items-here t (c .before)) (c .if3 .left)
+items-part-is-plain-end : OfItems in-items.Need-part-is-plain-end
+items-part-is-plain-end t c = here-end (items-here t (c .before)) (c .if3 .left)
 
-items-check-value-requires : OfItems in-items.Need-check-value-requires
-items-check-value-requires t c κs =
-    let s = (c .before .before .before .before .before .before .before .before .before .before .before .before .before) in
-    (falls-order (s .args .depth) (s .pre .0), item-part (s .pre .1) (here-short (items-here t (c .before .before)) (c .before .if3 .left)))
-
-items-in-child-requires : OfItems in-items.Need-in-child-requires
-items-in-child-requires t c κs =
-    here-asks (items-here t (c .before .before .before .before)) (c .before .before .before .if3 .left) (c .before .check-value .ensures)
-    (c .if4 .taken)
-
-items-returns-2 : OfItems in-items.Need-returns-2
-items-returns-2 t c =
-    here-bad (items-here t (c .before .before .before .before .before)) (c .before .before .before .before .if3 .left)
-    (c .before .before .check-value .ensures) (c .before .if4 .taken) (c .in-child .ensures)
+items-is-plain-requires : OfItems in-items.Need-is-plain-requires
+items-is-plain-requires t c κs =
+    item-part (c .before .before .before .before .before .before .before .before .before .before .before .before .before .pre .1) (here-short
+    (items-here t (c .before .before)) (c .before .if3 .left))
 
 items-add-slot-2 : OfItems in-items.Need-add-slot-2
 items-add-slot-2 t c = here-slot-on (items-here t (c .before .before .before .before))
@@ -699,27 +727,68 @@ items-loop-less-3 t c = here-less (items-here t (c .before .before .before .befo
 
 items-loop-again-3 : OfItems in-items.Need-loop-again-3
 items-loop-again-3 t c =
-    here-whole (items-here t (c .before .before .before .before)) (c .before .before .before .if3 .left) (c .before .check-value .ensures)
+    here-whole (items-here t (c .before .before .before .before)) (c .before .before .before .if3 .left) (sym (c .before .is-plain .ensures (c .if4 .taken)))
     (item-eights (c .before .before .before .before .before .before .before .before .before .before .before .before .before .before .before .pre .1))
-    (c .if4 .left)
+    refl
+
+items-sub-check-value : OfItems in-items.Need-sub-check-value
+items-sub-check-value t c = here-part (items-here t (c .before .before .before .before)) (c .before .before .before .if3 .left)
+
+items-part-check-value-start : OfItems in-items.Need-part-check-value-start
+items-part-check-value-start t c = here-part (items-here t (c .before .before .before .before)) (c .before .before .before .if3 .left)
+
+items-part-check-value-end : OfItems in-items.Need-part-check-value-end
+items-part-check-value-end t c = here-end (items-here t (c .before .before .before .before)) (c .before .before .before .if3 .left)
+
+items-check-value-requires : OfItems in-items.Need-check-value-requires
+items-check-value-requires t c κs =
+    let h = (c .before .before .before .before .before) in
+    let s = (h .before .before .before .before .before .before .before .before .before .before .before) in
+    (falls-order (s .args .depth) (s .pre .0), item-part (s .pre .1) (here-short (items-here t h) (c .before .before .before .before .if3 .left)))
+
+items-in-child-requires : OfItems in-items.Need-in-child-requires
+items-in-child-requires t c κs =
+    here-asks (items-here t (c .before .before .before .before .before .before .before)) (c .before .before .before .before .before .before .if3 .left)
+    (c .before .check-value .ensures) (c .if5 .taken)
+
+items-returns-2 : OfItems in-items.Need-returns-2
+items-returns-2 t c =
+    here-bad (items-here t (c .before .before .before .before .before .before .before .before))
+    (c .before .before .before .before .before .before .before .if3 .left) (c .before .before .check-value .ensures) (c .before .if5 .taken)
+    (c .in-child .ensures)
+
+items-add-slot-3 : OfItems in-items.Need-add-slot-3
+items-add-slot-3 t c = here-slot-on (items-here t (c .before .before .before .before .before .before .before))
+
+items-add-i-3 : OfItems in-items.Need-add-i-3
+items-add-i-3 t c = here-on (items-here t (c .before .before .before .before .before .before .before))
+
+items-loop-less-4 : OfItems in-items.Need-loop-less-4
+items-loop-less-4 t c = here-less (items-here t (c .before .before .before .before .before .before .before))
+
+items-loop-again-4 : OfItems in-items.Need-loop-again-4
+items-loop-again-4 t c =
+    let h = (c .before .before .before .before .before .before .before) in
+    here-whole (items-here t h) (c .before .before .before .before .before .before .if3 .left) (c .before .check-value .ensures)
+    (item-eights (h .before .before .before .before .before .before .before .before .before .before .before .pre .1)) (c .if5 .left)
 
 items-add-result-2 : OfItems in-items.Need-add-result-2
-items-add-result-2 t c = loop-told (c .before .before .loop .inv) (c .before .loop-test .left) (c .if5 .taken)
+items-add-result-2 t c = loop-told (c .before .before .loop .inv) (c .before .loop-test .left) (c .if6 .taken)
 
 items-returns-3 : OfItems in-items.Need-returns-3
-items-returns-3 t c = loop-unfit (c .before .before .loop .inv) (c .before .loop-test .left) (c .if5 .taken)
+items-returns-3 t c = loop-unfit (c .before .before .loop .inv) (c .before .loop-test .left) (c .if6 .taken)
 
-items-sub-if6 : OfItems in-items.Need-sub-if6
-items-sub-if6 t c = loop-since (c .before .before .loop .inv)
+items-sub-if7 : OfItems in-items.Need-sub-if7
+items-sub-if7 t c = loop-since (c .before .before .loop .inv)
 
-items-add-if6 : OfItems in-items.Need-add-if6
-items-add-if6 t c = loop-sum (c .before .before .loop .inv)
+items-add-if7 : OfItems in-items.Need-add-if7
+items-add-if7 t c = loop-sum (c .before .before .loop .inv)
 
 items-returns-4 : OfItems in-items.Need-returns-4
-items-returns-4 t c = loop-over (c .before .before .before .loop .inv) (c .before .before .loop-test .left) (c .before .if5 .left) (c .if6 .taken)
+items-returns-4 t c = loop-over (c .before .before .before .loop .inv) (c .before .before .loop-test .left) (c .before .if6 .left) (c .if7 .taken)
 
 items-returns-5 : OfItems in-items.Need-returns-5
-items-returns-5 t c = loop-done (c .before .before .before .loop .inv) (c .before .before .loop-test .left) (c .before .if5 .left) (c .if6 .left)
+items-returns-5 t c = loop-done (c .before .before .before .loop .inv) (c .before .before .loop-test .left) (c .before .if6 .left) (c .if7 .left)
 
 -- ---- check_list
 
@@ -1192,29 +1261,27 @@ pub +check-fields+check-items+check-list+check-map+check-value-spec : {M : Type 
     μ-check-fields
     μ-check-items μ-check-list μ-check-map μ-check-value
     (λ t. in-fields.spec (fields-calls t) (fields-at t) check-fields.Post fields-Inv fields-μ
-    (fields-bitmap-size-requires t) (fields-mul-cur t) (fields-add-cur t) (fields-loop-holds t)
-    (fields-entry-at-requires t) (λ c κs. tt) (fields-check-field-requires t) (fields-field-fault-requires t)
-    (fields-returns t) (λ c κs. tt) (fields-add-slot t) (fields-add-i t) (fields-loop-less t)
-    (fields-loop-again t) (fields-is-null-requires t) (λ c κs. tt) (fields-add-slot-2 t)
-    (fields-add-i-2 t) (fields-loop-less-2 t) (fields-loop-again-2 t) (fields-add-get4 t) (fields-get4-requires t)
-    (fields-fields-stand-requires t) (fields-sub-done t) (fields-add-done t) (fields-loop-less-3 t)
-    (fields-loop-again-3 t) (fields-get4-requires-2 t) (fields-add-end t) (fields-pad-size-requires t)
-    (fields-add-result t) (fields-returns-2 t) (fields-pad-clear-requires t) (fields-first-set-requires t)
-    (fields-add-result-2 t) (fields-returns-3 t) (λ c κs. tt) (fields-add-slot-3 t) (fields-add-i-3 t)
-    (fields-loop-less-4 t) (fields-loop-again-4 t) (fields-sub-check-value t) (fields-part-check-value-start t)
-    (fields-part-check-value-end t) (fields-check-value-requires t) (fields-in-child-requires t) (fields-returns-4 t)
-    (λ c κs. tt) (fields-add-slot-4 t) (fields-add-i-4 t) (fields-loop-less-5 t) (fields-loop-again-5 t)
-    (fields-add-result-3 t) (fields-returns-5 t) (fields-sub-if10 t) (fields-add-if10 t) (fields-returns-6 t)
-    (fields-returns-7 t))
+    (fields-bitmap-size-requires t) (fields-mul-cur t) (fields-add-cur t) (fields-loop-holds t) (fields-entry-at-requires t) (λ c κs. tt)
+    (fields-check-field-requires t) (fields-field-fault-requires t) (fields-returns t) (λ c κs. tt) (fields-add-slot t) (fields-add-i t)
+    (fields-loop-less t) (fields-loop-again t) (fields-is-null-requires t) (λ c κs. tt) (fields-add-slot-2 t) (fields-add-i-2 t)
+    (fields-loop-less-2 t) (fields-loop-again-2 t) (fields-add-get4 t) (fields-get4-requires t) (fields-fields-stand-requires t) (fields-sub-done t)
+    (fields-add-done t) (fields-loop-less-3 t) (fields-loop-again-3 t) (fields-get4-requires-2 t) (fields-add-end t) (fields-pad-size-requires t)
+    (fields-add-result t) (fields-returns-2 t) (fields-pad-clear-requires t) (fields-first-set-requires t) (fields-add-result-2 t)
+    (fields-returns-3 t) (λ c κs. tt) (fields-add-slot-3 t) (fields-add-i-3 t) (fields-loop-less-4 t) (fields-loop-again-4 t) (fields-sub-is-plain t)
+    (fields-part-is-plain-start t) (fields-part-is-plain-end t) (fields-is-plain-requires t) (λ c κs. tt) (fields-add-slot-4 t) (fields-add-i-4 t)
+    (fields-loop-less-5 t) (fields-loop-again-5 t) (fields-sub-check-value t) (fields-part-check-value-start t) (fields-part-check-value-end t)
+    (fields-check-value-requires t) (fields-in-child-requires t) (fields-returns-4 t) (λ c κs. tt) (fields-add-slot-5 t) (fields-add-i-5 t)
+    (fields-loop-less-6 t) (fields-loop-again-6 t) (fields-add-result-3 t) (fields-returns-5 t) (fields-sub-if11 t) (fields-add-if11 t)
+    (fields-returns-6 t) (fields-returns-7 t))
     (λ t. in-items.spec (items-calls t) (items-at t) check-items.Post items-Inv items-μ
-    (items-bitmap-size-requires t) (items-add-slots t) (items-mul-cur t) (items-add-cur t) (items-loop-holds t)
-    (items-is-null-requires t) (items-add-slot t) (items-add-i t) (items-loop-less t) (items-loop-again t)
-    (items-add-get4 t) (items-get4-requires t) (items-items-stand-requires t) (items-sub-done t) (items-add-done t)
-    (items-loop-less-2 t) (items-loop-again-2 t) (items-get4-requires-2 t) (items-add-end t) (items-pad-size-requires t)
-    (items-add-result t) (items-returns t) (items-sub-check-value t) (items-part-check-value-start t)
-    (items-part-check-value-end t) (items-check-value-requires t) (items-in-child-requires t) (items-returns-2 t)
-    (items-add-slot-2 t) (items-add-i-2 t) (items-loop-less-3 t) (items-loop-again-3 t) (items-add-result-2 t)
-    (items-returns-3 t) (items-sub-if6 t) (items-add-if6 t) (items-returns-4 t) (items-returns-5 t))
+    (items-bitmap-size-requires t) (items-add-slots t) (items-mul-cur t) (items-add-cur t) (items-loop-holds t) (items-is-null-requires t)
+    (items-add-slot t) (items-add-i t) (items-loop-less t) (items-loop-again t) (items-add-get4 t) (items-get4-requires t)
+    (items-items-stand-requires t) (items-sub-done t) (items-add-done t) (items-loop-less-2 t) (items-loop-again-2 t) (items-get4-requires-2 t)
+    (items-add-end t) (items-pad-size-requires t) (items-add-result t) (items-returns t) (items-sub-is-plain t) (items-part-is-plain-start t)
+    (items-part-is-plain-end t) (items-is-plain-requires t) (items-add-slot-2 t) (items-add-i-2 t) (items-loop-less-3 t) (items-loop-again-3 t)
+    (items-sub-check-value t) (items-part-check-value-start t) (items-part-check-value-end t) (items-check-value-requires t)
+    (items-in-child-requires t) (items-returns-2 t) (items-add-slot-3 t) (items-add-i-3 t) (items-loop-less-4 t) (items-loop-again-4 t)
+    (items-add-result-2 t) (items-returns-3 t) (items-sub-if7 t) (items-add-if7 t) (items-returns-4 t) (items-returns-5 t))
     (λ t. in-list.spec (list-calls t) (list-at t) check-list.Post (list-returns t) (list-returns-2 t)
     (list-get8-requires t) (list-returns-3 t) (list-entry-at-requires t) (list-bitmap-size-requires t)
     (list-add-slots t) (list-element-width-requires t) (list-mul-end t) (list-add-end t) (list-pad-size-requires t)
