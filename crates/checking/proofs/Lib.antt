@@ -8,5 +8,6 @@ pub mod Fields
 pub mod Elements
 pub mod Values
 pub mod StructLoops
+pub mod Plain
 pub mod Arrays
 pub mod Root

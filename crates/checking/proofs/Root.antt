@@ -12,10 +12,11 @@ use Rattle.schema.proofs.Places.{typed-place}
 use Rattle.schema.proofs.Judging.{accepted-root}
 use Rattle.layout.specs.Faults.{slot, byte, Read, fault, got, inRow, faultIn}
 use Rattle.layout.specs.Layout.{codec, faultAt}
-use Rattle.table.specs.Words.{placeIn}
+use Rattle.table.specs.Words.{placeIn, countIn}
 use Rattle.table.specs.Tables.{Table, Stands, EntryAt, schemaOf, posOf}
 use Rattle.checking.specs.Sound.{code, faultOf}
-use Rattle.checking.specs.Room.{typeOf, Container}
+use Rattle.checking.specs.Room.{typesOf, Fields}
+use Rattle.checking.proofs.Values.{Child, child-struct, struct-whole}
 
 -- the place that a number stands for
 abbrev placeOf : ℕ → Option ℕ
@@ -55,30 +56,36 @@ module _ {t : List ℕ} (h : Table t) where
   pub root-stands : Stands t 0 8
   root-stands = record { table = h; typed = subst (λ (x : ℕ). Typed s x 8) (sym (first-pos t)) (accepted-root s (h .accepted) .typed) }
 
-  pub root-value : {w : ℕ} → EntryAt t 0 8 w → {b : List ℕ} → length b ≤ 16384 → Container t 0 8 w b
-  root-value {w} e l = record { stands = root-stands; entry = e; holds = omega (arith, eleven); small = l }
-    where
-      ro-place : (ts : Tys) → place (ro ts) ≡ 11
-      ro-place ts = unfold place in refl
+  ro-place : (ts : Tys) → place (ro ts) ≡ 11
+  ro-place ts = unfold place in refl
 
-      eleven : placeIn w ≡ 11
-      eleven =
-          e .place ∙ ap (placeAt s) (first-pos t) ∙ typed-place s 0 8 (accepted-root s (h .accepted) .typed)
-          ∙ ap place (accepted-root s (h .accepted) .whole) ∙ ro-place (fieldsOf s)
+  -- its entry is a struct's
+  eleven : {w : ℕ} → EntryAt t 0 8 w → placeIn w ≡ 11
+  eleven e =
+      e .place ∙ ap (placeAt s) (first-pos t) ∙ typed-place s 0 8 (accepted-root s (h .accepted) .typed)
+      ∙ ap place (accepted-root s (h .accepted) .whole) ∙ ro-place (fieldsOf s)
 
-  -- the number as the place of a fault
-  module _ (b : List ℕ) {r : ℕ} (er : r ≡ faultOf (typeOf t 0 8) b) where
-    is : placeOf r ≡ faultAt (ro (fieldsOf s)) b
-    unfolding faultOf
-    is =
-        ap placeOf (er ∙ ap (λ (x : Ty). faultOf x b) (ap (λ (q : ℕ). typeAt s q 8) (first-pos t) ∙ accepted-root s (h .accepted) .whole))
-        ∙ place-code (codec (ro (fieldsOf s)) .get b)
+  module _ {w : ℕ} (e : EntryAt t 0 8 w) (b : List ℕ) (l : length b ≤ 16384) {n : ℕ} (en : n ≡ countIn w) where
+    root-value : Child t 0 8 w 11 66 b
+    root-value = record { stands = root-stands; entry = e; kind = sym (eleven e); holds = omega arith; small = l; rank = refl }
 
-    pub root-none : r ≡ 0 → none ≡ faultAt (ro (fieldsOf s)) b
-    root-none q = place-none r q ∙ is
+    pub root-fields : Fields t 1 n 7 b
+    root-fields = child-struct root-value refl en .1
 
-    pub root-slot : r ≡ 1 → some 0 ≡ faultAt (ro (fieldsOf s)) b
-    root-slot q = place-slot r q ∙ is
+    -- the number as the place of a fault
+    module _ {r : ℕ} (er : r ≡ faultOf (ro (typesOf t 1 7 n)) b) where
+      is : placeOf r ≡ faultAt (ro (fieldsOf s)) b
+      unfolding faultOf
+      is =
+          ap placeOf (struct-whole root-value refl en er
+          ∙ ap (λ (x : Ty). faultOf x b) (ap (λ (q : ℕ). typeAt s q 8) (first-pos t) ∙ accepted-root s (h .accepted) .whole))
+          ∙ place-code (codec (ro (fieldsOf s)) .get b)
 
-    pub root-byte : (r ≡ 0 → ⊥) → (r ≡ 1 → ⊥) → some (r - 2) ≡ faultAt (ro (fieldsOf s)) b
-    root-byte q g = place-byte r q g ∙ is
+      pub root-none : r ≡ 0 → none ≡ faultAt (ro (fieldsOf s)) b
+      root-none q = place-none r q ∙ is
+
+      pub root-slot : r ≡ 1 → some 0 ≡ faultAt (ro (fieldsOf s)) b
+      root-slot q = place-slot r q ∙ is
+
+      pub root-byte : (r ≡ 0 → ⊥) → (r ≡ 1 → ⊥) → some (r - 2) ≡ faultAt (ro (fieldsOf s)) b
+      root-byte q g = place-byte r q g ∙ is

@@ -27,14 +27,14 @@ use Rattle.table.specs.Tables.{Stands, EntryAt, schemaOf, posOf}
 use Rattle.standing.specs.Standing.{varies, FieldsFrom}
 use Rattle.standing.proofs.Tabled.{kind-varies, kind-fixed, field-next}
 use Rattle.checking.specs.Sound.{code, faultOf, inChild, zerosThen, faultFrom}
-use Rattle.checking.specs.Room.{typeOf, typesOf, Container, FieldRoom, fieldThen, fieldGood}
+use Rattle.checking.specs.Room.{typeOf, typesOf, Fields, FieldRoom, fieldThen, fieldGood}
 use Rattle.checking.proofs.Tests.{clash, passed, failed, MapRoom}
 use Rattle.checking.proofs.Children.{good-null, good-inside}
 use Rattle.checking.proofs.Containers.{struct-odd, struct-short, struct-past, struct-good, Eights, container-eights}
 use Rattle.checking.proofs.Leaves.{text-fine}
 use Rattle.checking.proofs.Fields.{field-passes, field-hides}
 use Rattle.checking.proofs.Loops.{fields, faultIn, Slots, At, loop-start, loop-bit, loop-slot, loop-pass, loop-wrong}
-use Rattle.checking.proofs.Values.{Fields, as-type}
+use Rattle.checking.proofs.Values.{Child, as-type}
 
 -- ---- size and bitmap
 
@@ -198,8 +198,8 @@ module _ {t : List ℕ} {first d n : ℕ} {b : List ℕ} {slots start c i slot c
     pub reached-eights : Eights own
     reached-eights = container-eights own k (holding-of own k kind-is lo)
 
-    pub reached-part : {p : List ℕ} → length p ≤ 16384 → Container t c d w p
-    reached-part small = record { stands = stands; entry = r .entry; holds = omega (arith, r .kind); small = small }
+    pub reached-part : {m : ℕ} → d * 8 + 2 ≡ m → {p : List ℕ} → length p ≤ 16384 → Child t c d w k m p
+    reached-part rank small = record { stands = stands; entry = r .entry; kind = r .kind; holds = lo; small = small; rank = rank }
 
   pub reached-fault : (p : List ℕ) {y : ℕ} → y ≡ faultOf (typeOf t c d) p → y ≡ faultOf own p
   reached-fault p e = as-type _ _ p _ (sym same) e

@@ -187,13 +187,12 @@ module _ {b : List ℕ} {n slots : ℕ} (r : MapRoom b n slots) where
 
 -- ---- the measure of a call is below that of the caller, d deep
 
--- a value's from the loop over its container's children
-pub falls-order : (d : ℕ) {m : ℕ} → d * 8 + 2 ≡ m → d * 8 < m
-falls-order d e = omega arith
-
 -- the loop's from a list or a struct, and a list's from a map
 pub falls-list : (d : ℕ) {m : ℕ} → d * 8 + 3 ≡ m → d * 8 + 2 < m
 falls-list d e = omega arith
+
+pub falls-struct : (d : ℕ) {m : ℕ} → d * 8 + 5 ≡ m → d * 8 + 2 < m
+falls-struct d e = omega arith
 
 pub falls-map : (d : ℕ) {m : ℕ} → d * 8 + 4 ≡ m → d * 8 + 3 < m
 falls-map d e = omega arith

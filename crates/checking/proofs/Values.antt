@@ -1,5 +1,6 @@
 -- Containers by their entry in a table, and a list's items, as the cycle of calls meets them. Assumes nothing.
 use mathlib.Core.Path.{_≡_, refl, sym, ap, _∙_, subst}
+use mathlib.Core.Bool.{Bool, true}
 use mathlib.Core.List.{List}
 use Prim.Native.Nat.{ℕ, _+_, _*_, _-_, _^_, _≤_, _<_}
 use native.Mathlib.Omega.{arith}
@@ -8,15 +9,15 @@ use mir.Syntax.{w64}
 use lib.ListN.{length}
 use Rattle.words.specs.Bytes.{Bytes, bitmap}
 use Rattle.schema.specs.Types.{Ty, li, ma, ro, place}
-use Rattle.schema.specs.Walk.{Typed, TypedAll, nextAt, ListAt, MapAt, StructAt}
+use Rattle.schema.specs.Walk.{Typed, nextAt, ListAt, MapAt, StructAt}
 use Rattle.schema.proofs.Typing.{typed-deep}
 use Rattle.schema.proofs.Places.{typed-place, place-li, place-ma, place-ro, holding-of}
 use Rattle.table.specs.Words.{placeIn, afterIn, countIn}
-use Rattle.table.specs.Tables.{Table, Stands, EntryAt, schemaOf, posOf}
+use Rattle.table.specs.Tables.{Stands, EntryAt, schemaOf, posOf}
 use Rattle.table.proofs.Places.{place-room, table-short}
 use Rattle.standing.proofs.Tabled.{kind-varies}
 use Rattle.checking.specs.Sound.{faultOf}
-use Rattle.checking.specs.Room.{typeOf, typesOf, Holding, Container, Items, Pair}
+use Rattle.checking.specs.Room.{typeOf, typesOf, Holding, Fields, LeavesOr0, Items, Pair}
 use Rattle.checking.proofs.Containers.{Eights, container-eights}
 use Rattle.checking.proofs.Loops.{items, Slots}
 
@@ -25,110 +26,124 @@ use Rattle.checking.proofs.Loops.{items, Slots}
 pub as-type : (t u : Ty) (b : List ℕ) (r : ℕ) → t ≡ u → r ≡ faultOf u b → r ≡ faultOf t b
 as-type t u b r e h = h ∙ ap (λ (x : Ty). faultOf x b) (sym e)
 
--- a struct is no list and no map
-pub no-list : {k : ℕ} → k ≡ 11 → k ≡ 9 → ⊥
-no-list e q = omega arith
-
-pub no-map : {k : ℕ} → k ≡ 11 → k ≡ 10 → ⊥
-no-map e q = omega arith
-
--- the types of a struct's n fields stand from a place on, and b is short enough for a row
-pub record Fields (t : List ℕ) (first n d : ℕ) (b : List ℕ) : Type 0 where
-  pub table : Table t
-  pub typed : TypedAll (schemaOf t) (posOf t first) d n
-  pub high : n ≤ 128
-  pub small : length b ≤ 16384
-
 -- a place of a table is small
 pub place-fits : {t : List ℕ} {c d : ℕ} → Stands t c d → Fits w64 c
 place-fits {t} {c} {d} s = omega (arith, place-room t (s .table) c d (s .typed), table-short t (s .table))
+
+pub place-low : {t : List ℕ} {c d : ℕ} → Stands t c d → c < 1024
+place-low {t} {c} {d} s = omega (arith, place-room t (s .table) c d (s .typed), table-short t (s .table))
 
 -- and has a next one
 pub next-place : {t : List ℕ} {c d : ℕ} → Stands t c d → Fits w64 (c + 1)
 next-place {t} {c} {d} s = omega (arith, place-room t (s .table) c d (s .typed), table-short t (s .table))
 
-module _ {t : List ℕ} {c d w : ℕ} {b : List ℕ} (v : Container t c d w b) where
+-- What a loop over children, d deep, whose call has the measure m, knows of a child's bytes b that should stand for a container: w is the
+-- entry of its type, and k its kind.
+pub record Child (t : List ℕ) (c d w k m : ℕ) (b : List ℕ) : Type 0 where
+  pub stands : Stands t c d
+  pub entry : EntryAt t c d w
+  pub kind : k ≡ placeIn w
+  pub holds : 9 ≤ k
+  pub small : length b ≤ 16384
+  pub rank : d * 8 + 2 ≡ m
+
+module _ {t : List ℕ} {c d w k m : ℕ} {b : List ℕ} (h : Child t c d w k m b) where
   abbrev s : List ℕ
   s = schemaOf t
 
   abbrev p : ℕ
   p = posOf t c
 
-  pub value-deep : 1 ≤ d
-  value-deep = omega (arith, typed-deep s p d (v .stands .typed))
+  pub child-deep : 1 ≤ d
+  child-deep = omega (arith, typed-deep s p d (h .stands .typed))
 
-  pub value-child : Fits w64 (c + 1)
-  value-child = next-place (v .stands)
-
-  -- and one behind as many leaves as a struct may hold
-  pub value-leaves : {n : ℕ} → n ≤ 128 → Fits w64 (c + 1 + n)
-  value-leaves h = omega (arith, place-room t (v .stands .table) c d (v .stands .typed), table-short t (v .stands .table))
+  pub child-first : Fits w64 (c + 1)
+  child-first = next-place (h .stands)
 
   -- the calls are one deeper
-  pub value-falls : (j : ℕ) → j < 8 → {m : ℕ} → d * 8 ≡ m → (d - 1) * 8 + j < m
-  value-falls j h e = omega (arith, value-deep)
+  falls : (j : ℕ) → j < 8 → (d - 1) * 8 + j < m
+  falls j l = omega (arith, child-deep, h .rank)
 
-  -- its first child, where it is none
+  -- where its first child stands, if it is no struct
   first-child : (placeIn w ≡ 11 → ⊥) → posOf t (c + 1) ≡ p + 2
-  first-child ne = v .entry .child ne
+  first-child ne = h .entry .child ne
 
   -- a list
-  module _ {k : ℕ} (ek : k ≡ placeIn w) (e : k ≡ 9) where
+  module _ (e : k ≡ 9) where
     list-law : ListAt s p d (posOf t (c + 1))
     list-law =
-        subst (ListAt s p d) (sym (first-child (λ q. omega arith))) (place-li s p d (v .stands .typed) (placeIn w) (v .entry .place) (sym ek ∙ e))
+        subst (ListAt s p d) (sym (first-child (λ q. omega (arith, h .kind))))
+        (place-li s p d (h .stands .typed) (placeIn w) (h .entry .place) (sym (h .kind) ∙ e))
 
-    pub value-list : Holding t (c + 1) (d - 1) b
-    value-list = record { stands = record { table = v .stands .table; typed = list-law .element }; small = v .small }
+    pub child-list : ((d - 1) * 8 + 3 < m) × Holding t (c + 1) (d - 1) b
+    child-list = (falls 3 (omega arith), record { stands = record { table = h .stands .table; typed = list-law .element }; small = h .small })
 
     pub list-whole : {r : ℕ} → r ≡ faultOf (li (typeOf t (c + 1) (d - 1))) b → r ≡ faultOf (typeOf t c d) b
-    list-whole h = as-type _ _ b _ (list-law .whole) h
+    list-whole q = as-type _ _ b _ (list-law .whole) q
 
   -- a map
-  module _ {k : ℕ} (ek : k ≡ placeIn w) (e : k ≡ 10) where
+  module _ (x : k ≡ 11 → ⊥) (y : k ≡ 9 → ⊥) where
     ten : placeIn w ≡ 10
-    ten = sym ek ∙ e
+    ten = go k x y (h .holds) (h .kind) (h .entry .lined .few)
+      where
+        go : (i : ℕ) → (i ≡ 11 → ⊥) → (i ≡ 9 → ⊥) → 9 ≤ i → i ≡ placeIn w → placeIn w < 12 → placeIn w ≡ 10
+        go i a b l q f = omega arith
 
     map-law : MapAt s p d (posOf t (c + 1)) (nextAt s (posOf t (c + 1)) (d - 1))
     map-law =
         subst (λ (q : ℕ). MapAt s p d q (nextAt s q (d - 1))) (sym (first-child (λ q. omega (arith, ten))))
-        (place-ma s p d (v .stands .typed) (placeIn w) (v .entry .place) ten)
+        (place-ma s p d (h .stands .typed) (placeIn w) (h .entry .place) ten)
 
-    pub value-keys : Stands t (c + 1) (d - 1)
-    value-keys = record { table = v .stands .table; typed = map-law .keys }
+    pub child-keys : Stands t (c + 1) (d - 1)
+    child-keys = record { table = h .stands .table; typed = map-law .keys }
 
     module _ {u : ℕ} (eu : EntryAt t (c + 1) (d - 1) u) {a : ℕ} (ea : a ≡ afterIn u) where
       behind : nextAt s (posOf t (c + 1)) (d - 1) ≡ posOf t a
       behind = sym (ap (posOf t) ea ∙ eu .next)
 
-      pub value-map : Pair t (c + 1) a (d - 1) b
-      value-map = record {
-        keys = value-keys;
-        values = record { table = v .stands .table; typed = subst (λ (q : ℕ). Typed s q (d - 1)) behind (map-law .values) };
-        small = v .small;
-      }
+      pub child-map : ((d - 1) * 8 + 4 < m) × Pair t (c + 1) a (d - 1) b
+      child-map = (
+        falls 4 (omega arith),
+        record {
+          keys = child-keys;
+          values = record { table = h .stands .table; typed = subst (λ (q : ℕ). Typed s q (d - 1)) behind (map-law .values) };
+          small = h .small;
+        },
+      )
 
       pub map-whole : {r : ℕ} → r ≡ faultOf (ma (typeOf t (c + 1) (d - 1)) (typeOf t a (d - 1))) b → r ≡ faultOf (typeOf t c d) b
-      map-whole h = as-type _ _ b _ (subst (λ (q : ℕ). MapAt s p d (posOf t (c + 1)) q) behind map-law .whole) h
+      map-whole q = as-type _ _ b _ (subst (λ (q : ℕ). MapAt s p d (posOf t (c + 1)) q) behind map-law .whole) q
 
   -- a struct
-  module _ {k : ℕ} (ek : k ≡ placeIn w) (x : k ≡ 9 → ⊥) (y : k ≡ 10 → ⊥) {n : ℕ} (en : n ≡ countIn w) where
+  module _ (e : k ≡ 11) {n : ℕ} (en : n ≡ countIn w) where
     eleven : placeIn w ≡ 11
-    eleven = go (placeIn w) (λ q. x (ek ∙ q)) (λ q. y (ek ∙ q)) (v .holds) (v .entry .lined .few)
-      where
-        go : (i : ℕ) → (i ≡ 9 → ⊥) → (i ≡ 10 → ⊥) → 9 ≤ i → i < 12 → i ≡ 11
-        go i a b l h = omega arith
+    eleven = sym (h .kind) ∙ e
 
     struct-law : StructAt s p d (posOf t (c + 1)) n
     struct-law =
-        subst (λ (q : ℕ). StructAt s p d q n) (sym (v .entry .first eleven))
-        (place-ro s p d (v .stands .typed) (placeIn w) (v .entry .place) eleven n (en ∙ v .entry .count eleven))
+        subst (λ (q : ℕ). StructAt s p d q n) (sym (h .entry .first eleven))
+        (place-ro s p d (h .stands .typed) (placeIn w) (h .entry .place) eleven n (en ∙ h .entry .count eleven))
 
-    pub value-struct : Fields t (c + 1) n (d - 1) b
-    value-struct = record { table = v .stands .table; typed = struct-law .fields; high = struct-law .high; small = v .small }
+    struct-fields : Fields t (c + 1) n (d - 1) b
+    struct-fields = record { table = h .stands .table; typed = struct-law .fields; high = struct-law .high; small = h .small }
+
+    pub child-struct : ((d - 1) * 8 + 5 < m) × Fields t (c + 1) n (d - 1) b
+    child-struct = (falls 5 (omega arith), struct-fields)
 
     pub struct-whole : {r : ℕ} → r ≡ faultOf (ro (typesOf t (c + 1) (d - 1) n)) b → r ≡ faultOf (typeOf t c d) b
-    struct-whole h = as-type _ _ b _ (struct-law .whole) h
+    struct-whole q = as-type _ _ b _ (struct-law .whole) q
+
+  -- one that is worth a look
+  module _ {n : ℕ} (f : LeavesOr0 w n) (ne : n ≡ 0 → ⊥) where
+    pub child-plain : Fields t (c + 1) n (d - 1) b × (1 ≤ n) × (n < 64)
+    child-plain = (struct-fields (h .kind ∙ f ne .struct) (f ne .fields), some n ne, f ne .few)
+      where
+        some : (i : ℕ) → (i ≡ 0 → ⊥) → 1 ≤ i
+        some i z = omega arith
+
+    pub plain-whole : {x : Bool} → (x ≡ true → 0 ≡ faultOf (ro (typesOf t (c + 1) (d - 1) n)) b) → x ≡ true → {r : ℕ} → r ≡ 0
+        → r ≡ faultOf (typeOf t c d) b
+    plain-whole g e q = struct-whole (h .kind ∙ f ne .struct) (f ne .fields) (q ∙ g e)
 
 -- ---- the items of a list
 
@@ -138,6 +153,9 @@ module _ {t : List ℕ} {c d w : ℕ} {b : List ℕ} {n : ℕ} (i : Items t c d 
 
   kind : placeIn w ≡ place own
   kind = i .entry .place ∙ typed-place (schemaOf t) (posOf t c) d (i .stands .typed)
+
+  pub item-deep : 1 ≤ d
+  item-deep = omega (arith, typed-deep (schemaOf t) (posOf t c) d (i .stands .typed))
 
   pub item-eights : Eights own
   item-eights = container-eights own (placeIn w) (holding-of own (placeIn w) kind (i .holds))
@@ -153,8 +171,8 @@ module _ {t : List ℕ} {c d w : ℕ} {b : List ℕ} {n : ℕ} (i : Items t c d 
   }
 
   -- an item's bytes, handed to a call
-  pub item-part : {q : List ℕ} → length q ≤ 16384 → Container t c d w q
-  item-part l = record { stands = i .stands; entry = i .entry; holds = i .holds; small = l }
+  pub item-part : {k : ℕ} → k ≡ placeIn w → {m : ℕ} → d * 8 + 2 ≡ m → {q : List ℕ} → length q ≤ 16384 → Child t c d w k m q
+  item-part e r l = record { stands = i .stands; entry = i .entry; kind = e; holds = omega (arith, i .holds); small = l; rank = r }
 
   -- the positions of the loop over the items
   pub item-asks : n < 2 ^ 32

@@ -8,10 +8,10 @@ use lib.ListN.{length, replicate}
 use Rattle.words.specs.Bytes.{pad, bitmap, part}
 use Rattle.words.specs.Bits.{bit}
 use Rattle.schema.specs.Types.{Fixed, width, Ty, Tys, field}
-use Rattle.schema.specs.Walk.{typeAt, typesAt}
+use Rattle.schema.specs.Walk.{TypedAll, typeAt, typesAt}
 use Rattle.layout.specs.Layout.{Kid, inside, number, limit, kid, slotOf, codec}
-use Rattle.table.specs.Words.{Lined, placeIn}
-use Rattle.table.specs.Tables.{Stands, EntryAt, schemaOf, posOf}
+use Rattle.table.specs.Words.{Lined, placeIn, countIn}
+use Rattle.table.specs.Tables.{Table, Stands, EntryAt, schemaOf, posOf}
 use Rattle.standing.specs.Standing.{FirstUnfit, varies}
 use Rattle.checking.specs.Sound.{code, inChild, zerosThen}
 
@@ -81,14 +81,23 @@ pub record Holding (t : List ℕ) (c d : ℕ) (b : List ℕ) : Type 0 where
   pub stands : Stands t c d
   pub small : length b ≤ 16384
 
--- the type is a container, and w its entry
-pub record Container (t : List ℕ) (c d w : ℕ) (b : List ℕ) : Type 0 where
-  pub stands : Stands t c d
-  pub entry : EntryAt t c d w
-  pub holds : 9 ≤ placeIn w
+-- the types of a struct's n fields stand from a place on
+pub record Fields (t : List ℕ) (first n d : ℕ) (b : List ℕ) : Type 0 where
+  pub table : Table t
+  pub typed : TypedAll (schemaOf t) (posOf t first) d n
+  pub high : n ≤ 128
   pub small : length b ≤ 16384
 
--- the same for the elements of a list of n, whose slots and data lie in b
+-- n is the number of fields, fewer than 64, of a struct by its entry w; 0 says nothing
+pub record LeafFields (w n : ℕ) : Type 0 where
+  pub struct : placeIn w ≡ 11
+  pub fields : n ≡ countIn w
+  pub few : n < 64
+
+abbrev pub LeavesOr0 : ℕ → ℕ → Type 0
+LeavesOr0 w n = (n ≡ 0 → ⊥) → LeafFields w n
+
+-- the type is a container, w its entry, and the slots of a list of n such elements lie in b
 pub record Items (t : List ℕ) (c d w : ℕ) (b : List ℕ) (n : ℕ) : Type 0 where
   pub stands : Stands t c d
   pub entry : EntryAt t c d w

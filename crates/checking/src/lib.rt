@@ -1,5 +1,5 @@
-// Checking a row against the layout by its schema's table: a cycle over value, struct, list and map, with remaining depth falling along
-// the calls, and loops over the children. Each answers a number: 0 where there is no fault, 1 for one in the value's slot, i + 2 for one
+// Checking a row against the layout by its schema's table: a cycle over struct, list and map, with remaining depth falling along the
+// calls, and loops over the children. Each answers a number: 0 where there is no fault, 1 for one in the value's slot, i + 2 for one
 // at the value's byte i. The exact byte is looked for only where there is a fault. The size of a sound container is a multiple of 8: there
 // is no padding to look at behind it.
 //
@@ -18,7 +18,7 @@ ghost use Rattle.table.specs.Words.{placeIn};
 ghost use Rattle.table.specs.Tables.{Table, schemaOf};
 ghost use Rattle.standing.specs.Standing.{FieldsFrom};
 ghost use Rattle.checking.specs.Sound.{faultOf, inChild, faultFrom, checkedMeans};
-ghost use Rattle.checking.specs.Room.{FieldRoom, fieldGood, fieldThen, Holding, Container, Items, Pair};
+ghost use Rattle.checking.specs.Room.{FieldRoom, fieldGood, fieldThen, Holding, Fields, LeavesOr0, Items, Pair};
 ghost use Rattle.checking.specs.Room.{typeOf, typesOf, elements, Asked, Unfit, variesIn};
 
 pub mod lists;
@@ -90,32 +90,55 @@ fn fields_stand(
     stop
 }
 
-// Whether the n fields of a struct, whose types stand from a place on, are leaves without a fault, and their values stand in the order of
-// their slots: each type has the place after the one before it. A look that answers no says nothing.
-fn plain_fields(t: &[u64], first: usize, n: usize, depth: usize, b: &[u8]) -> bool
-    requires { ⌜ FieldsFrom (now t) first depth n (now b) ⌝ }
-    ensures { λ r. ⌜ (r ≡ true → 0 ≡ faultFrom 0 8 (kids (typesOf (now (t .entry)) first depth n)) (now (b .entry)) 0 []) ⌝ }
+// How many fields a struct has that has fewer than 64, all of them leaves: those are worth a look of their own. 0 for any other type.
+fn leaf_fields(c: usize, w: u64) -> usize
+    requires { ⌜ c < 1024 ⌝ }
+    ensures { λ r. ⌜ LeavesOr0 w r ⌝ }
 {
-    let slots = words::sizes::bitmap_size(n);
-    let mut slot = slots;
-    let mut cur = slots + 8 * n;
+    if table::place(w) != table::STRUCT {
+        return 0;
+    }
+    let n = table::count(w);
+    if 64 <= n {
+        return 0;
+    }
+    // a field that is no leaf would have descendants
+    if table::after(w) != c + 1 + n {
+        return 0;
+    }
+    n
+}
+
+// Whether a struct of n fields, fewer than 64, is without a fault, all its fields are leaves, and their values stand in the order of
+// their slots: most structs that a container holds do. A look that answers no says nothing.
+fn is_plain(t: &[u64], first: usize, n: usize, depth: usize, b: &[u8]) -> bool
+    requires { ⌜ Fields (now t) first n depth (now b) × (1 ≤ n) × (n < 64) ⌝ }
+    ensures { λ r. ⌜ (r ≡ true → 0 ≡ faultOf (ro (typesOf (now (t .entry)) first depth n)) (now (b .entry))) ⌝ }
+{
+    if b.len() < 8 + 8 * n {
+        return false;
+    }
+    let nulls = words::nums::get8(b, 0);
+    if nulls >> n != 0 {
+        return false;
+    }
+    let mut cur = 8 + 8 * n;
     let mut i: usize = 0;
     while i < n {
         let w = table::entry_at(t, first + i, depth);
         let k = table::place(w);
+        let slot = 8 + 8 * i;
         if k < table::STRING {
-            if !check_field(b, i, slot, w) {
+            if nulls >> i & 1 == 0 && words::nums::get8(b, slot) >> 1 >> table::top(w) != 0 {
                 return false;
             }
-            slot += 8;
             i += 1;
             continue;
         }
         if k >= table::LIST {
             return false;
         }
-        if words::nulls::is_null(b, 0, i) {
-            slot += 8;
+        if nulls >> i & 1 != 0 {
             i += 1;
             continue;
         }
@@ -131,55 +154,16 @@ fn plain_fields(t: &[u64], first: usize, n: usize, depth: usize, b: &[u8]) -> bo
             return false;
         }
         cur = next;
-        slot += 8;
         i += 1;
     }
     cur == b.len()
 }
 
-// Whether a container is a struct of leaves without a fault, whose values stand in the order of their slots: most that a container holds
-// are. A look that answers no says nothing.
-fn is_plain(t: &[u64], c: usize, depth: usize, w: u64, b: &[u8]) -> bool
-    requires { ⌜ Container (now t) c depth w (now b) ⌝ }
-    ensures { λ r. ⌜ (r ≡ true → faultOf (typeOf (now (t .entry)) c depth) (now (b .entry)) ≡ 0) ⌝ }
+// A struct of n fields, whose types stand from a place on: its size and bitmap, then the fields.
+fn check_struct(t: &[u64], first: usize, n: usize, depth: usize, b: &[u8]) -> usize
+    requires { ⌜ Fields (now t) first n depth (now b) ⌝ }
+    ensures { λ r. ⌜ r ≡ faultOf (ro (typesOf (now (t .entry)) first depth n)) (now (b .entry)) ⌝ }
 {
-    let k = table::place(w);
-    if k != table::STRUCT {
-        return false;
-    }
-    let n = table::count(w);
-    // a field that is no leaf would have descendants
-    if table::after(w) != c + 1 + n {
-        return false;
-    }
-    let slots = words::sizes::bitmap_size(n);
-    if b.len() % 8 != 0 {
-        return false;
-    }
-    if b.len() < slots + 8 * n {
-        return false;
-    }
-    if !words::nulls::past_clear(b, n, slots) {
-        return false;
-    }
-    plain_fields(t, c + 1, n, depth - 1, b)
-}
-
-// Bytes that should stand for contents of a container type, whose entry is w. Of a struct, which most are, the size and the bitmap, then
-// the fields.
-fn check_value(t: &[u64], c: usize, depth: usize, w: u64, b: &[u8]) -> usize
-    requires { ⌜ Container (now t) c depth w (now b) ⌝ }
-    ensures { λ r. ⌜ r ≡ faultOf (typeOf (now (t .entry)) c depth) (now (b .entry)) ⌝ }
-{
-    let d = depth - 1;
-    let k = table::place(w);
-    if k == table::LIST {
-        return check_list(t, c + 1, d, b);
-    }
-    if k == table::MAP {
-        return check_map(t, c + 1, table::after(table::entry_at(t, c + 1, d)), d, b);
-    }
-    let n = table::count(w);
     let slots = words::sizes::bitmap_size(n);
     if b.len() % 8 != 0 {
         return 1;
@@ -190,7 +174,7 @@ fn check_value(t: &[u64], c: usize, depth: usize, w: u64, b: &[u8]) -> usize
     if !words::nulls::past_clear(b, n, slots) {
         return words::finds::past_byte(b, n, slots) + 2;
     }
-    check_fields(t, c + 1, n, d, b)
+    check_fields(t, first, n, depth, b)
 }
 
 // A list of the type at a place: its size, header and bitmap, then its elements by their kind.
@@ -231,11 +215,15 @@ fn check_list(t: &[u64], c: usize, depth: usize, b: &[u8]) -> usize
     check_items(t, c, depth, w, b, n)
 }
 
-// Elements that are containers.
+// Elements that are containers. Their kind is asked here, as that of fields in `check_fields`: a function between would cost each of them
+// another call.
 fn check_items(t: &[u64], c: usize, depth: usize, w: u64, b: &[u8], n: usize) -> usize
     requires { ⌜ Items (now t) c depth w (now b) n ⌝ }
     ensures { λ r. ⌜ r ≡ faultFrom 8 8 (elements (typeOf (now (t .entry)) c depth) n) (now (b .entry)) 0 [] ⌝ }
 {
+    let d = depth - 1;
+    let k = table::place(w);
+    let m = leaf_fields(c, w);
     let slots = 8 + words::sizes::bitmap_size(n);
     let mut slot = slots;
     let mut cur = slots + 8 * n;
@@ -262,13 +250,22 @@ fn check_items(t: &[u64], c: usize, depth: usize, w: u64, b: &[u8], n: usize) ->
         if b.len() < next {
             return slot + 2;
         }
-        if is_plain(t, c, depth, w, &b[cur..end]) {
-            cur = next;
-            slot += 8;
-            i += 1;
-            continue;
-        }
-        let r = check_value(t, c, depth, w, &b[cur..end]);
+        let part = &b[cur..end];
+        let r = if m != 0 && is_plain(t, c + 1, m, d, part) {
+            0
+        } else if k == table::STRUCT {
+            check_struct(t, c + 1, table::count(w), d, part)
+        } else if k == table::LIST {
+            check_list(t, c + 1, d, part)
+        } else {
+            check_map(
+                t,
+                c + 1,
+                table::after(table::entry_at(t, c + 1, d)),
+                d,
+                part,
+            )
+        };
         if r != 0 {
             return in_child(r, slot, cur);
         }
@@ -375,14 +372,24 @@ fn check_fields(t: &[u64], first: usize, n: usize, depth: usize, b: &[u8]) -> us
             i += 1;
             continue;
         }
-        if is_plain(t, c, depth, w, &b[cur..end]) {
-            c = table::after(w);
-            cur = next;
-            slot += 8;
-            i += 1;
-            continue;
-        }
-        let r = check_value(t, c, depth, w, &b[cur..end]);
+        let d = depth - 1;
+        let m = leaf_fields(c, w);
+        let part = &b[cur..end];
+        let r = if m != 0 && is_plain(t, c + 1, m, d, part) {
+            0
+        } else if k == table::STRUCT {
+            check_struct(t, c + 1, table::count(w), d, part)
+        } else if k == table::LIST {
+            check_list(t, c + 1, d, part)
+        } else {
+            check_map(
+                t,
+                c + 1,
+                table::after(table::entry_at(t, c + 1, d)),
+                d,
+                part,
+            )
+        };
         if r != 0 {
             return in_child(r, slot, cur);
         }
@@ -406,7 +413,7 @@ pub fn check_row(t: &[u64], row: &[u8]) -> Checked
     requires { ⌜ Table (now t) × (length (now row) ≤ 16384) ⌝ }
     ensures { λ r. ⌜ checkedMeans r ≡ faultAt (ro (fieldsOf (schemaOf (now (t .entry))))) (now (row .entry)) ⌝ }
 {
-    let r = check_value(t, 0, 8, table::entry_at(t, 0, 8), row);
+    let r = check_struct(t, 1, table::count(table::entry_at(t, 0, 8)), 7, row);
     if r == 0 {
         return Checked::Sound;
     }

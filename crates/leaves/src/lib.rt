@@ -29,7 +29,7 @@ fn entry_of(x: Opened) -> u64
     ensures { λ r. ⌜ Says x r ⌝ }
 {
     if x.kind == table::LIST {
-        return table::TYPES[8] as u64;
+        return table::TYPES[table::LIST_LINE] as u64;
     }
     x.entry
 }

@@ -1,19 +1,21 @@
 -- The maps of taken units: what the loops over them do, and what their bits are then. Assumes nothing.
-use mathlib.Core.Path.{_≡_, refl, sym, _∙_, subst}
+use mathlib.Core.Path.{_≡_, refl, sym, ap, _∙_}
 use mathlib.Core.Bool.{Bool, true, false, cond}
 use mathlib.Core.List.{List}
 use Prim.Native.Nat.{ℕ, zero, suc, _+_, _-_, _/_, _%_, _^_, _≤_, _<_}
 use native.Mathlib.Decide.{decLt, ℕ-discrete}
 use native.Mathlib.Numerals.{add-one}
 use native.Mathlib.Omega.{arith}
-use lib.ListN.{length}
-use Rattle.words.specs.Bytes.{pad}
-use Rattle.words.specs.Bits.{bit, putBit}
+use lib.ListN.{length, getD, set}
+use lib.Bits.{bitOr}
+use Rattle.words.specs.Bytes.{Bytes, num, pad, part}
+use Rattle.words.specs.Bits.{bitOf, withBit, bit, putBit}
 use Rattle.words.specs.Reads.{Reads}
-use Rattle.words.proofs.BitLaws.{length-put}
+use Rattle.words.proofs.BitLaws.{or-bit, bit-with, with-same, length-put}
+use Rattle.words.proofs.NumLaws.{slot-high, slot-low}
 use Rattle.layout.specs.Tiles.{Range, ends}
 use Rattle.standing.specs.Maps.{both, clearFrom, marked, admits, taken, admitted, places, placed}
-use Rattle.standing.specs.Standing.{said, Placing, PlacingChild}
+use Rattle.standing.specs.Standing.{rangeAt, Placing, PlacingChild}
 use borrow.Author.Tests.{eq-eqb, ne-eqb, lt-ltb, le-ltb}
 use lib.Dec.{eqb, ltb}
 
@@ -77,77 +79,115 @@ module _ (m : List ℕ) (a b : ℕ) where
     unfolding admits admitted taken
     admit-full f g m₁ m₂ e h = (rw (ne-eqb a b ne, f, rw (add-one a) at g), rw (ne-eqb a b ne) (h ∙ rw (e, add-one a)))
 
-  -- one unit
-  module _ (one : a + 1 ≡ b) where
-    pub admit-unit-taken : bit m 0 a ≡ true → (false ≡ admits m a b) × (m ≡ admitted m a b false)
-    admit-unit-taken f = admit-taken (λ e. omega arith) (clear-set m 0 a b (omega arith) f)
+-- ---- one unit, by the byte that has its bit, and x the mask of that bit
 
-    pub admit-unit : bit m 0 a ≡ false → (m′ : List ℕ) → m′ ≡ putBit m 0 a true → (true ≡ admits m a b) × (m′ ≡ admitted m a b true)
-    admit-unit f m′ g =
-        let e = marked-step m 0 a b (omega arith) ∙ marked-end (putBit m 0 a true) 0 (a + 1) b (omega arith) in
-        admit-full (λ e. omega arith) (clear-step m 0 a b (omega arith) f ∙ clear-end m 0 (a + 1) b (omega arith)) (clear-end m 528 (a + 1) b (omega arith))
-        m′ m′ (g ∙ sym e) (sym (marked-end m′ 264 (a + 1) b (omega arith)))
+module _ (m : List ℕ) (a : ℕ) {x : ℕ} (is : x ≡ 2 ^ (a % 8)) where
+  abbrev old : ℕ
+  old = getD m (a / 8) 0
+
+  with-unit : bitOr old x ≡ withBit old (a % 8) true
+  with-unit = ap (bitOr old) is ∙ or-bit old (a % 8)
+
+  first-map : 0 + a / 8 ≡ a / 8
+  first-map = omega arith
+
+  pub unit-taken : bitOr old x ≡ old → (false ≡ admits m a (a + 1)) × (m ≡ admitted m a (a + 1) false)
+  unit-taken e =
+      let f : bit m 0 a ≡ true = rw (first-map, ← e, with-unit) (bit-with old (a % 8) true) in
+      admit-taken m a (a + 1) (λ e. omega arith) (clear-set m 0 a (a + 1) (omega arith) f)
+
+  pub unit-free : (bitOr old x ≡ old → ⊥) → (true ≡ admits m a (a + 1)) × (set m (a / 8) (bitOr old x) ≡ admitted m a (a + 1) true)
+  unit-free n =
+      let f : bit m 0 a ≡ false = rw first-map (go (bitOf old (a % 8)) refl) in
+      let g : set m (a / 8) (bitOr old x) ≡ putBit m 0 a true = rw (first-map, with-unit) in
+      let e = marked-step m 0 a (a + 1) (omega arith) ∙ marked-end (putBit m 0 a true) 0 (a + 1) (a + 1) (omega arith) in
+      admit-full m a (a + 1) (λ e. omega arith) (clear-step m 0 a (a + 1) (omega arith) f ∙ clear-end m 0 (a + 1) (a + 1) (omega arith))
+      (clear-end m 528 (a + 1) (a + 1) (omega arith)) _ _ (g ∙ sym e) (sym (marked-end _ 264 (a + 1) (a + 1) (omega arith)))
+    where
+      go : (v : Bool) → bitOf old (a % 8) ≡ v → bitOf old (a % 8) ≡ false
+      go false q = q
+      go true q = absurd (n (with-unit ∙ ap (withBit old (a % 8)) (sym q) ∙ with-same old (a % 8)))
 
 -- ---- the place of a value
 
-module _ {m : List ℕ} {start len : ℕ} {r : Range} {from : ℕ} (e : from ≡ r .start) where
-  pub place-low : from < start → Placing m start len r false m
-  unfolding places placed admitted
-  place-low h = record { is = rw (lt-ltb (r .start) start (omega arith)); maps = refl }
+pub place-low : {m : List ℕ} {start len : ℕ} {r : Range} {from : ℕ} → from ≡ r .start → from < start → Placing m start len r false m
+unfolding places placed admitted
+place-low {start = start} {r = r} e h = record { is = rw (lt-ltb (r .start) start (omega arith)); maps = refl }
 
-  pub place-odd : start ≤ from → (from % 8 ≡ 0 → ⊥) → Placing m start len r false m
-  unfolding places placed admitted
-  place-odd lo h = record {
-    is = rw (le-ltb (r .start) start (omega arith), ne-eqb (r .start % 8) 0 (λ z. h (omega arith)));
-    maps = refl;
-  }
-
--- it goes from from to next, and begins where it may
+-- it begins at from, at or behind start, and ends at next if from is a multiple of 8
 pub record Bounds (start : ℕ) (r : Range) (from next : ℕ) : Type 0 where
   pub from-is : from ≡ r .start
-  pub next-is : next ≡ ends r
+  pub next-is : from % 8 ≡ 0 → next ≡ ends r
   pub low : start ≤ from
-  pub even : from % 8 ≡ 0
 
 module _ {start : ℕ} {r : Range} {from next : ℕ} (d : Bounds start r from next) where
   first : start ≤ r .start
   first = omega (arith, d .from-is, d .low)
 
-  eight : r .start % 8 ≡ 0
-  eight = omega (arith, d .from-is, d .even)
+  eight : from % 8 ≡ 0 → r .start % 8 ≡ 0
+  eight e = omega (arith, d .from-is)
 
   module _ {m : List ℕ} {len : ℕ} where
-    pub place-long : len < next → Placing m start len r false m
+    pub place-odd : (from % 8 ≡ 0 → ⊥) → Placing m start len r false m
     unfolding places placed admitted
-    place-long h = record {
-      is = rw (le-ltb (r .start) start first, eq-eqb (r .start % 8) 0 eight, lt-ltb len (ends r) (omega (arith, d .next-is)));
+    place-odd h = record {
+      is = rw (le-ltb (r .start) start first, ne-eqb (r .start % 8) 0 (λ z. h (ap (λ (u : ℕ). u % 8) (d .from-is) ∙ z)));
       maps = refl;
     }
 
-    pub place-beside : next ≤ len → {v : Bool} {m′ : List ℕ}
-        → (v ≡ admits m (from / 8) (next / 8)) × (m′ ≡ admitted m (from / 8) (next / 8) v)
-        → Placing m start len r v m′
-    unfolding places placed
-    place-beside h a = record {
-      is = rw (le-ltb (r .start) start first, eq-eqb (r .start % 8) 0 eight, le-ltb len (ends r) (omega (arith, d .next-is)))
-          (rw (d .from-is, d .next-is) at (a .0));
-      maps = rw (d .from-is, d .next-is) at (a .1);
-    }
+    module _ (e : from % 8 ≡ 0) where
+      over : len < next → Placing m start len r false m
+      unfolding places placed admitted
+      over h = record {
+        is = rw (le-ltb (r .start) start first, eq-eqb (r .start % 8) 0 (eight e), lt-ltb len (ends r) (omega (arith, d .next-is e)));
+        maps = refl;
+      }
 
--- where the value of a slot that says x ends
-pub place-end : (x : ℕ) {o z y : ℕ} → z ≡ x % 2 ^ 32 → y ≡ pad z → o ≡ x / 2 ^ 32 → o + y ≡ ends (said x)
-place-end x ez ey eo = rw (eo, ey, ez)
+      pub place-beside : next ≤ len → {v : Bool} {m′ : List ℕ}
+          → (v ≡ admits m (from / 8) (next / 8)) × (m′ ≡ admitted m (from / 8) (next / 8) v)
+          → Placing m start len r v m′
+      unfolding places placed
+      place-beside h a = record {
+        is = rw (le-ltb (r .start) start first, eq-eqb (r .start % 8) 0 (eight e), le-ltb len (ends r) (omega (arith, d .next-is e)))
+            (rw (d .from-is, d .next-is e) at (a .0));
+        maps = rw (d .from-is, d .next-is e) at (a .1);
+      }
+
+      -- it takes one unit
+      pub place-unit : next ≡ from + 8 → next ≤ len → {v : Bool} {m′ : List ℕ}
+          → (v ≡ admits m (from / 8) (from / 8 + 1)) × (m′ ≡ admitted m (from / 8) (from / 8 + 1) v)
+          → Placing m start len r v m′
+      place-unit o h a = let z : from / 8 + 1 ≡ next / 8 = omega arith in place-beside h (rw z at a)
+
+    pub place-long : len < next → Placing m start len r false m
+    place-long h = go (ℕ-discrete (from % 8) 0)
+      where
+        go : Dec (from % 8 ≡ 0) → Placing m start len r false m
+        go (yes e) = over e h
+        go (no n) = place-odd n
+
+-- where the value of a slot begins and ends
+module _ {b : List ℕ} (slot : ℕ) {from : ℕ} (bytes : Bytes b) (room : slot + 8 ≤ length b) (f : Reads b (slot + 4) 4 from) where
+  pub slot-from : from ≡ rangeAt b slot .start
+  slot-from = f .is ∙ sym (slot-high slot bytes room)
+
+  pub slot-bounds : {start size next : ℕ} → Reads b slot 4 size → next ≡ pad (from + size) → start ≤ from → Bounds start (rangeAt b slot) from next
+  slot-bounds {size = size} z e l =
+      let n : size ≡ num (part b slot 8) % 2 ^ 32 = z .is ∙ sym (slot-low slot bytes room) in
+      record {
+        from-is = slot-from;
+        next-is = λ q. let p : pad (from + size) ≡ from + pad size = omega arith in e ∙ p ∙ rw (slot-from, n);
+        low = l;
+      }
 
 -- a child that is null, and one that is there
 pub child-null : {m b : List ℕ} {h i slot start : ℕ} → bit b h i ≡ true → PlacingChild m b h i slot start true m
 child-null e = record { null = λ z. (refl, refl); there = λ z. absurd (clash (sym e ∙ z)) }
 
-pub child-there : {m b : List ℕ} {h i slot start x : ℕ} {v : Bool} {m′ : List ℕ} → bit b h i ≡ false → Reads b slot 8 x
-    → Placing m start (length b) (said x) v m′ → PlacingChild m b h i slot start v m′
-child-there {m} {b} {start = start} {v = v} {m′ = m′} e r p = record {
-  null = λ z. absurd (clash (sym z ∙ e));
-  there = λ z. subst (λ (y : ℕ). Placing m start (length b) (said y) v m′) (r .is) p;
-}
+pub child-there : {m b : List ℕ} {h i slot start : ℕ} {v : Bool} {m′ : List ℕ} → bit b h i ≡ false
+    → Placing m start (length b) (rangeAt b slot) v m′
+    → PlacingChild m b h i slot start v m′
+child-there e p = record { null = λ z. absurd (clash (sym z ∙ e)); there = λ z. p }
 
 -- what an answer says
 pub record Beside (m : List ℕ) (start len : ℕ) (r : Range) : Type 0 where

@@ -5,7 +5,7 @@ ghost use mathlib.Core.Path.{_≡_};
 ghost use Prim.Native.Nat.{_+_, _-_, _/_, _≤_, _<_};
 ghost use lib.ListN.{length};
 ghost use Rattle.standing.specs.Maps.{clearFrom, marked, admits, admitted};
-ghost use Rattle.standing.specs.Standing.{said, Placing, PlacingChild};
+ghost use Rattle.standing.specs.Standing.{PlacingChild};
 
 // No bit from a up to b is set.
 fn clear(m: &[u8], at: usize, a: usize, b: usize) -> bool
@@ -34,6 +34,20 @@ fn mark(m: &mut [u8], at: usize, a: usize, b: usize)
     }
 }
 
+// Unit a is taken if nothing took it before.
+fn take(m: &mut [u8], a: usize) -> bool
+    requires { ⌜ (a < 2048) × (length (now m) ≡ 792) ⌝ }
+    ensures { λ r. ⌜ (r ≡ admits (now (m .entry)) a (a + 1)) × (now (m .exit) ≡ admitted (now (m .entry)) a (a + 1) r) ⌝ }
+{
+    let old = m[a >> 3];
+    let new = old | words::nulls::mask(a);
+    if new == old {
+        return false;
+    }
+    m[a >> 3] = new;
+    true
+}
+
 // A value that takes the units from a up to b stands apart from those that were admitted, and is then admitted too.
 fn admit(m: &mut [u8], a: usize, b: usize) -> bool
     requires { ⌜ (a ≤ b) × (b ≤ 2048) × (length (now m) ≡ 792) ⌝ }
@@ -44,14 +58,6 @@ fn admit(m: &mut [u8], a: usize, b: usize) -> bool
             return false;
         }
         words::nulls::set_null(m, 528, a);
-        return true;
-    }
-    // Most values take one unit, and nothing can stand inside one.
-    if a + 1 == b {
-        if words::nulls::is_null(m, 0, a) {
-            return false;
-        }
-        words::nulls::set_null(m, 0, a);
         return true;
     }
     if !clear(m, 0, a, b) {
@@ -65,26 +71,6 @@ fn admit(m: &mut [u8], a: usize, b: usize) -> bool
     true
 }
 
-// The value of a slot that says x may stand in a container of `len` bytes with the variable data from `start` on: alone, and beside those
-// that were placed before.
-fn place(m: &mut [u8], start: usize, len: usize, x: u64) -> bool
-    requires { ⌜ (len ≤ 16384) × (length (now m) ≡ 792) ⌝ }
-    ensures { λ r. ⌜ Placing (now (m .entry)) start len (said x) r (now (m .exit)) ⌝ }
-{
-    let from = words::slots::slot_offset(x) as usize;
-    if from < start {
-        return false;
-    }
-    if from & 7 != 0 {
-        return false;
-    }
-    let next = from + words::sizes::pad_size(words::slots::slot_size(x) as usize);
-    if len < next {
-        return false;
-    }
-    admit(m, from >> 3, next >> 3)
-}
-
 // Child i of b, whose slot stands at `slot` and whose null bit behind a header of h bytes, may stand beside those that were placed before:
 // a null has no value.
 pub fn place_child(m: &mut [u8], b: &[u8], h: usize, i: usize, slot: usize, start: usize) -> bool
@@ -94,5 +80,20 @@ pub fn place_child(m: &mut [u8], b: &[u8], h: usize, i: usize, slot: usize, star
     if words::nulls::is_null(b, h, i) {
         return true;
     }
-    place(m, start, b.len(), words::nums::get8(b, slot))
+    let from = words::nums::get4(b, slot + 4);
+    if from < start {
+        return false;
+    }
+    let next = words::sizes::pad_size(from + words::nums::get4(b, slot));
+    if b.len() < next {
+        return false;
+    }
+    if from & 7 != 0 {
+        return false;
+    }
+    // Most values take one unit, and nothing can stand inside one.
+    if next == from + 8 {
+        return take(m, from >> 3);
+    }
+    admit(m, from >> 3, next >> 3)
 }

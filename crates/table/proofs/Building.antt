@@ -7,7 +7,7 @@ use Prim.Native.Nat.{ℕ, _+_, _*_, _-_, _/_, _%_, _<_, _≤_}
 use native.Mathlib.Decide.{decLt}
 use native.Mathlib.Omega.{arith}
 use lib.Dec.{leb}
-use borrow.Author.Tests.{lt-ltb, le-ltb, eq-eqb, ne-eqb, leb-false}
+use borrow.Author.Tests.{eq-eqb, ne-eqb, leb-false}
 use lib.ListN.{length, getD, set, length-set}
 use mir.Val.{Fits}
 use mir.Syntax.{w64}
@@ -18,9 +18,10 @@ use Rattle.schema.specs.declared.Judged.{Judged}
 use Rattle.schema.specs.declared.Judged.the-variants.{Accepted, Refused}
 use Rattle.schema.proofs.Marked.{fixed-placed, text-placed}
 use Rattle.schema.proofs.Search.{placed-out, kind-past, kind-short, kind-two}
-use Rattle.table.specs.Words.{lower, lineWord, word, lineAt, heldAt}
+use Rattle.table.specs.Words.{lower, lineWord, word, MarkAt, lineFor, heldAt}
 use Rattle.table.specs.Tables.{Built, BuiltAt}
-use Rattle.table.proofs.Decode.{below, lower-small}
+use Rattle.table.proofs.Decode.{lower-small}
+use Rattle.table.proofs.Lines.{line-is, line-marked, line-known}
 use Rattle.table.proofs.Filling.{Filled, nothing, filled, fill, patch, Stand, fill-none, fill-fixed, fill-text, fill-few, fill-stop}
 use Rattle.table.proofs.Running.{run, run-none, run-on, run-end, run-pop}
 
@@ -55,11 +56,12 @@ pub record Looking (s T F : List ℕ) (d at i n base : ℕ) : Type 0 where
   pub going : Going s T F d at i n base
   pub left : 0 < n
 
--- two bytes of it are there, and w is the line that they lead to, or 0
-pub record Scanned (s T F : List ℕ) (d at i n base w : ℕ) : Type 0 where
+-- two bytes of it are there, numbered m, and w is the line that they lead to
+pub record Scanned (s T F : List ℕ) (d at i n base m w : ℕ) : Type 0 where
   pub looking : Looking s T F d at i n base
   pub room : at + 2 ≤ length s
-  pub line : w ≡ lineAt (getD s at 0) (getD s (at + 1) 0)
+  pub mark : MarkAt s at m
+  pub line : w ≡ lineFor m
 
 -- its mark is that of the line w, of kind k
 pub record Marked (s T F : List ℕ) (d at i n base w k : ℕ) : Type 0 where
@@ -86,29 +88,22 @@ refused e = record { accepted = λ f. absurd (neither f e); refused = λ _. refl
 
 -- ---- the line of a mark
 
-module _ (s : List ℕ) (at w : ℕ) (r : at + 2 ≤ length s) (e : w ≡ lineAt (getD s at 0) (getD s (at + 1) 0)) where
-  pub line-some : (w ≡ 0 → ⊥) → Line s at w (w / 268435456)
-  unfolding lineAt placeAt lineWord
-  line-some n = go (decLt (placeAt s at) 12)
-    where
-      at-place : Line s at w (placeAt s at) → Line s at w (w / 268435456)
-      at-place y = subst (Line s at w) (sym (y .place)) y
+module _ {s : List ℕ} {at m w : ℕ} (r : at + 2 ≤ length s) (q : MarkAt s at m) (e : w ≡ lineFor m) where
+  pub line-some : w % 65536 ≡ m → Line s at w (w / 268435456)
+  unfolding placeAt lineWord
+  line-some n =
+      let h = line-known q (ap (λ (u : ℕ). u % 65536) (sym e) ∙ n) in
+      let f : w ≡ lower (placeAt s at) + placeAt s at * 268435456 = e ∙ line-is q h in
+      let b = lower-small (placeAt s at) h in
+      let k : w / 268435456 ≡ placeAt s at = omega arith in
+      subst (Line s at w) (sym k) (record { known = h; is = f; kind = kind-two s at (omega arith); place = k; small = omega arith })
 
-      go : Dec (placeAt s at < 12) → Line s at w (w / 268435456)
-      go (yes h) =
-          let q : w ≡ lower (placeAt s at) + placeAt s at * 268435456 = e ∙ rw (lt-ltb (placeAt s at) 12 h) in
-          let b = lower-small (placeAt s at) h in
-          at-place (record { known = h; is = q; kind = kind-two s at (omega arith); place = omega arith; small = omega arith })
-      go (no h) = absurd (n (e ∙ rw (le-ltb (placeAt s at) 12 (omega arith))))
-
-  pub line-none : w ≡ 0 → kindAt s at ≡ noKind
-  unfolding lineAt placeAt lineWord
-  line-none z = go (decLt (placeAt s at) 12)
+  pub line-none : (w % 65536 ≡ m → ⊥) → kindAt s at ≡ noKind
+  unfolding placeAt
+  line-none n = go (decLt (placeAt s at) 12)
     where
       go : Dec (placeAt s at < 12) → kindAt s at ≡ noKind
-      go (yes h) =
-          let q : w ≡ lower (placeAt s at) + placeAt s at * 268435456 = e ∙ rw (lt-ltb (placeAt s at) 12 h) in
-          absurd (omega (arith, below (placeAt s at) h .some))
+      go (yes h) = absurd (n (ap (λ (u : ℕ). u % 65536) e ∙ line-marked q h))
       go (no h) = kind-two s at (omega arith) ∙ placed-out (placeAt s at) (omega arith)
 
 -- what a struct's byte says where it is refused
@@ -150,9 +145,6 @@ module _ {s T F : List ℕ} {d at i n base : ℕ} (l : Looking s T F d at i n ba
   pub mark-end : Fits w64 (at + 2)
   mark-end = omega arith
 
-  pub mark-next : Fits w64 (at + 1)
-  mark-next = omega arith
-
   pub stand : Stand s T at i (7 - d) (d + 2)
   stand = record {
     short = l .going .short;
@@ -173,19 +165,12 @@ module _ {s T F : List ℕ} {d at i n base : ℕ} (l : Looking s T F d at i n ba
       go (yes p) = kind-short s at p (omega arith)
       go (no p) = kind-past s at (omega arith)
 
-  module _ (r : at + 2 ≤ length s) where
-    pub mark-first : at < length s
-    mark-first = omega arith
+module _ {s T F : List ℕ} {d at i n base m w : ℕ} (x : Scanned s T F d at i n base m w) where
+  pub unmarked : (w % 65536 ≡ m → ⊥) → {U : List ℕ} → Built s 0 U
+  unmarked z = nothing-there (x .looking) (line-none (x .room) (x .mark) (x .line) z)
 
-    pub mark-second : at + 1 < length s
-    mark-second = omega arith
-
-module _ {s T F : List ℕ} {d at i n base w : ℕ} (x : Scanned s T F d at i n base w) where
-  pub unmarked : w ≡ 0 → {U : List ℕ} → Built s 0 U
-  unmarked z = nothing-there (x .looking) (line-none s at w (x .room) (x .line) z)
-
-  pub is-marked : (w ≡ 0 → ⊥) → Marked s T F d at i n base w (w / 268435456)
-  is-marked z = record { looking = x .looking; room = x .room; line = line-some s at w (x .room) (x .line) z }
+  pub is-marked : w % 65536 ≡ m → Marked s T F d at i n base w (w / 268435456)
+  is-marked z = record { looking = x .looking; room = x .room; line = line-some (x .room) (x .mark) (x .line) z }
 
 -- ---- a type that has a mark
 

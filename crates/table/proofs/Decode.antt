@@ -1,7 +1,7 @@
 -- What an entry says is what was put into it. Assumes nothing.
 use mathlib.Core.Path.{_≡_, refl, ap, sym, _∙_}
 use mathlib.Core.List.{[], _∷_, _++_}
-use Prim.Native.Nat.{ℕ, _+_, _*_, _-_, _/_, _%_, _≤_, _<_}
+use Prim.Native.Nat.{ℕ, _+_, _*_, _/_, _%_, _≤_, _<_}
 use native.Mathlib.Omega.{arith}
 use borrow.Author.Tests.{eq-eqb, ne-eqb, lt-ltb, le-ltb}
 use Rattle.words.specs.Bytes.{num}
@@ -11,7 +11,6 @@ use Rattle.table.specs.Words.{topBit, lower, lineWord, word, markIn, top
 
 -- a line's word below its kind
 pub record Below (k : ℕ) : Type 0 where
-  pub some : 0 < lower k
   pub small : lower k < 67108864
   pub first : lower k % 256 ≡ line k .first
   pub second : lower k / 256 % 256 ≡ line k .second
@@ -22,10 +21,8 @@ pub record Below (k : ℕ) : Type 0 where
 pub below : (k : ℕ) → k < 12 → Below k
 unfolding lower types markAt num
 below k h =
-    let some : 1 - lower k ≡ 0 = agree (λ k. 1 - lower k) (λ k. 0) 12 refl k h in
     let small : lower k / 67108864 ≡ 0 = agree (λ k. lower k / 67108864) (λ k. 0) 12 refl k h in
     record {
-      some = omega arith;
       small = omega arith;
       first = agree (λ k. lower k % 256) (λ k. line k .first) 12 refl k h;
       second = agree (λ k. lower k / 256 % 256) (λ k. line k .second) 12 refl k h;

@@ -5,29 +5,28 @@ use mathlib.Core.Bool.{Bool, true, false, cond}
 use mathlib.Core.List.{List}
 use Prim.Native.Nat.{ℕ, _+_, _*_, _-_, _/_, _%_, _≤_, _<_}
 use native.Mathlib.Omega.{arith}
-use native.Mathlib.Decide.{decLt}
 use lib.Dec.{eqb, ltb, leb}
 use lib.ListN.{length, getD, List·getD-eq-default}
-use borrow.Author.Tests.{ltb-true, eq-eqb, ne-eqb, lt-ltb, le-ltb, le-leb, lt-leb, leb-true}
+use borrow.Author.Tests.{ltb-true, eq-eqb, ne-eqb, le-leb, lt-leb, leb-true}
 use Rattle.schema.specs.Marks.{types, line}
-use Rattle.schema.specs.Kinds.{find, placeOf}
+use Rattle.schema.specs.Kinds.{find, placeOf, placeAt}
 use Rattle.schema.proofs.Table.{agree}
 use Rattle.schema.proofs.Search.{place-marks}
-use Rattle.table.specs.Words.{lower, lineWord, lineAt, linesOf, heldAt, behindAt}
-
-abbrev hash : ℕ → ℕ
-hash m = m * 109 / 1024 % 16
+use Rattle.table.specs.Words.{lower, lineWord, MarkAt, lineFor, linesOf, heldAt, behindAt}
 
 -- computed for each line: its mark leads to its word, which has that mark
-own : (k : ℕ) → k < 12 → getD linesOf (hash (line k .first + 256 * line k .second)) 0 ≡ lineWord k
-unfolding linesOf lineWord lower types
-own = agree (λ k. getD linesOf (hash (line k .first + 256 * line k .second)) 0) lineWord 12 refl
+own : (k : ℕ) → k < 12 → lineFor (line k .first + 256 * line k .second) ≡ lineWord k
+unfolding lineFor linesOf lineWord lower types
+own = agree (λ k. lineFor (line k .first + 256 * line k .second)) lineWord 12 refl
 
 own-mark : (k : ℕ) → k < 12 → lineWord k % 65536 ≡ line k .first + 256 * line k .second
 unfolding lineWord lower types
 own-mark = agree (λ k. lineWord k % 65536) (λ k. line k .first + 256 * line k .second) 12 refl
 
 -- and each word that stands where its own mark leads has a mark of the table
+abbrev hash : ℕ → ℕ
+hash m = m * 109 / 1024 % 16
+
 abbrev v : ℕ → ℕ
 v h = getD linesOf h 0 % 65536
 
@@ -38,49 +37,38 @@ has-mark = agree (λ h. cond (eqb (hash (v h)) h) (ltb (placeOf (v h % 256) (v h
 known : (h : ℕ) → h < 16 → hash (v h) ≡ h → placeOf (v h % 256) (v h / 256) < 12
 known h l e = ltb-true (placeOf (v h % 256) (v h / 256)) 12 (rw (eq-eqb (hash (v h)) h e) at (has-mark h l))
 
--- the mark numbered m is a b, and w the word to which it leads
-pub record Led (a b m w : ℕ) : Type 0 where
-  pub number : m ≡ a + 256 * b
-  pub one : a < 256
-  pub two : b < 256
-  pub leads : w ≡ getD linesOf (m * 109 / 1024 % 16) 0
+module _ {s : List ℕ} {at m : ℕ} (q : MarkAt s at m) where
+  pub mark-small : m < 65536
+  mark-small = omega arith
 
-pub led : {a b x y w : ℕ} {l : List ℕ} → (x ≡ a) × (x < 256) → (y ≡ b) × (y < 256) → l ≡ linesOf
-    → w ≡ getD l ((x + 256 * y) * 109 / 1024 % 16) 0 → Led a b (x + 256 * y) w
-led {a} {b} {x} {y} p q e f = record {
-  number = omega (arith, p .0, q .0);
-  one = omega (arith, p .0, p .1);
-  two = omega (arith, q .0, q .1);
-  leads = f ∙ ap (λ (l : List ℕ). getD l ((x + 256 * y) * 109 / 1024 % 16) 0) e;
-}
+  -- the line of a mark of the table
+  pub line-is : placeAt s at < 12 → lineFor m ≡ lineWord (placeAt s at)
+  unfolding placeAt
+  line-is h =
+      let p = place-marks (getD s at 0) (getD s (at + 1) 0) h in
+      let n : line (placeAt s at) .first + 256 * line (placeAt s at) .second ≡ m = rw (p .first, p .second) (sym (q .number)) in
+      sym (ap lineFor n) ∙ own (placeAt s at) h
 
-module _ {a b m w : ℕ} (l : Led a b m w) where
-  word-is : placeOf a b < 12 → w ≡ lineWord (placeOf a b)
-  word-is h =
-      let q = place-marks a b h in
-      let n : line (placeOf a b) .first + 256 * line (placeOf a b) .second ≡ m = rw (q .first, q .second) (sym (l .number)) in
-      l .leads ∙ sym (ap (λ (u : ℕ). getD linesOf (hash u) 0) n) ∙ own (placeOf a b) h
+  pub line-marked : placeAt s at < 12 → lineFor m % 65536 ≡ m
+  unfolding placeAt
+  line-marked h =
+      let p = place-marks (getD s at 0) (getD s (at + 1) 0) h in
+      ap (λ (u : ℕ). u % 65536) (line-is h) ∙ own-mark (placeAt s at) h ∙ rw (p .first, p .second) (sym (q .number))
 
-  pub line-is : w % 65536 ≡ m → w ≡ lineAt a b
-  unfolding lineAt
-  line-is q =
-      let s : v (hash m) ≡ m = ap (λ (u : ℕ). u % 65536) (sym (l .leads)) ∙ q in
+  -- and where the line has the mark, it is one of the table
+  pub line-known : lineFor m % 65536 ≡ m → placeAt s at < 12
+  unfolding placeAt lineFor
+  line-known e =
       let p : placeOf (m % 256) (m / 256) < 12 =
-      subst (λ (u : ℕ). placeOf (u % 256) (u / 256) < 12) s (known (hash m) (omega arith) (ap hash s)) in
-      let x : m % 256 ≡ a = omega arith in
-      let y : m / 256 ≡ b = omega arith in
-      let r : placeOf a b < 12 = rw (← x, ← y) p in
-      word-is r ∙ rw (lt-ltb (placeOf a b) 12 r)
+      subst (λ (u : ℕ). placeOf (u % 256) (u / 256) < 12) e (known (hash m) (omega arith) (ap hash e)) in
+      let x : m % 256 ≡ getD s at 0 = omega arith in
+      let y : m / 256 ≡ getD s (at + 1) 0 = omega arith in
+      rw (← x, ← y) p
 
-  pub line-not : (w % 65536 ≡ m → ⊥) → 0 ≡ lineAt a b
-  unfolding lineAt
-  line-not n = go (decLt (placeOf a b) 12)
-    where
-      go : Dec (placeOf a b < 12) → 0 ≡ cond (ltb (placeOf a b) 12) (lineWord (placeOf a b)) 0
-      go (yes h) =
-          let q = place-marks a b h in
-          absurd (n (ap (λ (u : ℕ). u % 65536) (word-is h) ∙ own-mark (placeOf a b) h ∙ rw (q .first, q .second) (sym (l .number))))
-      go (no h) = rw (le-ltb (placeOf a b) 12 (omega arith))
+-- the code's table is that of the specification, so what stands there is too
+pub line-in : (m : ℕ) {l : List ℕ} {w : ℕ} → l ≡ linesOf → w ≡ getD l (m * 109 / 1024 % 16) 0 → w ≡ lineFor m
+unfolding lineFor
+line-in m e f = f ∙ ap (λ (l : List ℕ). getD l (hash m) 0) e
 
 -- ---- what a container holds
 

@@ -2,8 +2,8 @@
 use mathlib.Core.Path.{_≡_, refl, ap, sym, _∙_, subst}
 use mathlib.Core.Bool.{Bool, true, false, cond}
 use mathlib.Core.List.{List, [], _∷_, _++_}
-use Prim.Native.Nat.{ℕ, _+_, _*_, _-_, _/_, _<_, _≤_}
-use native.Mathlib.Decide.{decLt}
+use Prim.Native.Nat.{ℕ, _+_, _*_, _-_, _/_, _%_, _<_, _≤_}
+use native.Mathlib.Decide.{ℕ-discrete}
 use native.Mathlib.Omega.{arith}
 use lib.Dec.{leb}
 use borrow.Author.Tests.{le-leb, leb-true, leb-false}
@@ -23,7 +23,7 @@ use Rattle.schema.proofs.Parse.{SoundAll, sound, all-sound}
 use Rattle.schema.proofs.Laws.{Left, left, step-ro, step-few, step-many, size-ro}
 use Rattle.schema.proofs.Judging.{judged-long, judged-other, judged-none, judged-beyond, judged-whole, accepted-root}
 use Rattle.schema.proofs.Marked.{placeOfKind, place-kind}
-use Rattle.table.specs.Words.{lower, lineWord, word, lineAt, heldAt}
+use Rattle.table.specs.Words.{lower, lineWord, word, MarkAt, lineFor, linesOf, heldAt}
 use Rattle.table.specs.Tables.{many, manys, entries, entriesAll, tableOf, Built}
 use Rattle.table.proofs.Decode.{word-after}
 use Rattle.table.proofs.Spots.{entries-many}
@@ -32,22 +32,26 @@ use Rattle.table.proofs.Filling.{ro-many, nothing, filled, onward, fill
 use Rattle.table.proofs.Running.{cont, run}
 use Rattle.table.proofs.Building.{Ends, Line, Looking, built, refused, line-some, line-none}
 
--- the schema is neither too long nor too short, and w is the line of its first mark
-pub record Headed (s T : List ℕ) (w : ℕ) : Type 0 where
+-- the schema is neither too long nor too short, and m is the number of its first mark
+pub record Headed (s T : List ℕ) (m : ℕ) : Type 0 where
   pub short : length s ≤ 1024
   pub three : 3 ≤ length s
   pub roomy : length s ≤ 2 * length T
-  pub line : w ≡ lineAt (getD s 0 0) (getD s 1 0)
+  pub mark : MarkAt s 0 m
 
 -- that is a struct's, and c is the number of its fields, or 0
-pub record Rooted (s T : List ℕ) (w c : ℕ) : Type 0 where
-  pub headed : Headed s T w
-  pub struct : w ≡ 2952818546
+pub record Rooted (s T : List ℕ) (m c : ℕ) : Type 0 where
+  pub headed : Headed s T m
+  pub struct : m ≡ 28530
   pub held : c ≡ heldAt s 2 11
 
-line-eleven : lineWord 11 ≡ 2952818546
+line-eleven : lineWord 11 % 65536 ≡ 28530
 unfolding lineWord lower types
 line-eleven = refl
+
+line-root : lineFor 28530 ≡ 2952818546
+unfolding lineFor linesOf
+line-root = refl
 
 pub refuse-long : {s U : List ℕ} → 1024 < length s → Built s 0 U
 refuse-long {s} l = refused (judged-long s l)
@@ -132,21 +136,21 @@ module _ {s T : List ℕ} {c : ℕ} {ts : Tys} {r : List ℕ} (f : Read s T c ts
 neither : {k : Kind} → k ≡ noKind → k ≡ structKind → ⊥
 neither e f = let z : _≡_ {A = ℕ} 0 1 = cc in omega arith
 
-pub start-other : {s T : List ℕ} {w : ℕ} → Headed s T w → (w ≡ 2952818546 → ⊥) → {U : List ℕ} → Built s 0 U
-start-other {s} {T} {w} h n = refused (judged-other s (h .short) (go (decLt 0 w)))
+pub start-other : {s T : List ℕ} {m : ℕ} → Headed s T m → (m ≡ 28530 → ⊥) → {U : List ℕ} → Built s 0 U
+start-other {s} {T} {m} h n = refused (judged-other s (h .short) (go (ℕ-discrete (lineFor m % 65536) m)))
   where
-    eleven : {k : ℕ} → Line s 0 w k → kindAt s 0 ≡ structKind → k ≡ 11
-    eleven {k} y e = sym (place-kind k (y .known)) ∙ ap placeOfKind (sym (y .kind) ∙ e)
+    eleven : {w k : ℕ} → Line s 0 w k → kindAt s 0 ≡ structKind → k ≡ 11
+    eleven {w} {k} y e = sym (place-kind k (y .known)) ∙ ap placeOfKind (sym (y .kind) ∙ e)
 
-    other : {k : ℕ} → Line s 0 w k → kindAt s 0 ≡ structKind → ⊥
-    other y e = n (y .is ∙ ap lineWord (eleven y e) ∙ line-eleven)
+    other : {k : ℕ} → lineFor m % 65536 ≡ m → Line s 0 (lineFor m) k → kindAt s 0 ≡ structKind → ⊥
+    other q y e = n (sym q ∙ ap (λ (u : ℕ). u % 65536) (y .is ∙ ap lineWord (eleven y e)) ∙ line-eleven)
 
-    go : Dec (0 < w) → kindAt s 0 ≡ structKind → ⊥
-    go (no z) = neither (line-none s 0 w (omega (arith, h .three)) (h .line) (omega arith))
-    go (yes z) = other (line-some s 0 w (omega (arith, h .three)) (h .line) (λ q. absurd (omega arith)))
+    go : Dec (lineFor m % 65536 ≡ m) → kindAt s 0 ≡ structKind → ⊥
+    go (no z) = neither (line-none (omega (arith, h .three)) (h .mark) refl z)
+    go (yes z) = other z (line-some (omega (arith, h .three)) (h .mark) refl z)
 
-module _ {s T : List ℕ} {w c : ℕ} (r : Rooted s T w c) where
-  abbrev h : Headed s T w
+module _ {s T : List ℕ} {m c : ℕ} (r : Rooted s T m c) where
+  abbrev h : Headed s T m
   h = r .headed
 
   abbrev byte : ℕ
@@ -155,9 +159,8 @@ module _ {s T : List ℕ} {w c : ℕ} (r : Rooted s T w c) where
   pub root-kind : kindAt s 0 ≡ structKind
   unfolding placed types kindOf
   root-kind =
-      let y : Line s 0 w (w / 268435456) = line-some s 0 w (omega (arith, h .three)) (h .line) (λ q. absurd (omega (arith, r .struct))) in
-      let e : w / 268435456 ≡ 11 = omega (arith, r .struct) in
-      y .kind ∙ ap placed e
+      let e : 2952818546 ≡ lineFor m = sym (ap lineFor (r .struct) ∙ line-root) in
+      line-some (omega (arith, h .three)) (h .mark) e (omega (arith, r .struct)) .kind
 
   pub start-shut : c ≡ 0 → {U : List ℕ} → Built s 0 U
   unfolding heldAt

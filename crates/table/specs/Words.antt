@@ -1,13 +1,12 @@
 -- An entry of a schema's table: one word of 64 bits. Assumes nothing: these are definitions.
 use mathlib.Core.Path.{_≡_}
-use mathlib.Core.List.{List, [], _∷_, _++_}
+use mathlib.Core.List.{List, [], _∷_}
 use mathlib.Core.Bool.{cond}
 use Prim.Native.Nat.{ℕ, _+_, _*_, _-_, _/_, _%_, _<_}
-use lib.Dec.{eqb, ltb, leb}
+use lib.Dec.{eqb, leb}
 use lib.ListN.{getD}
 use Rattle.words.specs.Bytes.{num}
 use Rattle.schema.specs.Marks.{line, markAt}
-use Rattle.schema.specs.Kinds.{placeOf}
 
 -- the highest bit of a fixed-width type's contents in a slot, by its place in the table of types; 0 where they vary
 abbrev pub topBit : ℕ → ℕ
@@ -62,15 +61,21 @@ pub record Lined (w : ℕ) : Type 0 where
 unfoldable pub bytesIn : ℕ → List ℕ
 bytesIn w = w % 256 ∷ w / 256 % 256 ∷ cond (eqb (placeIn w) 11) (countIn w ∷ []) []
 
--- the line of the mark a b as a word, or 0 where it is none
-unfoldable pub lineAt : ℕ → ℕ → ℕ
-lineAt a b = cond (ltb (placeOf a b) 12) (lineWord (placeOf a b)) 0
-
 -- the constant table in the code, by its marks
 unfoldable pub linesOf : List ℕ
 linesOf =
     1648310374 ∷ 1111439465 ∷ 273101161 ∷ 1360999526 ∷ 824128617 ∷ 1879078003 ∷ 0 ∷ 2147510626
     ∷ 2415946092 ∷ 0 ∷ 0 ∷ 4222818 ∷ 2952818546 ∷ 546255465 ∷ 2684379501 ∷ 0 ∷ []
+
+-- what stands where the mark numbered m can stand: m is a mark where that is a line whose mark is m
+unfoldable pub lineFor : ℕ → ℕ
+lineFor m = getD linesOf (m * 109 / 1024 % 16) 0
+
+-- m is the number of the two bytes at a position
+pub record MarkAt (s : List ℕ) (at m : ℕ) : Type 0 where
+  pub number : m ≡ getD s at 0 + 256 * getD s (at + 1) 0
+  pub first : getD s at 0 < 256
+  pub second : getD s (at + 1) 0 < 256
 
 -- how many children a container has, whose place in the table of types is k and whose mark ends at a position; 0 where that is refused
 unfoldable pub heldAt : List ℕ → ℕ → ℕ → ℕ

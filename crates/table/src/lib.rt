@@ -3,7 +3,7 @@ ghost use mathlib.Core.Path.{_≡_};
 ghost use Prim.Native.Nat.{_+_, _*_, _≤_, _<_};
 ghost use lib.ListN.{length};
 ghost use Rattle.schema.specs.Marks.{elementWidth};
-ghost use Rattle.table.specs.Words.{lineAt, linesOf, heldAt, behindAt, Lined, placeIn, markIn, widthIn, topIn, countIn, afterIn};
+ghost use Rattle.table.specs.Words.{MarkAt, lineFor, linesOf, heldAt, behindAt, Lined, placeIn, markIn, widthIn, topIn, countIn, afterIn};
 ghost use Rattle.table.specs.Tables.{Built, Stands, EntryAt};
 
 // The constant table of the twelve types, a word a line: the mark in bits 0 to 15, the top bit of a fixed-width slot's contents in 16 to 21,
@@ -27,6 +27,9 @@ pub const TYPES: [u32; 16] = [
     0xA000616D,
     0x0,
 ];
+
+// Where the line of a list stands in it.
+pub const LIST_LINE: usize = 8;
 
 // The kinds by name, in the order of the document's table: those before STRING have a fixed width, and those before LIST are leaves.
 pub const BOOL: usize = 0;
@@ -53,6 +56,9 @@ pub const MAP: usize = 10;
 
 pub const STRUCT: usize = 11;
 
+// The mark of a struct, which a schema begins with.
+const ROOT: u64 = 0x6F72;
+
 fn wide(x: u8) -> u64
     ensures { λ r. ⌜ r ≡ x ⌝ }
 {
@@ -65,14 +71,20 @@ fn widen(x: u32) -> u64
     x as u64
 }
 
-// The line of the mark a b, or 0 where it is none.
-fn line_of(lines: &[u32], a: u8, b: u8) -> u64
-    requires { ⌜ now lines ≡ linesOf ⌝ }
-    ensures { λ r. ⌜ r ≡ lineAt a b ⌝ }
+// The two bytes of a mark as a number.
+fn mark_at(s: &[u8], at: usize) -> u64
+    requires { ⌜ at + 2 ≤ length (now s) ⌝ }
+    ensures { λ r. ⌜ MarkAt (now (s .entry)) at r ⌝ }
 {
-    let m = words::nums::wide(a) + 256 * words::nums::wide(b);
-    let w = widen(lines[(m * 109 / 1024 % 16) as usize]);
-    if w % 65536 == m { w } else { 0 }
+    words::nums::wide(s[at]) + 256 * words::nums::wide(s[at + 1])
+}
+
+// The line where the mark numbered m can stand: m is a mark where that line's is m.
+fn line_of(lines: &[u32], m: u64) -> u64
+    requires { ⌜ (now lines ≡ linesOf) × (m < 65536) ⌝ }
+    ensures { λ r. ⌜ r ≡ lineFor m ⌝ }
+{
+    widen(lines[(m * 109 / 1024 % 16) as usize])
 }
 
 // How many children a container has, whose place in the table of types is k and whose mark ends at a position; 0 where that is refused.
@@ -115,7 +127,7 @@ pub fn build(s: &[u8], t: &mut [u64]) -> usize
         return 0;
     }
     let lines = TYPES;
-    if line_of(&lines, s[0], s[1]) != 0xB000_6F72 {
+    if mark_at(s, 0) != ROOT {
         return 0;
     }
     let fields = held(s, 2, 11);
@@ -133,8 +145,9 @@ pub fn build(s: &[u8], t: &mut [u64]) -> usize
         if len < at + 2 {
             return 0;
         }
-        let w = line_of(&lines, s[at], s[at + 1]);
-        if w == 0 {
+        let m = mark_at(s, at);
+        let w = line_of(&lines, m);
+        if w % 65536 != m {
             return 0;
         }
         n -= 1;

@@ -1,96 +1,78 @@
--- `checking::is_plain` meets its contract: it looks at a struct as check_value does. Assumes nothing.
-use mathlib.Core.Path.{refl, sym}
-use Prim.Native.Nat.{_+_, _-_}
+-- `checking::is_plain` meets its contract: its loop is that of check_fields as long as nothing is out of order. Assumes nothing.
+use mathlib.Core.Path.{refl}
+use mathlib.Core.Logic.{⊎-elim}
+use Prim.Native.Nat.{_-_}
 use Rattle.words.proofs.Numbers.{bytes-of}
-use Rattle.checking.proofs.Tests.{clash, map-asks}
-use Rattle.checking.proofs.Values.{Fields, no-list, no-map, value-deep, value-child, value-leaves, value-struct, struct-whole}
-use Rattle.checking.proofs.StructLoops.{struct-asks, struct-mul, struct-end, fields-map, fields-from, fields-whole}
+use Rattle.checking.proofs.Tests.{clash}
+use Rattle.checking.proofs.Loops.{loop-upper-on, loop-upper, loop-lower, loop-slot, loop-on}
+use Rattle.checking.proofs.Cursor.{stop-fits, stop-small}
+use Rattle.checking.proofs.StructLoops.{struct-mul, field-stands, fixed-leaf}
+use Rattle.checking.proofs.Plain.{PlainAt, plain-add, plain-word, plain-start, plain-whole, plain-place, plain-shift}
+use Rattle.checking.proofs.Plain.{plain-slot-mul, plain-slot, plain-less, plain-null, plain-above, plain-fixed, plain-pad, plain-text}
 use Rattle.checking.proofs.is_plain.Statement.{statement}
 use Rattle.checking.proofs.is_plain.Tie as tie
 
-returns : tie.Need-returns
-returns c e = absurd (clash e refl)
+abbrev Inv-loop : tie.InvT-loop
+Inv-loop t first n depth b nulls cur₀ i₀ cur i = PlainAt t first depth n b nulls i cur
 
--- the struct's fields
-fields-of : (c : tie.After-count)
-    → let a = (c .before .before .before .before .before .args) in Fields (a .t .now) (a .c + 1) (c .count .result) (a .depth - 1) (a .b .now)
-fields-of c =
-    value-struct (c .before .before .before .before .before .pre) (c .before .before .place .ensures) (no-list (c .before .if1 .left))
-    (no-map (c .before .if1 .left)) (c .count .ensures)
+abbrev μ-loop : tie.MeasureT-loop
+μ-loop t first n depth b nulls cur₀ i₀ cur i = n - i
 
-add-if2 : tie.Need-add-if2
-add-if2 c = value-child (c .before .before .before .before .before .before .pre)
-
-add-if2-2 : tie.Need-add-if2-2
-add-if2-2 c = value-leaves (c .before .before .before .before .before .before .pre) (fields-of (c .before) .high)
-
-returns-2 : tie.Need-returns-2
-returns-2 c e = absurd (clash e refl)
-
-bitmap-size-requires : tie.Need-bitmap-size-requires
-bitmap-size-requires c κs = struct-asks (fields-of (c .before .before))
-
-returns-3 : tie.Need-returns-3
-returns-3 c e = absurd (clash e refl)
-
-mul-if4 : tie.Need-mul-if4
-mul-if4 c = struct-mul (fields-of (c .before .before .before .before))
-
-add-if4 : tie.Need-add-if4
-add-if4 c = struct-end (fields-of (c .before .before .before .before)) (c .before .bitmap-size .ensures)
-
-returns-4 : tie.Need-returns-4
-returns-4 c e = absurd (clash e refl)
-
-past-clear-requires : tie.Need-past-clear-requires
-past-clear-requires c κs =
-    map-asks (fields-map (fields-of (c .before .before .before .before .before)) (c .before .before .bitmap-size .ensures) (c .before .if3 .left)
-    (c .if4 .left) (bytes-of _ (λ i. c .before .before .before .before .before .before .before .before .shared-slice-known2 .given i .fits)))
-
-returns-5 : tie.Need-returns-5
-returns-5 c e = absurd (clash e refl)
-
-add-plain-fields : tie.Need-add-plain-fields
-add-plain-fields c = value-child (c .before .before .before .before .before .before .before .before .before .before .before .before .pre)
-
-sub-plain-fields : tie.Need-sub-plain-fields
-sub-plain-fields c = value-deep (c .before .before .before .before .before .before .before .before .before .before .before .before .pre)
-
-plain-fields-requires : tie.Need-plain-fields-requires
-plain-fields-requires c κs =
-    fields-from (fields-of (c .before .before .before .before .before .before .before)) (c .before .before .before .before .bitmap-size .ensures)
-    (c .before .before .before .if3 .left) (c .before .before .if4 .left)
-
-returns-6 : tie.Need-returns-6
-returns-6 c e =
-    sym (struct-whole (c .before .before .before .before .before .before .before .before .before .before .before .before .before .pre)
-    (c .before .before .before .before .before .before .before .before .before .before .place .ensures)
-    (no-list (c .before .before .before .before .before .before .before .before .before .if1 .left))
-    (no-map (c .before .before .before .before .before .before .before .before .before .if1 .left))
-    (c .before .before .before .before .before .before .before .before .count .ensures) (fields-whole
-    (fields-of (c .before .before .before .before .before .before .before .before)) (c .before .before .before .before .before .bitmap-size .ensures)
-    (c .before .before .before .before .if3 .left) (c .before .before .before .if4 .left) (c .before .before .past-clear .ensures) (c .before .if5 .left)
-    (c .plain-fields .ensures e)))
+-- a string or a binary that stands where its slot says
+loop-again-3 : tie.Need-loop-again-3 Inv-loop μ-loop
+loop-again-3 c =
+    let s = c .before .before .before in
+    let k = s .before .before .before .before .before in
+    let l = k .before .before .before .before in
+    plain-text (l .before .loop .inv) (l .loop-test .taken) (k .before .before .before .entry-at .ensures) (k .before .before .place .ensures)
+    (k .before .if3 .left) (k .if6 .left) (s .before .before .before .before .if7 .left) (s .before .before .before .get4 .ensures)
+    (s .before .before .if8 .left) (s .before .get42 .ensures) (s .pad-size .ensures) (c .before .before .if9 .left) (c .before .pad-clear .ensures)
+    (c .if10 .left)
 
 pub is-plain-spec : {M : Type 1} → statement M
 is-plain-spec =
     tie.close
     (tie.spec
+    Inv-loop
+    μ-loop
+    (λ c. search struct-mul)
+    (λ c. search plain-add)
+    (λ c e. absurd (clash e refl))
+    (λ c κs. search plain-word)
+    (λ c. search)
+    (λ c e. absurd (clash e refl))
+    (λ c. search struct-mul)
+    (λ c. search plain-add)
+    (λ c. let p = c .before .before .before in
+    search (plain-start, bytes-of (p .before .before .args .b .now) (λ i. p .shared-slice-known2 .given i .fits)))
+    (λ c. search plain-place)
+    (λ c κs. search field-stands)
     (λ c κs. tt)
-    returns
+    (λ c. search plain-slot-mul)
+    (λ c. search plain-slot)
+    (λ c. search plain-shift)
+    (λ c κs. search loop-slot)
     (λ c κs. tt)
-    (λ c κs. tt)
-    add-if2
-    add-if2-2
-    returns-2
-    bitmap-size-requires
-    returns-3
-    mul-if4
-    add-if4
-    returns-4
-    past-clear-requires
-    returns-5
-    add-plain-fields
-    sub-plain-fields
-    plain-fields-requires
-    returns-6)
+    (λ c. search plain-above)
+    (λ c e. absurd (clash e refl))
+    (λ c. search loop-on)
+    (λ c. search plain-less)
+    (λ c. ⊎-elim (λ q. search plain-fixed) (λ q. search (plain-null, fixed-leaf)) (c .if4 .came))
+    (λ c e. absurd (clash e refl))
+    (λ c. search plain-shift)
+    (λ c. search loop-on)
+    (λ c. search plain-less)
+    (λ c. search plain-null)
+    (λ c. search loop-upper-on)
+    (λ c κs. search loop-upper)
+    (λ c e. absurd (clash e refl))
+    (λ c κs. search loop-lower)
+    (λ c. search stop-fits)
+    (λ c κs. search stop-small)
+    (λ c e. absurd (clash e refl))
+    (λ c κs. search (plain-pad, stop-small))
+    (λ c e. absurd (clash e refl))
+    (λ c. search loop-on)
+    (λ c. search plain-less)
+    loop-again-3
+    (λ c e. search plain-whole))

@@ -5,24 +5,23 @@ use native.Mathlib.Omega.{arith}
 use lib.ListN.{length, getD, set}
 use borrow.Author.Needs.{needs}
 use Rattle.table.specs.Words.{linesOf}
+use Rattle.table.proofs.Lines.{mark-small}
 use Rattle.table.proofs.Rooting.{Headed, Rooted, refuse-long, refuse-short, start-other, start-shut, start-looking, fields-scaled}
 use Rattle.table.proofs.Rooting.{root-fits, root-in, root-kept}
-use Rattle.table.proofs.Building.{Going, Looking, Scanned, Marked, Opened, Leaving, is-marked, unmarked, is-opened, still, mark-end, mark-next}
-use Rattle.table.proofs.Building.{mark-first}
-use Rattle.table.proofs.Building.{mark-second, going-short, going-leaf, going-deep, going-shut, going-pop, going-done, going-over, pop-kept}
+use Rattle.table.proofs.Building.{Going, Looking, Scanned, Marked, Opened, Leaving, is-marked, unmarked, is-opened, still, mark-end}
+use Rattle.table.proofs.Building.{going-short, going-leaf, going-deep, going-shut, going-pop, going-done, going-over, pop-kept}
 use Rattle.table.proofs.Building.{pop-falls, going-less, leaf-kept, leaf-falls, one-less, end-fits, place-in, place-scaled, place-next, leaf-fits}
-use Rattle.table.proofs.Building.{base-next}
-use Rattle.table.proofs.Building.{frame-scaled, frame-in, holder-in, holder-scaled, after-scaled, base-less, holding}
+use Rattle.table.proofs.Building.{base-next, frame-scaled, frame-in, holder-in, holder-scaled, after-scaled, base-less, holding}
 use Rattle.table.proofs.Opening.{behind-room, deeper, deeper-scaled, deeper-in, frame-place, frame-fits, held-scaled, held-fits, next-scaled}
 use Rattle.table.proofs.Opening.{base-more, open-fits, base-deeper, push-kept, push-falls, going-push}
 use Rattle.table.proofs.build.Statement.{statement}
 use Rattle.table.proofs.build.Tie as tie
 
 abbrev Inv-loop2 : tie.InvT-loop2
-Inv-loop2 s t₀ len lines fields frames n₀ at i d₀ base₀ w t n d base = Going s t frames d at i n base × (length t ≡ length t₀)
+Inv-loop2 s t₀ len lines fields frames n₀ at i d₀ base₀ m w t n d base = Going s t frames d at i n base × (length t ≡ length t₀)
 
 abbrev μ-loop2 : tie.MeasureT-loop2
-μ-loop2 s t₀ len lines fields frames n₀ at i d₀ base₀ w t n d base = d
+μ-loop2 s t₀ len lines fields frames n₀ at i d₀ base₀ m w t n d base = d
 
 abbrev Inv-loop : tie.InvT-loop
 Inv-loop s t₀ len lines fields frames₀ n₀ at₀ i₀ d₀ base₀ t frames n at i d base = Looking s t frames d at i n base × (length t ≡ length t₀)
@@ -32,46 +31,52 @@ abbrev μ-loop : tie.MeasureT-loop
 
 -- earlier places
 abbrev entry : tie.At-loop Inv-loop2 μ-loop2 Inv-loop μ-loop → tie.Start Inv-loop2 μ-loop2 Inv-loop μ-loop
-entry c = c .before .before .before .before .before .before .before .before .before .before .before .before
+entry c = c .before .before .before .before .before .before .before .before .before
 
-abbrev loop-at : tie.After-line-of2 Inv-loop2 μ-loop2 Inv-loop μ-loop → tie.At-loop Inv-loop2 μ-loop2 Inv-loop μ-loop
-loop-at c = c .before .before .before .before .before
+abbrev loop-at : tie.After-line-of Inv-loop2 μ-loop2 Inv-loop μ-loop → tie.At-loop Inv-loop2 μ-loop2 Inv-loop μ-loop
+loop-at c = c .before .before .before .before
 
-abbrev line-at : tie.Else11 Inv-loop2 μ-loop2 Inv-loop μ-loop → tie.After-line-of2 Inv-loop2 μ-loop2 Inv-loop μ-loop
+abbrev line-at : tie.Else11 Inv-loop2 μ-loop2 Inv-loop μ-loop → tie.After-line-of Inv-loop2 μ-loop2 Inv-loop μ-loop
 line-at c = c .before .before .before .before .before
 
 -- what is known at a place, said once
-headed : (c : tie.After-line-of Inv-loop2 μ-loop2 Inv-loop μ-loop)
-    → let a = c .before .before .before .before .before .before .before .before .args in Headed (a .s .now) (a .t .now) (c .line-of .result)
+headed : (c : tie.After-mark-at Inv-loop2 μ-loop2 Inv-loop μ-loop)
+    → let a = c .before .before .before .before .before .args in Headed (a .s .now) (a .t .now) (c .mark-at .result)
 headed c = record {
-  short = c .before .before .before .before .before .if1 .left;
-  three = c .before .before .before .before .if2 .left;
-  roomy = c .before .before .before .before .before .before .before .before .pre;
-  line = c .line-of .ensures;
+  short = c .before .before .if1 .left;
+  three = c .before .if2 .left;
+  roomy = c .before .before .before .before .before .pre;
+  mark = c .mark-at .ensures;
 }
 
 rooted : (c : tie.After-held Inv-loop2 μ-loop2 Inv-loop μ-loop)
-    → let a = c .before .before .before .before .before .before .before .before .before .before .args in Rooted (a .s .now) (a .t .now)
-    (c .before .before .line-of .result) (c .held .result)
+    → let a = c .before .before .before .before .before .before .before .args in Rooted (a .s .now) (a .t .now)
+    (c .before .before .mark-at .result) (c .held .result)
 rooted c = record { headed = headed (c .before .before); struct = c .before .if3 .left; held = c .held .ensures }
 
 room-kept : (c : tie.At-loop Inv-loop2 μ-loop2 Inv-loop μ-loop) → length (c .loop .t) ≡ length (entry c .args .t .now)
 room-kept c = root-kept (rooted (c .before .before)) (c .loop .inv .1)
 
-scanned : (c : tie.After-line-of2 Inv-loop2 μ-loop2 Inv-loop μ-loop)
+scanned : (c : tie.After-line-of Inv-loop2 μ-loop2 Inv-loop μ-loop)
     → let l = loop-at c .loop in
-    Scanned (entry (loop-at c) .args .s .now) (l .t) (l .frames) (l .d) (l .at) (l .i) (l .n) (l .base) (c .line-of2 .result)
-scanned c = record { looking = loop-at c .loop .inv .0; room = c .before .before .before .before .if5 .left; line = c .line-of2 .ensures }
+    Scanned (entry (loop-at c) .args .s .now) (l .t) (l .frames) (l .d) (l .at) (l .i) (l .n) (l .base)
+    (c .before .before .mark-at2 .result) (c .line-of .result)
+scanned c = record {
+  looking = loop-at c .loop .inv .0;
+  room = c .before .before .before .if5 .left;
+  mark = c .before .before .mark-at2 .ensures;
+  line = c .line-of .ensures;
+}
 
 marked : (c : tie.Else6 Inv-loop2 μ-loop2 Inv-loop μ-loop)
     → let l = loop-at (c .before) .loop in
-    let w = c .before .line-of2 .result in
+    let w = c .before .line-of .result in
     Marked (entry (loop-at (c .before)) .args .s .now) (l .t) (l .frames) (l .d) (l .at) (l .i) (l .n) (l .base) w (w / 268435456)
 marked c = is-marked (scanned (c .before)) (c .if6 .left)
 
 opened : (c : tie.Else11 Inv-loop2 μ-loop2 Inv-loop μ-loop)
     → let l = loop-at (line-at c) .loop in
-    let w = line-at c .line-of2 .result in
+    let w = line-at c .line-of .result in
     Opened (entry (loop-at (line-at c)) .args .s .now) (l .t) (l .frames) (l .d) (l .at) (l .i) (l .n) (l .base) w (w / 268435456)
     (c .before .held2 .result)
 opened c = is-opened (marked (c .before .before .before .before)) (c .before .before .before .if7 .left) (c .before .held2 .ensures)
@@ -91,304 +96,214 @@ left-kept : (c : tie.After-wrapping-add-u64 Inv-loop2 μ-loop2 Inv-loop μ-loop)
 left-kept c = pop-kept (leaving c) (leaf-kept (marked (c .before .before .before .before .before)) (c .before .before .before .loop2 .inv .1)
     (room-kept (loop-at (c .before .before .before .before .before .before))))
 
--- src/lib.rt:112:9
 returns : tie.Need-returns Inv-loop2 μ-loop2 Inv-loop μ-loop
 returns c = refuse-long (c .if1 .taken)
 
--- src/lib.rt:115:9
 returns-2 : tie.Need-returns-2 Inv-loop2 μ-loop2 Inv-loop μ-loop
 returns-2 c = refuse-short (c .if2 .taken)
 
--- src/lib.rt:118:16
-slice-aggregate-line-of : tie.Need-slice-aggregate-line-of Inv-loop2 μ-loop2 Inv-loop μ-loop
-slice-aggregate-line-of c = refl
+mark-at-requires : tie.Need-mark-at-requires Inv-loop2 μ-loop2 Inv-loop μ-loop
+mark-at-requires c κs = search needs
 
--- src/lib.rt:118:24
-shared-slice-read-line-of : tie.Need-shared-slice-read-line-of Inv-loop2 μ-loop2 Inv-loop μ-loop
-shared-slice-read-line-of c = search needs
-
--- src/lib.rt:118:30
-shared-slice-read-line-of-2 : tie.Need-shared-slice-read-line-of-2 Inv-loop2 μ-loop2 Inv-loop μ-loop
-shared-slice-read-line-of-2 c = search needs
-
--- src/lib.rt:118:8
-line-of-requires : tie.Need-line-of-requires Inv-loop2 μ-loop2 Inv-loop μ-loop
-unfolding linesOf
-line-of-requires c κs = refl
-
--- src/lib.rt:119:9
 returns-3 : tie.Need-returns-3 Inv-loop2 μ-loop2 Inv-loop μ-loop
 returns-3 c = start-other (headed (c .before)) (c .if3 .taken)
 
--- src/lib.rt:121:9
 held-requires : tie.Need-held-requires Inv-loop2 μ-loop2 Inv-loop μ-loop
 held-requires c κs = (omega arith, omega arith)
 
--- src/lib.rt:123:9
 returns-4 : tie.Need-returns-4 Inv-loop2 μ-loop2 Inv-loop μ-loop
 returns-4 c = start-shut (rooted (c .before)) (c .if4 .taken)
 
--- src/lib.rt:126:31
 mul-t : tie.Need-mul-t Inv-loop2 μ-loop2 Inv-loop μ-loop
 mul-t c = fields-scaled (rooted (c .before))
 
--- src/lib.rt:126:12
 add-t : tie.Need-add-t Inv-loop2 μ-loop2 Inv-loop μ-loop
 add-t c = root-fits (rooted (c .before))
 
--- src/lib.rt:126:5
 slice-write-t : tie.Need-slice-write-t Inv-loop2 μ-loop2 Inv-loop μ-loop
 slice-write-t c = root-in (rooted (c .before))
 
--- src/lib.rt:132:5
 loop-holds : tie.Need-loop-holds Inv-loop2 μ-loop2 Inv-loop μ-loop
 loop-holds c = (start-looking (rooted (c .before)) (c .if4 .left), refl)
 
--- src/lib.rt:133:18
 add-if5 : tie.Need-add-if5 Inv-loop2 μ-loop2 Inv-loop μ-loop
 add-if5 c = mark-end (c .loop .inv .0)
 
--- src/lib.rt:134:13
 same-length : tie.Need-same-length Inv-loop2 μ-loop2 Inv-loop μ-loop
 same-length c = room-kept (c .before)
 
--- src/lib.rt:134:13
 returns-5 : tie.Need-returns-5 Inv-loop2 μ-loop2 Inv-loop μ-loop
 returns-5 c = going-short (c .before .loop .inv .0) (c .if5 .taken)
 
--- src/lib.rt:136:25
-slice-aggregate-line-of-2 : tie.Need-slice-aggregate-line-of-2 Inv-loop2 μ-loop2 Inv-loop μ-loop
-slice-aggregate-line-of-2 c = refl
+mark-at-requires-2 : tie.Need-mark-at-requires-2 Inv-loop2 μ-loop2 Inv-loop μ-loop
+mark-at-requires-2 c κs = c .if5 .left
 
--- src/lib.rt:136:33
-shared-slice-read-line-of-3 : tie.Need-shared-slice-read-line-of-3 Inv-loop2 μ-loop2 Inv-loop μ-loop
-shared-slice-read-line-of-3 c = mark-first (c .before .before .before .loop .inv .0) (c .before .before .if5 .left)
+slice-aggregate-line-of : tie.Need-slice-aggregate-line-of Inv-loop2 μ-loop2 Inv-loop μ-loop
+slice-aggregate-line-of c = refl
 
--- src/lib.rt:136:42
-add-line-of : tie.Need-add-line-of Inv-loop2 μ-loop2 Inv-loop μ-loop
-add-line-of c = mark-next (c .before .before .before .loop .inv .0)
-
--- src/lib.rt:136:40
-shared-slice-read-line-of-4 : tie.Need-shared-slice-read-line-of-4 Inv-loop2 μ-loop2 Inv-loop μ-loop
-shared-slice-read-line-of-4 c = mark-second (c .before .before .before .before .loop .inv .0) (c .before .before .before .if5 .left)
-
--- src/lib.rt:136:13
-line-of-requires-2 : tie.Need-line-of-requires-2 Inv-loop2 μ-loop2 Inv-loop μ-loop
+line-of-requires : tie.Need-line-of-requires Inv-loop2 μ-loop2 Inv-loop μ-loop
 unfolding linesOf
-line-of-requires-2 c κs = refl
+line-of-requires c κs = (refl, search mark-small)
 
--- src/lib.rt:138:13
 same-length-2 : tie.Need-same-length-2 Inv-loop2 μ-loop2 Inv-loop μ-loop
 same-length-2 c = room-kept (loop-at (c .before))
 
--- src/lib.rt:138:13
 returns-6 : tie.Need-returns-6 Inv-loop2 μ-loop2 Inv-loop μ-loop
 returns-6 c = unmarked (scanned (c .before)) (c .if6 .taken)
 
--- src/lib.rt:140:9
 sub-n : tie.Need-sub-n Inv-loop2 μ-loop2 Inv-loop μ-loop
 sub-n c = one-less (marked c)
 
--- src/lib.rt:142:20
 add-t-2 : tie.Need-add-t-2 Inv-loop2 μ-loop2 Inv-loop μ-loop
 add-t-2 c = leaf-fits (marked (c .before))
 
--- src/lib.rt:142:13
 mul-t-2 : tie.Need-mul-t-2 Inv-loop2 μ-loop2 Inv-loop μ-loop
 mul-t-2 c = place-scaled (marked (c .before))
 
--- src/lib.rt:142:13
 slice-write-t-2 : tie.Need-slice-write-t-2 Inv-loop2 μ-loop2 Inv-loop μ-loop
 slice-write-t-2 c = place-in (marked (c .before))
 
--- src/lib.rt:143:13
 add-at : tie.Need-add-at Inv-loop2 μ-loop2 Inv-loop μ-loop
 add-at c = end-fits (marked (c .before))
 
--- src/lib.rt:144:13
 add-i : tie.Need-add-i Inv-loop2 μ-loop2 Inv-loop μ-loop
 add-i c = place-next (marked (c .before))
 
--- src/lib.rt:145:13
 add-base : tie.Need-add-base Inv-loop2 μ-loop2 Inv-loop μ-loop
 add-base c = base-next (marked (c .before))
 
--- src/lib.rt:146:13
 loop2-holds : tie.Need-loop2-holds Inv-loop2 μ-loop2 Inv-loop μ-loop
 loop2-holds c = (going-leaf (marked (c .before)) (c .if7 .taken), refl)
 
--- src/lib.rt:147:25
 mul-f : tie.Need-mul-f Inv-loop2 μ-loop2 Inv-loop μ-loop
 mul-f c = frame-scaled (c .before .loop2 .inv .0)
 
--- src/lib.rt:147:25
 array-read-f : tie.Need-array-read-f Inv-loop2 μ-loop2 Inv-loop μ-loop
 array-read-f c = frame-in (c .before .loop2 .inv .0)
 
--- src/lib.rt:149:51
 mul-wrapping-add-u64 : tie.Need-mul-wrapping-add-u64 Inv-loop2 μ-loop2 Inv-loop μ-loop
 mul-wrapping-add-u64 c = holder-scaled (c .before .loop2 .inv .0)
 
--- src/lib.rt:149:51
 slice-read-wrapping-add-u64 : tie.Need-slice-read-wrapping-add-u64 Inv-loop2 μ-loop2 Inv-loop μ-loop
 slice-read-wrapping-add-u64 c = holder-in (c .before .before .loop2 .inv .0)
 
--- src/lib.rt:149:57
 mul-wrapping-add-u64-2 : tie.Need-mul-wrapping-add-u64-2 Inv-loop2 μ-loop2 Inv-loop μ-loop
 mul-wrapping-add-u64-2 c = after-scaled (c .before .before .loop2 .inv .0)
 
--- src/lib.rt:149:24
 wrapping-add-u64-requires : tie.Need-wrapping-add-u64-requires Inv-loop2 μ-loop2 Inv-loop μ-loop
 wrapping-add-u64-requires c κs = search needs
 
--- src/lib.rt:149:17
 mul-t-3 : tie.Need-mul-t-3 Inv-loop2 μ-loop2 Inv-loop μ-loop
 mul-t-3 c = holder-scaled (c .before .before .before .loop2 .inv .0)
 
--- src/lib.rt:149:17
 slice-write-t-3 : tie.Need-slice-write-t-3 Inv-loop2 μ-loop2 Inv-loop μ-loop
 slice-write-t-3 c = holder-in (c .before .before .before .loop2 .inv .0)
 
--- src/lib.rt:152:25
 same-length-3 : tie.Need-same-length-3 Inv-loop2 μ-loop2 Inv-loop μ-loop
 same-length-3 c = left-kept (c .before .before)
 
--- src/lib.rt:152:25
 returns-7 : tie.Need-returns-7 Inv-loop2 μ-loop2 Inv-loop μ-loop
 returns-7 c = going-done (leaving (c .before .before)) (c .before .if8 .taken) (c .if9 .taken)
 
--- src/lib.rt:154:21
 same-length-4 : tie.Need-same-length-4 Inv-loop2 μ-loop2 Inv-loop μ-loop
 same-length-4 c = left-kept (c .before .before)
 
--- src/lib.rt:154:21
 returns-8 : tie.Need-returns-8 Inv-loop2 μ-loop2 Inv-loop μ-loop
 returns-8 c = going-over (leaving (c .before .before)) (c .before .if8 .taken) (c .if9 .left)
 
--- src/lib.rt:157:17
 sub-d : tie.Need-sub-d Inv-loop2 μ-loop2 Inv-loop μ-loop
 sub-d c = going-less (leaving (c .before)) (c .if8 .left)
 
--- src/lib.rt:158:17
 sub-base : tie.Need-sub-base Inv-loop2 μ-loop2 Inv-loop μ-loop
 sub-base c = base-less (c .before .before .before .before .loop2 .inv .0)
 
--- src/lib.rt:146:13
 loop2-less : tie.Need-loop2-less Inv-loop2 μ-loop2 Inv-loop μ-loop
 loop2-less c = pop-falls (leaving (c .before)) (c .if8 .left)
 
--- src/lib.rt:146:13
 loop2-again : tie.Need-loop2-again Inv-loop2 μ-loop2 Inv-loop μ-loop
 loop2-again c = (going-pop (leaving (c .before)) (c .if8 .left), pop-kept (leaving (c .before)) (c .before .before .before .before .loop2 .inv .1))
 
--- src/lib.rt:132:5
 loop-less : tie.Need-loop-less Inv-loop2 μ-loop2 Inv-loop μ-loop
 loop-less c = leaf-falls (marked (c .before .before .before))
 
--- src/lib.rt:132:5
 loop-again : tie.Need-loop-again Inv-loop2 μ-loop2 Inv-loop μ-loop
 loop-again c = (
   still (c .before .loop2 .inv .0) (c .loop2-test .left),
   leaf-kept (marked (c .before .before .before)) (c .before .loop2 .inv .1) (loop-at (c .before .before .before .before) .loop .inv .1),
 )
 
--- src/lib.rt:163:13
 same-length-5 : tie.Need-same-length-5 Inv-loop2 μ-loop2 Inv-loop μ-loop
 same-length-5 c = room-kept (loop-at (c .before .before .before))
 
--- src/lib.rt:163:13
 returns-9 : tie.Need-returns-9 Inv-loop2 μ-loop2 Inv-loop μ-loop
 returns-9 c = going-deep (marked (c .before .before)) (c .before .if7 .left) (c .if10 .taken)
 
--- src/lib.rt:166:25
 add-held : tie.Need-add-held Inv-loop2 μ-loop2 Inv-loop μ-loop
 add-held c = end-fits (marked (c .before .before))
 
--- src/lib.rt:166:13
 held-requires-2 : tie.Need-held-requires-2 Inv-loop2 μ-loop2 Inv-loop μ-loop
 held-requires-2 c κs = holding (marked (c .before .before)) (c .before .if7 .left)
 
--- src/lib.rt:168:13
 same-length-6 : tie.Need-same-length-6 Inv-loop2 μ-loop2 Inv-loop μ-loop
 same-length-6 c = room-kept (loop-at (c .before .before .before .before .before))
 
--- src/lib.rt:168:13
 returns-10 : tie.Need-returns-10 Inv-loop2 μ-loop2 Inv-loop μ-loop
 returns-10 c = going-shut (marked (c .before .before .before .before)) (c .before .before .before .if7 .left) (c .before .held2 .ensures) (c .if11 .taken)
 
--- src/lib.rt:170:21
 add-behind : tie.Need-add-behind Inv-loop2 μ-loop2 Inv-loop μ-loop
 add-behind c = end-fits (marked (c .before .before .before .before))
 
--- src/lib.rt:170:9
 behind-requires : tie.Need-behind-requires Inv-loop2 μ-loop2 Inv-loop μ-loop
 behind-requires c κs = behind-room (opened c)
 
--- src/lib.rt:171:9
 add-d : tie.Need-add-d Inv-loop2 μ-loop2 Inv-loop μ-loop
 add-d c = deeper (opened (c .before))
 
--- src/lib.rt:172:21
 mul-frames : tie.Need-mul-frames Inv-loop2 μ-loop2 Inv-loop μ-loop
 mul-frames c = frame-place (opened (c .before))
 
--- src/lib.rt:172:21
 add-frames : tie.Need-add-frames Inv-loop2 μ-loop2 Inv-loop μ-loop
 add-frames c = frame-fits (opened (c .before))
 
--- src/lib.rt:172:9
 mul-frames-2 : tie.Need-mul-frames-2 Inv-loop2 μ-loop2 Inv-loop μ-loop
 mul-frames-2 c = deeper-scaled (opened (c .before))
 
--- src/lib.rt:172:9
 array-write-frames : tie.Need-array-write-frames Inv-loop2 μ-loop2 Inv-loop μ-loop
 array-write-frames c = deeper-in (opened (c .before))
 
--- src/lib.rt:173:20
 mul-t-4 : tie.Need-mul-t-4 Inv-loop2 μ-loop2 Inv-loop μ-loop
 mul-t-4 c = held-scaled (opened (c .before))
 
--- src/lib.rt:173:16
 add-t-3 : tie.Need-add-t-3 Inv-loop2 μ-loop2 Inv-loop μ-loop
 add-t-3 c = held-fits (opened (c .before))
 
--- src/lib.rt:173:50
 add-t-4 : tie.Need-add-t-4 Inv-loop2 μ-loop2 Inv-loop μ-loop
 add-t-4 c = place-next (marked (c .before .before .before .before .before))
 
--- src/lib.rt:173:49
 mul-t-5 : tie.Need-mul-t-5 Inv-loop2 μ-loop2 Inv-loop μ-loop
 mul-t-5 c = next-scaled (opened (c .before))
 
--- src/lib.rt:173:42
 sub-t : tie.Need-sub-t Inv-loop2 μ-loop2 Inv-loop μ-loop
 sub-t c = base-more (opened (c .before))
 
--- src/lib.rt:173:16
 add-t-5 : tie.Need-add-t-5 Inv-loop2 μ-loop2 Inv-loop μ-loop
 add-t-5 c = open-fits (opened (c .before))
 
--- src/lib.rt:173:9
 mul-t-6 : tie.Need-mul-t-6 Inv-loop2 μ-loop2 Inv-loop μ-loop
 mul-t-6 c = place-scaled (marked (c .before .before .before .before .before))
 
--- src/lib.rt:173:9
 slice-write-t-4 : tie.Need-slice-write-t-4 Inv-loop2 μ-loop2 Inv-loop μ-loop
 slice-write-t-4 c = place-in (marked (c .before .before .before .before .before))
 
--- src/lib.rt:175:9
 add-i-2 : tie.Need-add-i-2 Inv-loop2 μ-loop2 Inv-loop μ-loop
 add-i-2 c = place-next (marked (c .before .before .before .before .before))
 
--- src/lib.rt:176:9
 add-base-2 : tie.Need-add-base-2 Inv-loop2 μ-loop2 Inv-loop μ-loop
 add-base-2 c = base-deeper (opened (c .before))
 
--- src/lib.rt:132:5
 loop-less-2 : tie.Need-loop-less-2 Inv-loop2 μ-loop2 Inv-loop μ-loop
 loop-less-2 c = push-falls (opened (c .before)) (c .behind .ensures)
 
--- src/lib.rt:132:5
 loop-again-2 : tie.Need-loop-again-2 Inv-loop2 μ-loop2 Inv-loop μ-loop
 loop-again-2 c = (going-push (opened (c .before)) (c .behind .ensures), push-kept (opened (c .before)) (loop-at (line-at (c .before)) .loop .inv .1))
 
@@ -402,10 +317,7 @@ build-spec =
     μ-loop
     returns
     returns-2
-    slice-aggregate-line-of
-    shared-slice-read-line-of
-    shared-slice-read-line-of-2
-    line-of-requires
+    mark-at-requires
     returns-3
     held-requires
     returns-4
@@ -416,11 +328,9 @@ build-spec =
     add-if5
     same-length
     returns-5
-    slice-aggregate-line-of-2
-    shared-slice-read-line-of-3
-    add-line-of
-    shared-slice-read-line-of-4
-    line-of-requires-2
+    mark-at-requires-2
+    slice-aggregate-line-of
+    line-of-requires
     same-length-2
     returns-6
     sub-n

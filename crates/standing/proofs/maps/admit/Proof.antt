@@ -1,8 +1,8 @@
 -- `standing::maps::admit` meets its contract. Assumes nothing.
 use mathlib.Core.Path.{sym, _∙_}
 use borrow.Author.Tests.{not-true, not-false}
-use Rattle.standing.proofs.Marks.{admit-inside, admit-empty, admit-unit-taken, admit-unit, admit-taken, admit-over, admit-full}
 use borrow.Author.Needs.{needs}
+use Rattle.standing.proofs.Marks.{admit-inside, admit-empty, admit-taken, admit-over, admit-full}
 use Rattle.standing.proofs.maps.admit.Statement.{statement}
 use Rattle.standing.proofs.maps.admit.Tie as tie
 
@@ -27,40 +27,15 @@ returns-2 c = let v = c .before .before .before .before .before .before .before 
     (c .before .before .before .before .before .before .before .if1 .taken)
     (sym (c .before .before .before .before .before .is-null .ensures) ∙ c .before .before .before .before .if2 .left) _ (c .before .before .set-null .ensures)
 
-add-if3 : tie.Need-add-if3
-add-if3 c = search needs
-
-is-null-requires-2 : tie.Need-is-null-requires-2
-is-null-requires-2 c κs = search needs
+clear-requires : tie.Need-clear-requires
+clear-requires c κs = search needs
 
 same-length-3 : tie.Need-same-length-3
 same-length-3 c = search needs
 
 returns-3 : tie.Need-returns-3
-returns-3 c = let v = c .before .before .before .before .before .before .args in admit-unit-taken (v .m .now) (v .a) (v .b)
-    (c .before .before .before .if3 .taken) (sym (c .before .is-null2 .ensures) ∙ c .if4 .taken)
-
-set-null-requires-2 : tie.Need-set-null-requires-2
-set-null-requires-2 c κs = search needs
-
-same-length-4 : tie.Need-same-length-4
-same-length-4 c = search needs
-
-returns-4 : tie.Need-returns-4
-returns-4 c = let v = c .before .before .before .before .before .before .before .before .before .before .args in admit-unit (v .m .now) (v .a) (v .b)
-    (c .before .before .before .before .before .before .before .if3 .taken)
-    (sym (c .before .before .before .before .before .is-null2 .ensures) ∙ c .before .before .before .before .if4 .left) _
-    (c .before .before .set-null2 .ensures)
-
-clear-requires : tie.Need-clear-requires
-clear-requires c κs = search needs
-
-same-length-5 : tie.Need-same-length-5
-same-length-5 c = search needs
-
-returns-5 : tie.Need-returns-5
-returns-5 c = let v = c .before .before .before .before .before .before .args in admit-taken (v .m .now) (v .a) (v .b)
-    (c .before .before .before .before .if1 .left) (sym (c .before .clear .ensures) ∙ not-true _ (c .if5 .taken))
+returns-3 c = let v = c .before .before .before .before .before .args in admit-taken (v .m .now) (v .a) (v .b)
+    (c .before .before .before .if1 .left) (sym (c .before .clear .ensures) ∙ not-true _ (c .if3 .taken))
 
 add-clear : tie.Need-add-clear
 add-clear c = search needs
@@ -68,12 +43,12 @@ add-clear c = search needs
 clear-requires-2 : tie.Need-clear-requires-2
 clear-requires-2 c κs = search needs
 
-same-length-6 : tie.Need-same-length-6
-same-length-6 c = search needs
+same-length-4 : tie.Need-same-length-4
+same-length-4 c = search needs
 
-returns-6 : tie.Need-returns-6
-returns-6 c = let v = c .before .before .before .before .before .before .before .before .before .args in admit-over (v .m .now) (v .a) (v .b)
-    (c .before .before .before .before .before .before .before .if1 .left) (sym (c .before .clear2 .ensures) ∙ not-true _ (c .if6 .taken))
+returns-4 : tie.Need-returns-4
+returns-4 c = let v = c .before .before .before .before .before .before .before .before .args in admit-over (v .m .now) (v .a) (v .b)
+    (c .before .before .before .before .before .before .if1 .left) (sym (c .before .clear2 .ensures) ∙ not-true _ (c .if4 .taken))
 
 mark-requires : tie.Need-mark-requires
 mark-requires c κs = search needs
@@ -84,16 +59,16 @@ add-mark c = search needs
 mark-requires-2 : tie.Need-mark-requires-2
 mark-requires-2 c κs = search needs
 
-same-length-7 : tie.Need-same-length-7
-same-length-7 c = search needs
+same-length-5 : tie.Need-same-length-5
+same-length-5 c = search needs
 
-returns-7 : tie.Need-returns-7
-returns-7 c =
+returns-5 : tie.Need-returns-5
+returns-5 c =
     let two = c .before .before .before .before .before .before .before .before in
     let one = two .before .before .before in
-    let v = one .before .before .before .before .before .before .args in
-    admit-full (v .m .now) (v .a) (v .b) (one .before .before .before .before .if1 .left) (sym (one .before .clear .ensures) ∙ not-false _ (one .if5 .left))
-    (sym (two .before .clear2 .ensures) ∙ not-false _ (two .if6 .left)) _ _ (c .before .before .before .before .before .before .mark .ensures)
+    let v = one .before .before .before .before .before .args in
+    admit-full (v .m .now) (v .a) (v .b) (one .before .before .before .if1 .left) (sym (one .before .clear .ensures) ∙ not-false _ (one .if3 .left))
+    (sym (two .before .clear2 .ensures) ∙ not-false _ (two .if4 .left)) _ _ (c .before .before .before .before .before .before .mark .ensures)
     (c .before .before .mark2 .ensures)
 
 pub admit-spec : {M : Type 1} → statement M
@@ -106,22 +81,15 @@ admit-spec =
     set-null-requires
     same-length-2
     returns-2
-    add-if3
-    is-null-requires-2
+    clear-requires
     same-length-3
     returns-3
-    set-null-requires-2
-    same-length-4
-    returns-4
-    clear-requires
-    same-length-5
-    returns-5
     add-clear
     clear-requires-2
-    same-length-6
-    returns-6
+    same-length-4
+    returns-4
     mark-requires
     add-mark
     mark-requires-2
-    same-length-7
-    returns-7)
+    same-length-5
+    returns-5)
