@@ -23,7 +23,7 @@ use Rattle.listing.specs.Room.{Own, Items}
 use Rattle.listing.proofs.Found.{There, there-child, lines-child}
 use Rattle.listing.proofs.Turns.{Going, going-start, going-end, going-room, going-next}
 use Rattle.listing.proofs.Wrote.{met}
-use Rattle.listing.proofs.Seats.{Seated, seat-null, seat-own}
+use Rattle.listing.proofs.Seats.{Seated, seat-room, seat-null, seat-own}
 
 -- what an item lists does not depend on the slot's width
 item-put : (w : ℕ) (t : Ty) (x : Cell) → item w (mark t) (script t) .put x ≡ onNull (λ _. nu) (mark t ++ script t .put x) x
@@ -148,6 +148,9 @@ module _ {t : Ty} {b : List ℕ} {n w pos i slot : ℕ} {out₀ out : List ℕ} 
       present = there;
       room = item-room;
     }
+
+    pub item-null-room : p ≤ 65536
+    item-null-room = seat-room item-seat
 
     items-next : {out′ : List ℕ} {p′ : ℕ} → Written out p (childLines t b 8 i slot) out′ p′
         → AtItem t b n w pos (i + 1) (slot + w) out₀ out′ p′

@@ -14,7 +14,7 @@ use Rattle.schema.specs.Types.{Ty, li, ma, ro, Tys, place, mark}
 use Rattle.schema.specs.Walk.{typeAt, nextAt, Typed, ListAt, MapAt, StructAt}
 use Rattle.schema.proofs.Places.{place-li, place-ma, place-ro}
 use Rattle.schema.proofs.Typing.{typed-deep}
-use Rattle.table.specs.Words.{placeIn, countIn, afterIn, Lined}
+use Rattle.table.specs.Words.{placeIn, countIn, afterIn}
 use Rattle.table.specs.Tables.{schemaOf, posOf, Stands, EntryAt}
 use Rattle.table.proofs.Places.{place-room, table-short}
 use Rattle.layout.specs.Cells.{parts}
@@ -23,7 +23,7 @@ use Rattle.layout.proofs.Walked.{list-says}
 use Rattle.listing.specs.Lines.{cellOf, lines, itemLines, fieldLines, Written}
 use Rattle.listing.specs.Room.{tyAt, tysAt, Holds, Container, Pair, Elements, Fields}
 use Rattle.listing.proofs.Wrote.{and-then, same-bytes}
-use Rattle.listing.proofs.Maps.{keys-hold, values-hold, map-is, map-lengths}
+use Rattle.listing.proofs.Maps.{size-in, count-in, keys-fit, keys-end, keys-hold, values-hold, map-is, map-lengths}
 
 -- ---- the records of each
 
@@ -34,6 +34,14 @@ list-lines t b n e = rw (append-assoc, e)
 struct-lines : (ts : Tys) (b : List ℕ) → markAt 11 ++ fieldLines ts b ≡ lines (ro ts) b
 unfolding lines listing script structScript fieldLines mark place
 struct-lines ts b = refl
+
+-- ---- the measure falls from the children to a container of them, and from a container to it as a map
+
+pub child-rank : (d : ℕ) {m : ℕ} → d * 3 + 3 ≡ m → d * 3 + 2 < m
+child-rank d e = omega arith
+
+pub map-rank : (d : ℕ) {m : ℕ} → d * 3 + 2 ≡ m → d * 3 + 1 < m
+map-rank d e = omega arith
 
 -- ---- by the entry of its type
 
@@ -47,40 +55,31 @@ module _ {t : List ℕ} {at d : ℕ} {b : List ℕ} {pos : ℕ} (r : Container t
   pub value-child : Fits w64 (at + 1)
   value-child = omega (arith, place-room t (r .stands .table) at d (r .stands .typed), table-short t (r .stands .table))
 
-  value-room : pos ≤ 65536
+  -- the measure falls from a container, and from a map, to its children
+  pub value-falls : {m : ℕ} → d * 3 + 2 ≡ m → (d - 1) * 3 + 3 < m
+  value-falls e = omega (arith, value-deep)
+
+  pub map-falls : {m : ℕ} → d * 3 + 1 ≡ m → (d - 1) * 3 + 3 < m
+  map-falls e = omega (arith, value-deep)
+
+  pub value-room : pos ≤ 65536
   value-room = omega (arith, r .room)
 
--- w is its type's entry, k the type's place in the table of types, and m the measure
-pub record Valued (t : List ℕ) (at d : ℕ) (b : List ℕ) (pos w k m : ℕ) : Type 0 where
-  pub rank : d * 3 + 2 ≡ m
-  pub asked : Container t at d b pos
-  pub entry : EntryAt t at d w
-  pub place-is : k ≡ placeIn w
-
-module _ {t : List ℕ} {at d : ℕ} {b : List ℕ} {pos w k m : ℕ} (r : Valued t at d b pos w k m) where
-  -- the measure falls from a container to its children
-  pub value-falls : (d - 1) * 3 + 3 < m
-  value-falls = omega (arith, r .rank, value-deep (r .asked))
-
-  pub value-rank : d * 3 + 1 < m
-  value-rank = omega (arith, r .rank)
-
-  pub value-mark : (Lined w) × (pos ≤ 65536)
-  value-mark = (r .entry .lined, value-room (r .asked))
-
+-- w is its type's entry, and k the type's place in the table of types
+module _ {t : List ℕ} {at d : ℕ} {b : List ℕ} {pos : ℕ} (r : Container t at d b pos) {w : ℕ} (e : EntryAt t at d w) {k : ℕ} (ek : k ≡ placeIn w) where
   -- ---- a list
 
   module _ (q : k ≡ 9) where
     list-at : ListAt (schemaOf t) (posOf t at) d (posOf t (at + 1))
     list-at =
-        subst (λ (y : ℕ). ListAt (schemaOf t) (posOf t at) d y) (sym (r .entry .child (λ z. omega arith)))
-        (place-li (schemaOf t) (posOf t at) d (r .asked .stands .typed) (placeIn w) (r .entry .place) (sym (r .place-is) ∙ q))
+        subst (λ (y : ℕ). ListAt (schemaOf t) (posOf t at) d y) (sym (e .child (λ z. omega arith)))
+        (place-li (schemaOf t) (posOf t at) d (r .stands .typed) (placeIn w) (e .place) (sym ek ∙ q))
 
     abbrev el : Ty
     el = tyAt t (at + 1) (d - 1)
 
     list-holds : Holds (li el) b
-    list-holds = rw (list-at .whole) at (r .asked .holds)
+    list-holds = rw (list-at .whole) at (r .holds)
 
     pub list-head : 0 + 8 ≤ length b
     list-head = omega (arith, list-says el _ b (list-holds .lays) (omega (arith, list-holds .small)) .room)
@@ -88,16 +87,16 @@ module _ {t : List ℕ} {at d : ℕ} {b : List ℕ} {pos w k m : ℕ} (r : Value
     module _ {n : ℕ} (g : Reads b 0 8 n) where
       list-is : (markAt (placeIn w) ++ le 4 n) ++ itemLines el b ≡ lines (tyAt t at d) b
       list-is =
-          rw (sym (r .place-is) ∙ q, list-at .whole)
+          rw (sym ek ∙ q, list-at .whole)
           (list-lines el b n (g .is ∙ list-says el _ b (list-holds .lays) (omega (arith, list-holds .small)) .count))
 
       module _ {out o : List ℕ} {p : ℕ} (f : Written out pos (markAt (placeIn w) ++ le 4 n) o p) where
         pub list-elements : Elements t (at + 1) (d - 1) b p
         list-elements = record {
-          stands = record { table = r .asked .stands .table; typed = list-at .element };
+          stands = record { table = r .stands .table; typed = list-at .element };
           items = record {
             holds = list-holds;
-            room = omega (arith, f .past, length-append (markAt (placeIn w) ++ le 4 n) (itemLines el b), ap length list-is, r .asked .room);
+            room = omega (arith, f .past, length-append (markAt (placeIn w) ++ le 4 n) (itemLines el b), ap length list-is, r .room);
           };
         }
 
@@ -107,13 +106,13 @@ module _ {t : List ℕ} {at d : ℕ} {b : List ℕ} {pos w k m : ℕ} (r : Value
   -- ---- a map
 
   pub map-pair : k ≡ 10 → Pair t at d b pos
-  map-pair q = record { container = r .asked; map = sym (r .entry .place) ∙ sym (r .place-is) ∙ q }
+  map-pair q = record { container = r; map = sym (e .place) ∙ sym ek ∙ q }
 
   -- ---- a struct, which is what is left
 
   module _ (n9 : k ≡ 9 → ⊥) (n10 : k ≡ 10 → ⊥) where
     eleven : placeIn w ≡ 11
-    eleven = go k (r .place-is) n9 n10 (rw (← r .entry .place, ← r .place-is) at (r .asked .high)) (rw (← r .place-is) at (r .entry .lined .few))
+    eleven = go k ek n9 n10 (rw (← e .place, ← ek) at (r .high)) (rw (← ek) at (e .lined .few))
       where
         go : (j : ℕ) → j ≡ placeIn w → (j ≡ 9 → ⊥) → (j ≡ 10 → ⊥) → 9 ≤ j → j < 12 → placeIn w ≡ 11
         go j ej a b l m = omega arith
@@ -121,8 +120,8 @@ module _ {t : List ℕ} {at d : ℕ} {b : List ℕ} {pos w k m : ℕ} (r : Value
     module _ {n : ℕ} (en : n ≡ countIn w) where
       struct-at : StructAt (schemaOf t) (posOf t at) d (posOf t (at + 1)) n
       struct-at =
-          subst (λ (y : ℕ). StructAt (schemaOf t) (posOf t at) d y n) (sym (r .entry .first eleven))
-          (place-ro (schemaOf t) (posOf t at) d (r .asked .stands .typed) (placeIn w) (r .entry .place) eleven n (en ∙ r .entry .count eleven))
+          subst (λ (y : ℕ). StructAt (schemaOf t) (posOf t at) d y n) (sym (e .first eleven))
+          (place-ro (schemaOf t) (posOf t at) d (r .stands .typed) (placeIn w) (e .place) eleven n (en ∙ e .count eleven))
 
       abbrev ts : Tys
       ts = tysAt t (at + 1) (d - 1) n
@@ -133,11 +132,11 @@ module _ {t : List ℕ} {at d : ℕ} {b : List ℕ} {pos w k m : ℕ} (r : Value
       module _ {out o : List ℕ} {p : ℕ} (f : Written out pos (markAt (placeIn w)) o p) where
         pub struct-fields : Fields t (at + 1) n (d - 1) b p
         struct-fields = record {
-          table = r .asked .stands .table;
+          table = r .stands .table;
           typed = struct-at .fields;
           high = struct-at .high;
-          holds = rw (struct-at .whole) at (r .asked .holds);
-          room = omega (arith, f .past, length-append (markAt (placeIn w)) (fieldLines ts b), ap length struct-is, r .asked .room);
+          holds = rw (struct-at .whole) at (r .holds);
+          room = omega (arith, f .past, length-append (markAt (placeIn w)) (fieldLines ts b), ap length struct-is, r .room);
         }
 
         pub struct-written : {o′ : List ℕ} {p′ : ℕ} → Written o p (fieldLines ts b) o′ p′ → Written out pos (lines (tyAt t at d) b) o′ p′
@@ -157,71 +156,71 @@ module _ {t : List ℕ} {at d : ℕ} {b : List ℕ} {pos : ℕ} (r : Pair t at d
   pub keys-stand : Stands t (at + 1) (d - 1)
   keys-stand = record { table = r .container .stands .table; typed = map-at .keys }
 
--- v is the place of the values' type, and m the measure
-pub record MapKnown (t : List ℕ) (at d : ℕ) (b : List ℕ) (pos w w₁ v m : ℕ) : Type 0 where
-  pub rank : d * 3 + 1 ≡ m
-  pub asked : Pair t at d b pos
-  pub entry : EntryAt t at d w
-  pub keys : EntryAt t (at + 1) (d - 1) w₁
-  pub values : v ≡ afterIn w₁
-
-module _ {t : List ℕ} {at d : ℕ} {b : List ℕ} {pos w w₁ v m : ℕ} (k : MapKnown t at d b pos w w₁ v m) where
-  abbrev r₀ : Pair t at d b pos
-  r₀ = k .asked
-
-  pub map-falls : (d - 1) * 3 + 3 < m
-  map-falls = omega (arith, k .rank, value-deep (r₀ .container))
-
-  pub map-mark : (Lined w) × (pos ≤ 65536)
-  map-mark = (k .entry .lined, value-room (r₀ .container))
-
-  values-at : posOf t v ≡ nextAt (schemaOf t) (posOf t (at + 1)) (d - 1)
-  values-at = ap (posOf t) (k .values) ∙ k .keys .next
-
   abbrev tk : Ty
   tk = tyAt t (at + 1) (d - 1)
 
-  abbrev tv : Ty
-  tv = tyAt t v (d - 1)
+  pair-holds : Holds (ma tk (typeAt (schemaOf t) (nextAt (schemaOf t) x (d - 1)) (d - 1))) b
+  pair-holds = rw (map-at .whole) at (r .container .holds)
 
-  whole : tyAt t at d ≡ ma tk tv
-  whole = map-at r₀ (k .entry) .whole ∙ ap (λ (y : ℕ). ma tk (typeAt (schemaOf t) y (d - 1))) (sym values-at)
+  pub map-size-in : 0 + 8 ≤ length b
+  map-size-in = size-in pair-holds
 
-  pub map-holds : Holds (ma tk tv) b
-  map-holds = rw whole at (r₀ .container .holds)
+  pub map-count-in : 8 + 8 ≤ length b
+  map-count-in = count-in pair-holds
 
-  values-stand : Stands t v (d - 1)
-  values-stand = record {
-    table = r₀ .container .stands .table;
-    typed = subst (λ (y : ℕ). Typed (schemaOf t) y (d - 1)) (sym values-at) (map-at r₀ (k .entry) .values);
-  }
+  module _ {K : ℕ} (gK : Reads b 0 8 K) where
+    pub map-fits : 8 + K ≤ length b
+    map-fits = keys-fit pair-holds gK
 
-  module _ {K n : ℕ} (gK : Reads b 0 8 K) (gn : Reads b 8 8 n) {out o : List ℕ} {p : ℕ}
-      (f : Written out pos (markAt (placeIn w) ++ le 4 n) o p) where
-    abbrev us : List ℕ
-    us = take (8 + K - 8) (drop 8 b)
+    pub map-end : Fits w64 (8 + K)
+    map-end = keys-end pair-holds gK
 
-    abbrev vs : List ℕ
-    vs = take (length b - (8 + K)) (drop (8 + K) b)
+  -- v is the place of the values' type
+  module _ {w₁ v : ℕ} (e₁ : EntryAt t (at + 1) (d - 1) w₁) (ev : v ≡ afterIn w₁) where
+    values-at : posOf t v ≡ nextAt (schemaOf t) (posOf t (at + 1)) (d - 1)
+    values-at = ap (posOf t) ev ∙ e₁ .next
 
-    f₁₀ : Written out pos (markAt 10 ++ le 4 n) o p
-    f₁₀ = rw (k .entry .place ∙ r₀ .map) at f
+    abbrev tv : Ty
+    tv = tyAt t v (d - 1)
 
-    room : pos + length (lines (ma tk tv) b) ≤ 65536
-    room = rw whole at (r₀ .container .room)
+    whole : tyAt t at d ≡ ma tk tv
+    whole = map-at .whole ∙ ap (λ (y : ℕ). ma tk (typeAt (schemaOf t) y (d - 1))) (sym values-at)
 
-    pub map-keys : Elements t (at + 1) (d - 1) us p
-    map-keys = record {
-      stands = keys-stand r₀ (k .entry);
-      items = record { holds = keys-hold map-holds gK; room = omega (arith, f₁₀ .past, map-lengths map-holds gK gn, room) };
+    map-holds : Holds (ma tk tv) b
+    map-holds = rw whole at (r .container .holds)
+
+    values-stand : Stands t v (d - 1)
+    values-stand = record {
+      table = r .container .stands .table;
+      typed = subst (λ (y : ℕ). Typed (schemaOf t) y (d - 1)) (sym values-at) (map-at .values);
     }
 
-    module _ {o₁ : List ℕ} {q : ℕ} (g : Written o p (itemLines tk us) o₁ q) where
-      pub map-values : Elements t v (d - 1) vs q
-      map-values = record {
-        stands = values-stand;
-        items = record { holds = values-hold map-holds gK; room = omega (arith, f₁₀ .past, g .past, map-lengths map-holds gK gn, room) };
+    module _ {K n : ℕ} (gK : Reads b 0 8 K) (gn : Reads b 8 8 n) {out o : List ℕ} {p : ℕ}
+        (f : Written out pos (markAt (placeIn w) ++ le 4 n) o p) where
+      abbrev us : List ℕ
+      us = take (8 + K - 8) (drop 8 b)
+
+      abbrev vs : List ℕ
+      vs = take (length b - (8 + K)) (drop (8 + K) b)
+
+      f₁₀ : Written out pos (markAt 10 ++ le 4 n) o p
+      f₁₀ = rw (e .place ∙ r .map) at f
+
+      room : pos + length (lines (ma tk tv) b) ≤ 65536
+      room = rw whole at (r .container .room)
+
+      pub map-keys : Elements t (at + 1) (d - 1) us p
+      map-keys = record {
+        stands = keys-stand;
+        items = record { holds = keys-hold map-holds gK; room = omega (arith, f₁₀ .past, map-lengths map-holds gK gn, room) };
       }
 
-      pub map-written : {o₂ : List ℕ} {q′ : ℕ} → Written o₁ q (itemLines tv vs) o₂ q′ → Written out pos (lines (tyAt t at d) b) o₂ q′
-      map-written h = rw whole (same-bytes (map-is map-holds gK gn) (and-then f₁₀ (and-then g h)))
+      module _ {o₁ : List ℕ} {q : ℕ} (g : Written o p (itemLines tk us) o₁ q) where
+        pub map-values : Elements t v (d - 1) vs q
+        map-values = record {
+          stands = values-stand;
+          items = record { holds = values-hold map-holds gK; room = omega (arith, f₁₀ .past, g .past, map-lengths map-holds gK gn, room) };
+        }
+
+        pub map-written : {o₂ : List ℕ} {q′ : ℕ} → Written o₁ q (itemLines tv vs) o₂ q′ → Written out pos (lines (tyAt t at d) b) o₂ q′
+        map-written h = rw whole (same-bytes (map-is map-holds gK gn) (and-then f₁₀ (and-then g h)))

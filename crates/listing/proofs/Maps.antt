@@ -73,21 +73,21 @@ module _ {tk tv : Ty} {b : List ℕ} (r : Holds (ma tk tv) b) where
       let h = halves (num (part b 0 8)) refl in
       omega (arith, h .size, list-says tk (partOf 0 c) keysOf (h .keys) (omega (arith, h .size)) .room)
 
-  pub map-size-in : 0 + 8 ≤ length b
-  map-size-in = omega (arith, head)
+  pub size-in : 0 + 8 ≤ length b
+  size-in = omega (arith, head)
 
-  pub map-count-in : 8 + 8 ≤ length b
-  map-count-in = omega (arith, head)
+  pub count-in : 8 + 8 ≤ length b
+  count-in = omega (arith, head)
 
   module _ {K : ℕ} (gK : Reads b 0 8 K) where
     abbrev h : Halves tk tv b K keysOf valuesOf
     h = halves K (gK .is)
 
-    pub map-fits : 8 + K ≤ length b
-    map-fits = omega (arith, h .size, h .long)
+    pub keys-fit : 8 + K ≤ length b
+    keys-fit = omega (arith, h .size, h .long)
 
-    pub map-end : Fits w64 (8 + K)
-    map-end = omega (arith, map-fits, r .small)
+    pub keys-end : Fits w64 (8 + K)
+    keys-end = omega (arith, keys-fit, r .small)
 
     abbrev us : List ℕ
     us = take (8 + K - 8) (drop 8 b)

@@ -189,64 +189,46 @@ module _ {t : List ℕ} {first n d : ℕ} {b : List ℕ} {pos at i slot : ℕ} {
       going = going-next (a .going) noScript (leaf []) in-scripts in-parts _ item-is f;
     }
 
--- a turn of the loop: w is the field's entry, x its bit, and m the measure
-pub record FieldTurn (t : List ℕ) (first n d : ℕ) (b : List ℕ) (pos at i slot : ℕ) (out₀ out : List ℕ) (p w : ℕ) (x : Bool) (m : ℕ) : Type 0 where
-  pub rank : d * 3 + 3 ≡ m
-  pub inv : AtField t first n d b pos at i slot out₀ out p
-  pub test : i < n
-  pub entry : EntryAt t at d w
-  pub bit-is : x ≡ bit b 0 i
+    pub field-null-room : p ≤ 65536
+    field-null-room = seat-room field-seat
 
-module _ {t : List ℕ} {first n d : ℕ} {b : List ℕ} {pos at i slot : ℕ} {out₀ out : List ℕ} {p w : ℕ} {x : Bool} {m : ℕ}
-    (T : FieldTurn t first n d b pos at i slot out₀ out p w x m) where
-  pub field-falls : d * 3 + 2 < m
-  field-falls = omega (arith, T .rank)
+    -- w is its entry, and x its bit
+    module _ {w : ℕ} (e : EntryAt t at d w) {x : Bool} (ex : x ≡ bit b 0 i) where
+      -- what was written for it is out′ and p′ where the branches meet
+      module _ {at′ : ℕ} (ea : at′ ≡ afterIn w) {o out′ : List ℕ} {q p′ : ℕ} (eo : out′ ≡ o) (ep : p′ ≡ q) where
+        abbrev Next : Type 0
+        Next = AtField t first n d b pos at′ (i + 1) (slot + 8) out₀ out′ p′
 
-  seat : Seated (tyAt t at d) b 0 i slot p
-  seat = field-seat (T .inv) (T .test)
+        step : Written out p (childLines T b 0 i slot) o q → Next
+        step f = fields-on (ap (posOf t) ea ∙ e .next) (met f eo ep)
 
-  stands : Stands t at d
-  stands = field-stands (T .inv) (T .test)
+        pub field-null : x ≡ true → Written out p nu o q → Next
+        field-null f g = step (seat-null field-seat ex f g)
 
-  pub field-null-room : p ≤ 65536
-  field-null-room = seat-room seat
+        own : x ≡ false → Written out p (ownLines T b slot) o q → Next
+        own f g = step (seat-own field-seat ex f g)
 
-  -- what was written for it is out′ and p′ where the branches meet
-  module _ {at′ : ℕ} (ea : at′ ≡ afterIn w) {o out′ : List ℕ} {q p′ : ℕ} (eo : out′ ≡ o) (ep : p′ ≡ q) where
-    abbrev Next : Type 0
-    Next = AtField t first n d b pos at′ (i + 1) (slot + 8) out₀ out′ p′
+      -- k is the place of its type in the table of types
+      module _ (f : x ≡ false) {k : ℕ} (ek : k ≡ placeIn w) where
+        present : Present T b slot p
+        present = seat-there field-seat ex f
 
-    step : Written out p (childLines (tyAt t at d) b 0 i slot) o q → Next
-    step f =
-        fields-on (T .inv) (T .test) (ap (posOf t) ea ∙ T .entry .next) (met f eo ep)
+        module _ (low : k < 9) where
+          pub field-is-leaf : Leaf w b slot p
+          field-is-leaf = entry-leaf field-stands e present ek low
 
-    pub field-null : x ≡ true → Written out p nu o q → Next
-    field-null f g = step (seat-null seat (T .bit-is) f g)
+          pub field-leaf : {at′ : ℕ} → at′ ≡ afterIn w → {o out′ : List ℕ} {q p′ : ℕ} → out′ ≡ o → p′ ≡ q
+              → Written out p (ownLines (leafAt (placeIn w)) b slot) o q → AtField t first n d b pos at′ (i + 1) (slot + 8) out₀ out′ p′
+          field-leaf ea eo ep g = own ea eo ep f (same-bytes (entry-leaf-lines field-stands e present ek low) g)
 
-    own : x ≡ false → Written out p (ownLines (tyAt t at d) b slot) o q → Next
-    own f g = step (seat-own seat (T .bit-is) f g)
+        module _ (high : 9 ≤ k) where
+          pub field-elsewhere : Elsewhere b slot
+          field-elsewhere = entry-elsewhere field-stands e present ek high
 
-  -- k is the place of its type in the table of types
-  module _ (f : x ≡ false) {k : ℕ} (ek : k ≡ placeIn w) where
-    present : Present (tyAt t at d) b slot p
-    present = seat-there seat (T .bit-is) f
+          module _ {u : List ℕ} (eu : u ≡ ownBytes none b slot) where
+            pub field-container : Container t at d u p
+            field-container = entry-container field-stands e present ek high eu
 
-    module _ (l : k < 9) where
-      pub field-is-leaf : Leaf w b slot p
-      field-is-leaf = entry-leaf stands (T .entry) present ek l
-
-      pub field-leaf : {at′ : ℕ} → at′ ≡ afterIn w → {o out′ : List ℕ} {q p′ : ℕ} → out′ ≡ o → p′ ≡ q
-          → Written out p (ownLines (leafAt (placeIn w)) b slot) o q → AtField t first n d b pos at′ (i + 1) (slot + 8) out₀ out′ p′
-      field-leaf ea eo ep g = own ea eo ep f (same-bytes (entry-leaf-lines stands (T .entry) present ek l) g)
-
-    module _ (l : 9 ≤ k) where
-      pub field-elsewhere : Elsewhere b slot
-      field-elsewhere = entry-elsewhere stands (T .entry) present ek l
-
-      module _ {u : List ℕ} (eu : u ≡ ownBytes none b slot) where
-        pub field-container : Container t at d u p
-        field-container = entry-container stands (T .entry) present ek l eu
-
-        pub field-value : {at′ : ℕ} → at′ ≡ afterIn w → {o out′ : List ℕ} {q p′ : ℕ} → out′ ≡ o → p′ ≡ q
-            → Written out p (lines (tyAt t at d) u) o q → AtField t first n d b pos at′ (i + 1) (slot + 8) out₀ out′ p′
-        field-value ea eo ep g = own ea eo ep f (same-bytes (entry-lines stands (T .entry) present ek l eu) g)
+            pub field-value : {at′ : ℕ} → at′ ≡ afterIn w → {o out′ : List ℕ} {q p′ : ℕ} → out′ ≡ o → p′ ≡ q
+                → Written out p (lines T u) o q → AtField t first n d b pos at′ (i + 1) (slot + 8) out₀ out′ p′
+            field-value ea eo ep g = own ea eo ep f (same-bytes (entry-lines field-stands e present ek high eu) g)

@@ -3,10 +3,9 @@ use mathlib.Core.Logic.{⊎-elim}
 use Prim.Native.Nat.{_-_}
 use Rattle.table.specs.Words.{placeIn}
 use Rattle.listing.specs.Room.{leafAt, Leaves}
-use Rattle.listing.proofs.Seats.{seat-room}
-use Rattle.listing.proofs.Children.{AtItem, items-head, list-few, list-first, items-start, item-seat, item-more, item-on, item-less}
+use Rattle.listing.proofs.Children.{AtItem, items-head, item-seat, item-null-room, item-more, item-on, item-less}
 use Rattle.listing.proofs.Children.{items-null, items-own, items-kept, items-end}
-use Rattle.listing.proofs.Items.{leaves-counted, leaves-leaf}
+use Rattle.listing.proofs.Items.{leaves-few, leaves-first, leaves-start, leaves-leaf}
 use Rattle.listing.proofs.list_leaves.Statement.{statement}
 use Rattle.listing.proofs.list_leaves.Tie as tie
 
@@ -17,45 +16,37 @@ abbrev μ-loop : tie.MeasureT-loop
 μ-loop w b out₀ pos n wide i₀ slot₀ p₀ out i slot p = n - i
 
 get8-requires : tie.Need-get8-requires Inv-loop μ-loop
-get8-requires c κs = items-head (c .before .before .pre .items)
+get8-requires c κs = search items-head
 
 element-width-requires : tie.Need-element-width-requires Inv-loop μ-loop
-element-width-requires c κs = c .before .before .before .pre .lined
+element-width-requires c κs = search
 
 bitmap-size-requires : tie.Need-bitmap-size-requires Inv-loop μ-loop
-bitmap-size-requires c κs = list-few (leaves-counted (c .before .before .before .before .pre) (c .before .get8 .ensures) (c .element-width .ensures))
+bitmap-size-requires c κs = search leaves-few
 
 add-slot : tie.Need-add-slot Inv-loop μ-loop
-add-slot c =
-    let e = c .before .before in
-    list-first (leaves-counted (e .before .before .before .pre) (e .get8 .ensures) (c .before .element-width .ensures)) (c .bitmap-size .ensures)
+add-slot c = search leaves-first
 
 loop-holds : tie.Need-loop-holds Inv-loop μ-loop
-loop-holds c =
-    let e = c .before .before in
-    let f = e .before .before .before in
-    (f .pre, items-start (leaves-counted (f .pre) (e .get8 .ensures) (c .before .element-width .ensures)) (c .bitmap-size .ensures) _)
+loop-holds c = search leaves-start
 
 is-null-requires : tie.Need-is-null-requires Inv-loop μ-loop
 is-null-requires c κs = item-seat (c .before .loop .inv .1) (c .loop-test .taken) .bit-room
 
 put-null-requires : tie.Need-put-null-requires Inv-loop μ-loop
-put-null-requires c κs = let e = c .before .before .before in seat-room (item-seat (e .before .loop .inv .1) (e .loop-test .taken))
+put-null-requires c κs = search item-null-room
 
 put-leaf-requires : tie.Need-put-leaf-requires Inv-loop μ-loop
-put-leaf-requires c κs =
-    let e = c .before .before in
-    let f = e .before .before in
-    leaves-leaf (f .loop .inv .0) (f .loop .inv .1) (e .before .loop-test .taken) (e .is-null .ensures) (c .before .if1 .left)
+put-leaf-requires c κs = search leaves-leaf
 
 add-slot-2 : tie.Need-add-slot-2 Inv-loop μ-loop
-add-slot-2 c = let e = c .before .before in item-more (e .before .loop .inv .1) (e .loop-test .taken)
+add-slot-2 c = search item-more
 
 add-i : tie.Need-add-i Inv-loop μ-loop
-add-i c = let e = c .before .before in item-on (e .before .loop .inv .1) (e .loop-test .taken)
+add-i c = search item-on
 
 loop-less : tie.Need-loop-less Inv-loop μ-loop
-loop-less c = let e = c .before .before in item-less (e .before .loop .inv .1) (e .loop-test .taken)
+loop-less c = search item-less
 
 loop-again : tie.Need-loop-again Inv-loop μ-loop
 loop-again c =
@@ -67,10 +58,10 @@ loop-again c =
     (c .if1 .came)
 
 same-length : tie.Need-same-length Inv-loop μ-loop
-same-length c = items-kept (c .before .loop .inv .1)
+same-length c = search items-kept
 
 returns : tie.Need-returns Inv-loop μ-loop
-returns c = items-end (c .before .loop .inv .1) (c .loop-test .left)
+returns c = search items-end
 
 pub list-leaves-spec : {M : Type 1} → statement M
 list-leaves-spec =

@@ -14,7 +14,7 @@ add-end-2 : tie.Need-add-end-2
 add-end-2 c = search needs
 
 returns : tie.Need-returns
-returns c = number-none (c .before .before .before .before .pre) (c .before .width .ensures) _ (c .if1 .taken)
+returns c = search number-none
 
 put-mark-requires : tie.Need-put-mark-requires
 put-mark-requires c κs = search needs
@@ -23,89 +23,49 @@ get8-requires : tie.Need-get8-requires
 get8-requires c κs = search needs
 
 put8-requires : tie.Need-put8-requires
-put8-requires c κs =
-    let e = c .before .before in
-    let f = e .before .before .before in
-    let g = f .before .before in
-    number-fits (g .before .before .before .before .pre) (g .before .width .ensures) (f .put-mark .ensures) (g .if1 .left) (e .if2 .taken)
+put8-requires c κs = search number-fits
 
 same-length : tie.Need-same-length
 same-length c = search needs
 
 returns-2 : tie.Need-returns-2
-returns-2 c =
-    let e = c .before .before in
-    let f = e .before .before .before in
-    let g = f .before .before .before in
-    let h = g .before .before .before in
-    number-le (h .before .before .before .pre) (h .width .ensures) (g .put-mark .ensures) 8 _ _ (f .if2 .taken) (e .before .get8 .ensures) (e .put8 .ensures)
+returns-2 c = search number-le
 
 get4-requires : tie.Need-get4-requires
 get4-requires c κs = search needs
 
 put4-requires : tie.Need-put4-requires
-put4-requires c κs =
-    let e = c .before .before in
-    let f = e .before .before .before .before in
-    let g = f .before .before in
-    number-fits (g .before .before .before .before .pre) (g .before .width .ensures) (f .put-mark .ensures) (g .if1 .left) (e .if3 .taken)
+put4-requires c κs = search number-fits
 
 same-length-2 : tie.Need-same-length-2
 same-length-2 c = search needs
 
 returns-3 : tie.Need-returns-3
-returns-3 c =
-    let e = c .before .before in
-    let f = e .before .before .before in
-    let g = f .before .before .before .before in
-    let h = g .before .before .before in
-    number-le (h .before .before .before .pre) (h .width .ensures) (g .put-mark .ensures) 4 _ _ (f .if3 .taken) (e .before .get4 .ensures) (e .put4 .ensures)
+returns-3 c = search number-le
 
 get2-requires : tie.Need-get2-requires
 get2-requires c κs = search needs
 
 put2-requires : tie.Need-put2-requires
-put2-requires c κs =
-    let e = c .before .before in
-    let f = e .before .before .before .before .before in
-    let g = f .before .before in
-    number-fits (g .before .before .before .before .pre) (g .before .width .ensures) (f .put-mark .ensures) (g .if1 .left) (e .if4 .taken)
+put2-requires c κs = search number-fits
 
 same-length-3 : tie.Need-same-length-3
 same-length-3 c = search needs
 
 returns-4 : tie.Need-returns-4
-returns-4 c =
-    let e = c .before .before in
-    let f = e .before .before .before in
-    let g = f .before .before .before .before .before in
-    let h = g .before .before .before in
-    number-le (h .before .before .before .pre) (h .width .ensures) (g .put-mark .ensures) 2 _ _ (f .if4 .taken) (e .before .get2 .ensures) (e .put2 .ensures)
+returns-4 c = search number-le
 
 shared-slice-read-out : tie.Need-shared-slice-read-out
-shared-slice-read-out c =
-    let e = c .before .before in
-    let f = e .before .before .before .before in
-    let g = f .before .before .before in
-    number-in (g .before .before .before .pre) (g .width .ensures) (f .put-mark .ensures) (e .before .if2 .left) (e .if3 .left) (c .before .if4 .left)
+shared-slice-read-out c = search number-in
 
 slice-write-out : tie.Need-slice-write-out
-slice-write-out c =
-    let e = c .before .before in
-    let f = e .before .before .before .before in
-    let g = f .before .before in
-    number-write (g .before .before .before .before .pre) (g .before .width .ensures) (f .put-mark .ensures) (e .before .if2 .left) (e .if3 .left)
-    (c .before .if4 .left) (g .if1 .left)
+slice-write-out c = search number-write
 
 same-length-4 : tie.Need-same-length-4
 same-length-4 c = search needs
 
 returns-5 : tie.Need-returns-5
-returns-5 c =
-    let e = c .before .before in
-    let f = e .before .before .before .before in
-    let g = f .before .before .before in
-    number-byte (g .before .before .before .pre) (g .width .ensures) (f .put-mark .ensures) (e .before .if2 .left) (e .if3 .left) (c .before .if4 .left)
+returns-5 c = search number-byte
 
 pub put-number-spec : {M : Type 1} → statement M
 put-number-spec =
