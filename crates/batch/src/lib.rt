@@ -98,7 +98,7 @@ fn check_rows(t: &[u64], batch: &[u8]) -> Checked
             return Checked::Refused(Refusal::Batch);
         }
         let start = at + 4;
-        match row::engine::check(t, &batch[start..end]) {
+        match engine::check(t, &batch[start..end]) {
             Outcome::Done => {}
             Outcome::Refused(r) => {
                 return refuse_row(batch, end, n, r);

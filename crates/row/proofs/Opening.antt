@@ -4,9 +4,10 @@ use mathlib.Core.List.{List}
 use Prim.Native.Nat.{ℕ}
 use lib.ListN.{take}
 use Rattle.schema.specs.Reading.{judged}
-use Rattle.schema.specs.declared.Judged.the-variants.{Refused}
+use Rattle.schema.specs.declared.Judged.the-variants.{Accepted, Refused}
+use Rattle.layout.specs.Refusals.{numbered}
 use Rattle.layout.specs.Setting.{Setting}
-use Rattle.layout.specs.Entries.{Verdict, checkOf, readOf, setOf, writeOf, writtenOf}
+use Rattle.layout.specs.Entries.{Verdict, done, refused, judgeOf, checkOf, readOf, setOf, writeOf, writtenOf, listOf, listedOf}
 use Rattle.answers.specs.declared.Answer.{Answer}
 use Rattle.answers.specs.declared.Answer.the-variants as A
 use Rattle.answers.specs.declared.Refusal.the-variants as F
@@ -17,7 +18,13 @@ use Rattle.table.specs.Tables.{schemaOf}
 use Rattle.table.proofs.Got.{Got}
 use Rattle.reading.specs.Texts.{Reads}
 use Rattle.setting.specs.Writes.{SetAs}
-use Rattle.row.specs.Outcomes.{WritesTo, ListsTo}
+use Rattle.engine.specs.Lists.{ListsTo}
+use Rattle.row.specs.Outcomes.{WritesTo}
+
+-- a schema that is accepted
+pub judge-yes : (s : List ℕ) → judged s ≡ Accepted → done ≡ judgeOf s
+unfolding judgeOf
+judge-yes s e = rw e
 
 -- what an entry does by the table that was built is what it does with the schema
 module _ {s : List ℕ} {n : ℕ} {T : List ℕ} (g : Got s n T) where
@@ -39,9 +46,21 @@ module _ {s : List ℕ} {n : ℕ} {T : List ℕ} (g : Got s n T) where
 
 -- an entry whose schema is refused
 module _ (s : List ℕ) (e : judged s ≡ Refused) where
+  pub judge-no : refused (numbered 1) ≡ judgeOf s
+  unfolding judgeOf
+  judge-no = rw e
+
+  pub check-no : (row : List ℕ) → refused (numbered 1) ≡ checkOf s row
+  unfolding checkOf
+  check-no row = rw e
+
   pub write-no : (l out : List ℕ) → WritesTo s l out (L.Refused F.Schema) out
   unfolding writeOf writtenOf
   write-no l out = record { answers = rw e; leaves = rw e }
+
+  pub list-no : (row out : List ℕ) → ListsTo s row out (L.Refused F.Schema) out
+  unfolding listOf listedOf
+  list-no row out = record { answers = rw e; leaves = rw e }
 
   pub read-no : (row p : List ℕ) → Reads s row p (A.Refused F.Schema)
   unfolding readOf

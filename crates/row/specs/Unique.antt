@@ -12,8 +12,9 @@ use Rattle.answers.specs.declared.Answer.{Answer}
 use Rattle.answers.specs.Meaning.{outcomeMeans, meaning}
 use Rattle.reading.specs.Texts.{TextOf}
 use Rattle.setting.specs.Writes.{SetAs}
+use Rattle.engine.specs.Lists.{ListsTo}
 use Rattle.row.specs.declared.Opened.{Opened}
-use Rattle.row.specs.Outcomes.{WritesTo, ListsTo}
+use Rattle.row.specs.Outcomes.{WritesTo}
 
 -- an answer, and what the lent bytes hold after
 pub record Same {A : Type 0} (r r′ : A) (b b′ : List ℕ) : Type 0 where

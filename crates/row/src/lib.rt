@@ -7,16 +7,15 @@ ghost use Rattle.layout.specs.Entries.{judgeOf, checkOf, readOf, setOf};
 ghost use Rattle.answers.specs.Meaning.{outcomeMeans, meaning, settingOf};
 ghost use Rattle.answers.specs.Paths.{pathOf};
 ghost use Rattle.reading.specs.Texts.{Reads, TextOf};
-ghost use Rattle.row.specs.Outcomes.{ListsTo, WritesTo};
 ghost use Rattle.setting.specs.Writes.{SetAs};
+ghost use Rattle.engine.specs.Lists.{ListsTo};
+ghost use Rattle.row.specs.Outcomes.{WritesTo};
 use answers::Answer;
 use answers::Length;
 use answers::Outcome;
 use answers::Path;
 use answers::Refusal;
 use answers::Setting;
-
-pub mod engine;
 
 fn judge_in(schema: &[u8], room: &mut [u64]) -> Outcome
     requires { ⌜ length (now schema) ≤ 2 * length (now room) ⌝ }

@@ -1,5 +1,5 @@
 -- `row::check` meets its contract. Assumes nothing.
-use Rattle.row.proofs.Orders.{check-no}
+use Rattle.row.proofs.Opening.{check-no}
 use Rattle.schema.proofs.Judging.{judged-long}
 use borrow.Author.Needs.{needs}
 use Rattle.row.proofs.check.Statement.{statement}
@@ -24,7 +24,7 @@ returns-2 : tie.Need-returns-2
 returns-2 c = search needs
 
 returns-3 : tie.Need-returns-3
-returns-3 c = check-no _ _ (judged-long _ (c .if3 .taken))
+returns-3 c = search (check-no, judged-long)
 
 slice-aggregate-check-in-3 : tie.Need-slice-aggregate-check-in-3
 slice-aggregate-check-in-3 c = search needs

@@ -1,6 +1,5 @@
 -- `row::check_in` meets its contract. Assumes nothing.
-use Rattle.row.proofs.Opening.{check-by}
-use Rattle.row.proofs.Orders.{check-no}
+use Rattle.row.proofs.Opening.{check-by, check-no}
 use Rattle.table.proofs.Got.{got, none}
 use borrow.Author.Needs.{needs}
 use Rattle.row.proofs.check_in.Statement.{statement}
@@ -13,7 +12,7 @@ same-length : tie.Need-same-length
 same-length c = search needs
 
 returns : tie.Need-returns
-returns c = check-no _ _ (none (c .before .before .before .build .ensures) (c .if1 .taken))
+returns c = search (check-no, none)
 
 slice-reshare-prefix-check : tie.Need-slice-reshare-prefix-check
 slice-reshare-prefix-check c = got (c .before .before .before .build .ensures) (c .if1 .left) .room
@@ -28,7 +27,7 @@ same-length-2 : tie.Need-same-length-2
 same-length-2 c = search needs
 
 returns-2 : tie.Need-returns-2
-returns-2 c = check-by (got (c .before .before .before .before .before .build .ensures) (c .before .before .if1 .left)) _ (c .check .ensures)
+returns-2 c = search (check-by, got)
 
 pub check-in-spec : {M : Type 1} → statement M
 check-in-spec =

@@ -1,5 +1,5 @@
 -- `row::judge` meets its contract. Assumes nothing.
-use Rattle.row.proofs.Orders.{judge-no}
+use Rattle.row.proofs.Opening.{judge-no}
 use Rattle.schema.proofs.Judging.{judged-long}
 use borrow.Author.Needs.{needs}
 use Rattle.row.proofs.judge.Statement.{statement}
@@ -24,7 +24,7 @@ returns-2 : tie.Need-returns-2
 returns-2 c = search needs
 
 returns-3 : tie.Need-returns-3
-returns-3 c = judge-no _ (judged-long _ (c .if3 .taken))
+returns-3 c = search (judge-no, judged-long)
 
 slice-aggregate-judge-in-3 : tie.Need-slice-aggregate-judge-in-3
 slice-aggregate-judge-in-3 c = search needs

@@ -1,5 +1,5 @@
 -- `row::judge_in` meets its contract. Assumes nothing.
-use Rattle.row.proofs.Orders.{judge-no, judge-yes}
+use Rattle.row.proofs.Opening.{judge-no, judge-yes}
 use Rattle.table.proofs.Got.{got, none}
 use borrow.Author.Needs.{needs}
 use Rattle.row.proofs.judge_in.Statement.{statement}
@@ -12,7 +12,7 @@ same-length : tie.Need-same-length
 same-length c = search needs
 
 returns : tie.Need-returns
-returns c = judge-no _ (none (c .before .before .before .build .ensures) (c .if1 .taken))
+returns c = search (judge-no, none)
 
 same-length-2 : tie.Need-same-length-2
 same-length-2 c = search needs

@@ -1,5 +1,5 @@
 -- `row::list` meets its contract. Assumes nothing.
-use Rattle.row.proofs.Listings.{list-no}
+use Rattle.row.proofs.Opening.{list-no}
 use Rattle.schema.proofs.Judging.{judged-long}
 use borrow.Author.Needs.{needs}
 use Rattle.row.proofs.list.Statement.{statement}
@@ -30,7 +30,7 @@ returns-2 : tie.Need-returns-2
 returns-2 c = search needs
 
 returns-3 : tie.Need-returns-3
-returns-3 c = list-no _ _ _ (judged-long _ (c .if3 .taken))
+returns-3 c = search (list-no, judged-long)
 
 slice-aggregate-list-in-3 : tie.Need-slice-aggregate-list-in-3
 slice-aggregate-list-in-3 c = search needs

@@ -1,6 +1,5 @@
 -- `row::list_in` meets its contract. Assumes nothing.
-use Rattle.row.proofs.Listings.{list-no}
-use Rattle.row.proofs.Opening.{list-by}
+use Rattle.row.proofs.Opening.{list-by, list-no}
 use Rattle.table.proofs.Got.{got, none}
 use borrow.Author.Needs.{needs}
 use Rattle.row.proofs.list_in.Statement.{statement}
@@ -13,7 +12,7 @@ same-length : tie.Need-same-length
 same-length c = search needs
 
 returns : tie.Need-returns
-returns c = list-no _ _ _ (none (c .before .before .before .build .ensures) (c .if1 .taken))
+returns c = search (list-no, none)
 
 slice-reshare-prefix-list : tie.Need-slice-reshare-prefix-list
 slice-reshare-prefix-list c = got (c .before .before .before .build .ensures) (c .if1 .left) .room
@@ -31,8 +30,7 @@ same-length-3 : tie.Need-same-length-3
 same-length-3 c = search needs
 
 returns-2 : tie.Need-returns-2
-returns-2 c = list-by (got (c .before .before .before .before .before .before .before .before .build .ensures)
-    (c .before .before .before .before .before .if1 .left)) (c .before .before .list .ensures)
+returns-2 c = search (list-by, got)
 
 pub list-in-spec : {M : Type 1} → statement M
 list-in-spec =

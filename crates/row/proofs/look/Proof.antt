@@ -24,7 +24,7 @@ returns-2 : tie.Need-returns-2
 returns-2 c = search needs
 
 returns-3 : tie.Need-returns-3
-returns-3 c = read-no _ (judged-long _ (c .if3 .taken)) _ _
+returns-3 c = search (read-no, judged-long)
 
 slice-aggregate-look-in-3 : tie.Need-slice-aggregate-look-in-3
 slice-aggregate-look-in-3 c = search needs

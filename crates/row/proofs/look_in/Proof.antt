@@ -12,7 +12,7 @@ same-length : tie.Need-same-length
 same-length c = search needs
 
 returns : tie.Need-returns
-returns c = read-no _ (none (c .before .before .before .build .ensures) (c .if1 .taken)) _ _
+returns c = search (read-no, none)
 
 slice-reshare-prefix-read : tie.Need-slice-reshare-prefix-read
 slice-reshare-prefix-read c = got (c .before .before .before .build .ensures) (c .if1 .left) .room
@@ -27,7 +27,7 @@ same-length-2 : tie.Need-same-length-2
 same-length-2 c = search needs
 
 returns-2 : tie.Need-returns-2
-returns-2 c = read-by (got (c .before .before .before .before .before .build .ensures) (c .before .before .if1 .left)) (c .read .ensures)
+returns-2 c = search (read-by, got)
 
 pub look-in-spec : {M : Type 1} → statement M
 look-in-spec =

@@ -30,7 +30,7 @@ returns-2 : tie.Need-returns-2
 returns-2 c = search needs
 
 returns-3 : tie.Need-returns-3
-returns-3 c = set-schema _ _ _ _ (judged-long _ (c .if3 .taken))
+returns-3 c = search (set-schema, judged-long)
 
 slice-aggregate-set-in-3 : tie.Need-slice-aggregate-set-in-3
 slice-aggregate-set-in-3 c = search needs

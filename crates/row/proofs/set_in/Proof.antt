@@ -13,7 +13,7 @@ same-length : tie.Need-same-length
 same-length c = search needs
 
 returns : tie.Need-returns
-returns c = set-schema _ _ _ _ (none (c .before .before .before .build .ensures) (c .if1 .taken))
+returns c = search (set-schema, none)
 
 slice-reshare-prefix-set : tie.Need-slice-reshare-prefix-set
 slice-reshare-prefix-set c = got (c .before .before .before .build .ensures) (c .if1 .left) .room
@@ -31,8 +31,7 @@ same-length-3 : tie.Need-same-length-3
 same-length-3 c = search needs
 
 returns-2 : tie.Need-returns-2
-returns-2 c = set-by (got (c .before .before .before .before .before .before .before .before .build .ensures)
-    (c .before .before .before .before .before .if1 .left)) _ _ (c .before .before .set .ensures)
+returns-2 c = search (set-by, got)
 
 pub set-in-spec : {M : Type 1} → statement M
 set-in-spec =

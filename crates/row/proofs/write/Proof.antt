@@ -30,7 +30,7 @@ returns-2 : tie.Need-returns-2
 returns-2 c = search needs
 
 returns-3 : tie.Need-returns-3
-returns-3 c = write-no _ (judged-long _ (c .if3 .taken)) _ _
+returns-3 c = search (write-no, judged-long)
 
 slice-aggregate-write-in-3 : tie.Need-slice-aggregate-write-in-3
 slice-aggregate-write-in-3 c = search needs

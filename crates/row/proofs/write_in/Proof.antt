@@ -12,7 +12,7 @@ same-length : tie.Need-same-length
 same-length c = search needs
 
 returns : tie.Need-returns
-returns c = write-no _ (none (c .before .before .before .build .ensures) (c .if1 .taken)) _ _
+returns c = search (write-no, none)
 
 slice-reshare-prefix-write : tie.Need-slice-reshare-prefix-write
 slice-reshare-prefix-write c = got (c .before .before .before .build .ensures) (c .if1 .left) .room

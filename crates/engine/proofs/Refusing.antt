@@ -1,4 +1,4 @@
--- The entries by a table: each refuses as a check does, and goes on where it is done. Assumes nothing.
+-- `list` and `set` by a table: each refuses as a check does, and goes on where it is done. Assumes nothing.
 use mathlib.Core.Path.{_≡_, sym, ap, _∙_}
 use mathlib.Core.List.{List}
 use Prim.Native.Nat.{ℕ}
@@ -15,10 +15,10 @@ use Rattle.table.specs.Tables.{Table, schemaOf}
 use Rattle.listing.specs.Room.{Checked as Listed}
 use Rattle.setting.specs.Writes.{SetAs, Checked as Settable}
 use Rattle.setting.proofs.Refused.{set-long, set-unsound}
-use Rattle.row.specs.Outcomes.{ListsTo}
-use Rattle.row.proofs.Checked.{Passed, passed, Failed, long, torn, failed}
-use Rattle.row.proofs.Orders.{sound-decodes}
-use Rattle.row.proofs.Listings.{list-long, list-bad}
+use Rattle.engine.specs.Lists.{ListsTo}
+use Rattle.engine.proofs.Checked.{Passed, passed, Failed, long, torn, failed}
+use Rattle.engine.proofs.Orders.{sound-decodes}
+use Rattle.engine.proofs.Listings.{list-long, list-bad}
 
 -- a row that passed can be listed, and its leaves set
 pub listable : {t row : List ℕ} → Table t → Passed (schemaOf t) row → Listed t row
@@ -40,7 +40,7 @@ module _ (s row : List ℕ) (a : judged s ≡ Accepted) {v : Outcome} (e : outco
     where
       go : {r : Refusal} → Failed s row r → ListsTo s row out (L.Refused r) out
       go (long h) = list-long s row out a h
-      go (torn j h f) = list-bad s row out a h j f
+      go (torn j h f) = list-bad s row out a j h f
 
   pub set-refused : (p : List ℕ) (x : Setting) {r : Refusal} → v ≡ O.Refused r → SetAs (setOf s row p x) row row (O.Refused r)
   set-refused p x {r} q = go (why q)

@@ -1,13 +1,11 @@
--- What a check's answer says, for the entries that check first: in its order it refuses as they do. Assumes nothing.
+-- What a check's answer says, for `list` and `set`, which check first: in its order it refuses as they do. Assumes nothing.
 use mathlib.Core.Path.{_≡_, refl, sym, ap, _∙_, subst}
-use mathlib.Core.Bool.{Bool, true, false}
 use mathlib.Core.Option.{Option, none, some}
 use mathlib.Core.List.{List}
 use Prim.Native.Nat.{ℕ, _≤_, _<_}
 use native.Mathlib.Decide.{decLt}
 use native.Mathlib.Omega.{arith}
 use lib.ListN.{length}
-use borrow.Author.Tests.{le-leb, lt-leb}
 use Rattle.schema.specs.Types.{ro}
 use Rattle.schema.specs.Reading.{judged}
 use Rattle.schema.specs.Walk.{fieldsOf}
@@ -20,6 +18,7 @@ use Rattle.answers.specs.declared.Refusal.{Refusal}
 use Rattle.answers.specs.declared.Refusal.the-variants as F
 use Rattle.answers.specs.Meaning.{refusalMeans}
 use Rattle.answers.proofs.Unique.{number-one}
+use Rattle.engine.proofs.Orders.{check-long, check-short}
 
 -- a row within its limit that stands for contents of the schema
 pub record Passed (s row : List ℕ) : Type 0 where
@@ -38,12 +37,10 @@ refusal (refused r) = r
 
 module _ (s row : List ℕ) (a : judged s ≡ Accepted) where
   in-limit : length row ≤ 16384 → checkOf s row ≡ verdict (broken (faultAt (ro (fieldsOf s)) row))
-  unfolding checkOf
-  in-limit h = rw (a, le-leb (length row) 16384 h)
+  in-limit h = sym (check-short s row a h)
 
   too-long : 16384 < length row → checkOf s row ≡ refused (numbered 3)
-  unfolding checkOf
-  too-long h = rw (a, lt-leb (length row) 16384 h)
+  too-long h = sym (check-long s row a h)
 
   pub passed : done ≡ checkOf s row → Passed s row
   passed e = go (decLt 16384 (length row))
