@@ -20,6 +20,8 @@ pub mod Placing
 pub mod Bodies
 pub mod Aside
 pub mod Stepped
+pub mod Slotted
+pub mod Stepping
 pub mod Walked
 pub mod Tree
 pub mod Landed

@@ -27,7 +27,8 @@ use Rattle.layout.proofs.Steps.{nobody, kidAt}
 use Rattle.layout.proofs.Spot.{cons-not, Spot}
 use Rattle.layout.proofs.Bodies.{spotIn}
 use Rattle.layout.proofs.Aside.{Holds}
-use Rattle.layout.proofs.Stepped.{inside-given, placed-of, there-of, own-of, high-of}
+use Rattle.layout.proofs.Slotted.{inside-given}
+use Rattle.layout.proofs.Stepping.{placed-of, there-of, own-of, high-of}
 use Rattle.layout.proofs.Walked.{own-holds, head-8, list-says, map-says, array-holds, struct-holds, kids-at}
 use Rattle.layout.proofs.Seen.{seen-starts, into-on}
 use Rattle.layout.proofs.Placing.{Twin, twins, data-same}

@@ -26,7 +26,8 @@ use Rattle.layout.proofs.Containers.{repeat, body-total, body-take, bod
 use Rattle.layout.proofs.Containers.{kids-count}
 use Rattle.layout.proofs.Steps.{nobody, kidAt}
 use Rattle.layout.proofs.Stepped as Stepped
-use Rattle.layout.proofs.Stepped.{Comes, child-comes}
+use Rattle.layout.proofs.Stepped.{Comes}
+use Rattle.layout.proofs.Stepping.{child-comes}
 use Rattle.layout.proofs.Aside.{Holds, Aside}
 
 -- ---- headers
