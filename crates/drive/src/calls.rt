@@ -1,7 +1,6 @@
 // One call of the library for each op, and its line. Each answers where the line ends: 0 where there is none.
-use crate::lines;
 use crate::requests::Head;
-use crate::tells;
+use telling::lines;
 ghost use Prim.Native.Nat.{_≤_};
 ghost use lib.ListN.{length};
 
@@ -39,13 +38,13 @@ fn fill(out: &mut [u8]) {
 fn write(line: &mut [u8], schema: &[u8], listing: &[u8], out: &mut [u8]) -> usize {
     fill(out);
     let code = desk::loaf_write(schema, listing, out);
-    tells::tell_output(line, code, out)
+    telling::output(line, code, out)
 }
 
 fn list(line: &mut [u8], schema: &[u8], row: &[u8], out: &mut [u8]) -> usize {
     fill(out);
     let code = desk::loaf_list(schema, row, out);
-    tells::tell_output(line, code, out)
+    telling::output(line, code, out)
 }
 
 fn at_most(n: usize, most: usize) -> usize
@@ -61,7 +60,7 @@ fn append(line: &mut [u8], schema: &[u8], bytes: &[u8], row: &[u8], out: &mut [u
     let n = at_most(used, out.len());
     words::copies::copy(out, 0, bytes, 0, n);
     let l = batch::append(schema, out, used, row);
-    tells::tell_length(line, l, out)
+    telling::length(line, l, out)
 }
 
 fn set_row(
@@ -73,7 +72,7 @@ fn set_row(
     line: &mut [u8],
 ) -> usize {
     let code = desk::loaf_set(schema, row, path, h.kind as u32, h.value, third);
-    tells::tell_bytes(line, code, row)
+    telling::bytes(line, code, row)
 }
 
 // The field `room` is the row's number.
@@ -87,7 +86,7 @@ fn set_in_batch(
 ) -> usize {
     let k = h.room;
     let code = desk::batches::loaf_batch_set(schema, bytes, k, path, h.kind as u32, h.value, third);
-    tells::tell_bytes(line, code, bytes)
+    telling::bytes(line, code, bytes)
 }
 
 // Set in a copy: the request lies in one piece, which the schema and the third are lent from too.
@@ -130,19 +129,19 @@ pub fn answer<'a>(
     }
     let op = h.op;
     match op {
-        b'j' => tells::tell_verdict(line, desk::loaf_judge(schema)),
-        b'c' => tells::tell_verdict(line, desk::loaf_check(schema, second)),
+        b'j' => telling::verdict(line, desk::loaf_judge(schema)),
+        b'c' => telling::verdict(line, desk::loaf_check(schema, second)),
         b'w' => write(line, schema, second, &mut out[0..room]),
         b'l' => list(line, schema, second, &mut out[0..room]),
         b's' | b'z' => set(h, schema, second, steps, third, out, line),
-        b'r' => tells::tell_answer(line, row::read(schema, second, path_of(steps))),
-        b'o' => tells::tell_answer(line, row::ask_once(schema, second, path_of(steps))),
+        b'r' => telling::answer(line, row::read(schema, second, path_of(steps))),
+        b'o' => telling::answer(line, row::ask_once(schema, second, path_of(steps))),
         b't' => lines::put_bytes(line, 0, row::text_or(schema, second, path_of(steps), third)),
-        b'n' => tells::tell_count(line, batch::count(second)),
-        b'f' => tells::tell_fetched(line, batch::fetch(schema, second, room)),
-        b'k' => tells::tell_checked(line, batch::check(schema, second)),
+        b'n' => telling::count(line, batch::count(second)),
+        b'f' => telling::fetched(line, batch::fetch(schema, second, room)),
+        b'k' => telling::checked(line, batch::check(schema, second)),
         b'A' => append(line, schema, second, third, &mut out[0..room]),
-        b'g' => tells::tell_answer(line, batch::read(schema, second, room, path_of(steps))),
+        b'g' => telling::answer(line, batch::read(schema, second, room, path_of(steps))),
         _ => 0,
     }
 }

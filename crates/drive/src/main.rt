@@ -3,9 +3,7 @@ ghost use Prim.Native.Nat.{_≤_};
 ghost use lib.ListN.{length};
 
 mod calls;
-mod lines;
 mod requests;
-mod tells;
 
 // More requests than any run holds: the loop counts them, so that it ends on every input.
 const REQUESTS: u64 = 0xFFFF_FFFF_FFFF_FFFF;

@@ -2,9 +2,9 @@
 ghost use Prim.Native.Nat.{_≤_};
 ghost use lib.ListN.{length};
 use crate::calls;
-use crate::lines;
 use libc::STDIN_FILENO;
 use libc::STDOUT_FILENO;
+use telling::lines;
 
 // The longest parts that a request may have; what it may ask to be lent, `calls` says.
 const SCHEMA: usize = 2048;

@@ -1,11 +1,11 @@
--- `drive::lines::put_bytes` is safe and ends. Assumes nothing.
+-- `telling::lines::put_bytes` is safe and ends. Assumes nothing.
 use mathlib.Core.Path.{_≡_}
 use Prim.Native.Nat.{_≤_, _-_}
 use lib.ListN.{length}
 use borrow.Author.Needs.{needs}
 use native.Mathlib.Omega.{arith}
-use Rattle.drive.proofs.lines.put_bytes.Statement.{statement}
-use Rattle.drive.proofs.lines.put_bytes.Tie as tie
+use Rattle.telling.proofs.lines.put_bytes.Statement.{statement}
+use Rattle.telling.proofs.lines.put_bytes.Tie as tie
 
 abbrev Inv-loop : tie.InvT-loop
 Inv-loop line₀ at bytes end₀ i₀ line end i = (i ≤ length bytes) × (length line ≡ length line₀)

@@ -1,5 +1,4 @@
-// What a call answered, as text at the start of a line.
-use crate::lines;
+// What a call answered, as text at the start of a lent line. Each function is proved safe and ending; the text is tested, and not promised.
 use answers::Answer;
 use answers::Length;
 use answers::Refusal;
@@ -9,38 +8,40 @@ use batch::Checked;
 use batch::Counted;
 use batch::Fetched;
 
+pub mod lines;
+
 // A refusal's number, and its length or its place: none has both.
-fn tell_refusal(line: &mut [u8], r: Refusal) -> usize {
+fn refused(line: &mut [u8], r: Refusal) -> usize {
     let low = refusals::length(r) as u64 | refusals::place(r) as u64;
-    tell_refused(line, refusals::number(r) as u64, low)
+    refused_with(line, refusals::number(r) as u64, low)
 }
 
-fn tell_refused(line: &mut [u8], number: u64, low: u64) -> usize {
+fn refused_with(line: &mut [u8], number: u64, low: u64) -> usize {
     let end = lines::put_text(line, 0, b"refused");
     let end = lines::put_number(line, end, number);
     lines::put_number(line, end, low)
 }
 
 // A code whose upper half is a refusal's number, 0 for done.
-pub fn tell_verdict(line: &mut [u8], code: u64) -> usize {
+pub fn verdict(line: &mut [u8], code: u64) -> usize {
     if code >> 32 == 0 {
         lines::put_text(line, 0, b"done")
     } else {
-        tell_refused(line, code >> 32, code % 0x1_0000_0000)
+        refused_with(line, code >> 32, code % 0x1_0000_0000)
     }
 }
 
 // The same with all of the lent bytes after the call.
-pub fn tell_bytes(line: &mut [u8], code: u64, bytes: &[u8]) -> usize {
-    let end = tell_verdict(line, code);
+pub fn bytes(line: &mut [u8], code: u64, bytes: &[u8]) -> usize {
+    let end = verdict(line, code);
     let end = lines::put_byte(line, end, b' ');
     lines::put_bytes(line, end, bytes)
 }
 
 // The same where the code of what was done is its length.
-pub fn tell_output(line: &mut [u8], code: u64, out: &[u8]) -> usize {
+pub fn output(line: &mut [u8], code: u64, out: &[u8]) -> usize {
     if code >> 32 != 0 {
-        return tell_bytes(line, code, out);
+        return bytes(line, code, out);
     }
     let end = lines::put_text(line, 0, b"done");
     let end = lines::put_number(line, end, code);
@@ -48,18 +49,18 @@ pub fn tell_output(line: &mut [u8], code: u64, out: &[u8]) -> usize {
     lines::put_bytes(line, end, out)
 }
 
-fn tell_range(line: &mut [u8], name: &[u8], start: usize, len: usize) -> usize {
+fn range(line: &mut [u8], name: &[u8], start: usize, len: usize) -> usize {
     let end = lines::put_text(line, 0, name);
     let end = lines::put_number(line, end, start as u64);
     lines::put_number(line, end, len as u64)
 }
 
-fn tell_float(line: &mut [u8], name: &[u8], bits: u64, width: usize) -> usize {
+fn float(line: &mut [u8], name: &[u8], bits: u64, width: usize) -> usize {
     let end = lines::put_text(line, 0, name);
     lines::put_bits(line, end, bits, width)
 }
 
-pub fn tell_answer(line: &mut [u8], answer: Answer) -> usize {
+pub fn answer(line: &mut [u8], answer: Answer) -> usize {
     match answer {
         Answer::Null => lines::put_text(line, 0, b"null"),
         Answer::Bool(v) => {
@@ -70,43 +71,43 @@ pub fn tell_answer(line: &mut [u8], answer: Answer) -> usize {
             let end = lines::put_text(line, 0, b"number");
             lines::put_signed(line, end, n)
         }
-        Answer::Float32(v) => tell_float(line, b"float32", floats::bits32(v) as u64, 8),
-        Answer::Float32Nan(v) => tell_float(line, b"float32", v as u64, 8),
-        Answer::Float64(v) => tell_float(line, b"float64", floats::bits64(v), 16),
-        Answer::Float64Nan(v) => tell_float(line, b"float64", v, 16),
-        Answer::Bytes { start, len } => tell_range(line, b"bytes", start, len),
+        Answer::Float32(v) => float(line, b"float32", floats::bits32(v) as u64, 8),
+        Answer::Float32Nan(v) => float(line, b"float32", v as u64, 8),
+        Answer::Float64(v) => float(line, b"float64", floats::bits64(v), 16),
+        Answer::Float64Nan(v) => float(line, b"float64", v, 16),
+        Answer::Bytes { start, len } => range(line, b"bytes", start, len),
         Answer::Container { start, len, count } => {
-            let end = tell_range(line, b"container", start, len);
+            let end = range(line, b"container", start, len);
             lines::put_number(line, end, count as u64)
         }
-        Answer::Refused(r) => tell_refusal(line, r),
+        Answer::Refused(r) => refused(line, r),
     }
 }
 
-pub fn tell_count(line: &mut [u8], c: Counted) -> usize {
+pub fn count(line: &mut [u8], c: Counted) -> usize {
     match c {
         Counted::Rows(n) => {
             let end = lines::put_text(line, 0, b"count");
             lines::put_number(line, end, n as u64)
         }
-        Counted::Refused(r) => tell_refusal(line, r),
+        Counted::Refused(r) => refused(line, r),
     }
 }
 
-pub fn tell_fetched(line: &mut [u8], f: Fetched) -> usize {
+pub fn fetched(line: &mut [u8], f: Fetched) -> usize {
     match f {
-        Fetched::Row { start, len } => tell_range(line, b"bytes", start, len),
-        Fetched::Refused(r) => tell_refusal(line, r),
+        Fetched::Row { start, len } => range(line, b"bytes", start, len),
+        Fetched::Refused(r) => refused(line, r),
     }
 }
 
 // A refusal of one row, with that row's number.
-pub fn tell_checked(line: &mut [u8], c: Checked) -> usize {
+pub fn checked(line: &mut [u8], c: Checked) -> usize {
     match c {
         Checked::Done => lines::put_text(line, 0, b"done"),
-        Checked::Refused(r) => tell_refusal(line, r),
+        Checked::Refused(r) => refused(line, r),
         Checked::RefusedRow { row, refusal } => {
-            let end = tell_refusal(line, refusal);
+            let end = refused(line, refusal);
             let end = lines::put_text(line, end, b" row");
             lines::put_number(line, end, row as u64)
         }
@@ -114,7 +115,7 @@ pub fn tell_checked(line: &mut [u8], c: Checked) -> usize {
 }
 
 // A length or a refusal, with all of the lent bytes after the call.
-pub fn tell_length(line: &mut [u8], l: Length, out: &[u8]) -> usize {
+pub fn length(line: &mut [u8], l: Length, out: &[u8]) -> usize {
     match l {
         Length::Done(n) => {
             let end = lines::put_text(line, 0, b"done");
@@ -123,7 +124,7 @@ pub fn tell_length(line: &mut [u8], l: Length, out: &[u8]) -> usize {
             lines::put_bytes(line, end, out)
         }
         Length::Refused(r) => {
-            let end = tell_refusal(line, r);
+            let end = refused(line, r);
             let end = lines::put_byte(line, end, b' ');
             lines::put_bytes(line, end, out)
         }
