@@ -73,9 +73,9 @@ line-in m e f = f ∙ ap (λ (l : List ℕ). getD l (hash m) 0) e
 -- ---- what a container holds
 
 module _ (s : List ℕ) (at k : ℕ) where
-  pub held-other : (k ≡ 11 → ⊥) → k - 8 ≡ heldAt s at k
+  pub held-other : (k ≡ 11 → ⊥) → 9 ≤ k → k - 9 + 1 ≡ heldAt s at k
   unfolding heldAt
-  held-other h = rw (ne-eqb k 11 h)
+  held-other h l = rw (ne-eqb k 11 h) (omega arith)
 
   module _ (e : k ≡ 11) where
     pub held-past : length s ≤ at → 0 ≡ heldAt s at k

@@ -56,8 +56,33 @@ pub const MAP: usize = 10;
 
 pub const STRUCT: usize = 11;
 
-// The mark of a struct, which a schema begins with.
-const ROOT: u64 = 0x6F72;
+// One in a column of an entry: of its line the kind in bits 28 to 31, then the depth in 32 to 35, the number of children in 36 to 43, the
+// place of the first child in 44 to 53, and the place behind the last descendant in 54 to 63.
+const KIND: u64 = 0x1000_0000;
+
+const DEPTH: u64 = 0x1_0000_0000;
+
+const COUNT: u64 = 0x10_0000_0000;
+
+const FIRST: u64 = 0x1000_0000_0000;
+
+const AFTER: u64 = 0x40_0000_0000_0000;
+
+// The mark of a struct, which a schema begins with, and the root's entry but for its fields and its end.
+const STRUCT_MARK: u64 = 0x6F72;
+
+const ROOT: u64 = STRUCT_MARK + STRUCT as u64 * KIND + DEPTH + FIRST;
+
+// The lines of containers are those from here on.
+const CONTAINERS: u64 = LIST as u64 * KIND;
+
+// What the entry of a leaf adds to its line: as the root's first field; more of it where the type stands behind a leaf, and where it is a
+// container's first child.
+const FIELD: u64 = 2 * (DEPTH + FIRST + AFTER);
+
+const NEXT: u64 = FIRST + AFTER;
+
+const CHILD: u64 = DEPTH + FIRST + AFTER;
 
 fn wide(x: u8) -> u64
     ensures { λ r. ⌜ r ≡ x ⌝ }
@@ -88,12 +113,12 @@ fn line_of(lines: &[u32], m: u64) -> u64
 }
 
 // How many children a container has, whose place in the table of types is k and whose mark ends at a position; 0 where that is refused.
-fn held(s: &[u8], at: usize, k: u64) -> u64
+fn held(s: &[u8], at: usize, k: usize) -> u64
     requires { ⌜ (9 ≤ k) × (k < 12) ⌝ }
     ensures { λ r. ⌜ r ≡ heldAt (now (s .entry)) at k ⌝ }
 {
-    if k != 11 {
-        return k - 8;
+    if k != STRUCT {
+        return (k - LIST + 1) as u64;
     }
     if s.len() <= at {
         return 0;
@@ -106,11 +131,11 @@ fn held(s: &[u8], at: usize, k: u64) -> u64
 }
 
 // Where its first child stands.
-fn behind(at: usize, k: u64) -> usize
+fn behind(at: usize, k: usize) -> usize
     requires { ⌜ at ≤ 1024 ⌝ }
     ensures { λ r. ⌜ r ≡ behindAt at k ⌝ }
 {
-    if k == 11 { at + 1 } else { at }
+    if k == STRUCT { at + 1 } else { at }
 }
 
 // The table of a schema, at the start of t: how many entries it has, or 0 where the schema is refused. One pass over the bytes: a frame
@@ -127,20 +152,20 @@ pub fn build(s: &[u8], t: &mut [u64]) -> usize
         return 0;
     }
     let lines = TYPES;
-    if mark_at(s, 0) != ROOT {
+    if mark_at(s, 0) != STRUCT_MARK {
         return 0;
     }
-    let fields = held(s, 2, 11);
+    let fields = held(s, 2, STRUCT);
     if fields == 0 {
         return 0;
     }
     let mut frames = [0u64; 8];
-    t[0] = 0x1001_B000_6F72 + fields * 0x10_0000_0000;
+    t[0] = ROOT + fields * COUNT;
     let mut n = fields;
     let mut at: usize = 3;
     let mut i: usize = 1;
     let mut d: usize = 0;
-    let mut base: u64 = 0x80_2002_0000_0000;
+    let mut base: u64 = FIELD;
     loop {
         if len < at + 2 {
             return 0;
@@ -151,15 +176,15 @@ pub fn build(s: &[u8], t: &mut [u64]) -> usize
             return 0;
         }
         n -= 1;
-        if w < 0x9000_0000 {
+        if w < CONTAINERS {
             t[i] = w + base;
             at += 2;
             i += 1;
-            base += 0x40_1000_0000_0000;
+            base += NEXT;
             while n == 0 {
                 let f = frames[d];
                 let p = (f / 256) as usize;
-                t[p] = std::num::wrapping_add_u64(t[p], i as u64 * 0x40_0000_0000_0000);
+                t[p] = std::num::wrapping_add_u64(t[p], i as u64 * AFTER);
                 if d == 0 {
                     if at == len {
                         return i;
@@ -168,14 +193,14 @@ pub fn build(s: &[u8], t: &mut [u64]) -> usize
                 }
                 n = f % 256;
                 d -= 1;
-                base -= 0x1_0000_0000;
+                base -= DEPTH;
             }
             continue;
         }
         if d == 6 {
             return 0;
         }
-        let k = w / 0x1000_0000;
+        let k = (w / KIND) as usize;
         let c = held(s, at + 2, k);
         if c == 0 {
             return 0;
@@ -183,10 +208,10 @@ pub fn build(s: &[u8], t: &mut [u64]) -> usize
         at = behind(at + 2, k);
         d += 1;
         frames[d] = i as u64 * 256 + n;
-        t[i] = w + c * 0x10_0000_0000 + (base - (i as u64 + 1) * 0x40_0000_0000_0000);
+        t[i] = w + c * COUNT + (base - (i as u64 + 1) * AFTER);
         n = c;
         i += 1;
-        base += 0x40_1001_0000_0000;
+        base += CHILD;
     }
 }
 
@@ -202,7 +227,7 @@ pub fn entry_at(t: &[u64], c: usize, depth: usize) -> u64
 pub fn place(w: u64) -> usize
     ensures { λ r. ⌜ r ≡ placeIn w ⌝ }
 {
-    (w / 0x1000_0000 % 16) as usize
+    (w / KIND % 16) as usize
 }
 
 pub fn mark(w: u64) -> usize
@@ -229,14 +254,14 @@ pub fn top(w: u64) -> u64
 pub fn count(w: u64) -> usize
     ensures { λ r. ⌜ r ≡ countIn w ⌝ }
 {
-    (w / 0x10_0000_0000 % 256) as usize
+    (w / COUNT % 256) as usize
 }
 
 // and the place behind the last descendant.
 pub fn after(w: u64) -> usize
     ensures { λ r. ⌜ r ≡ afterIn w ⌝ }
 {
-    (w / 0x40_0000_0000_0000) as usize
+    (w / AFTER) as usize
 }
 
 // The bytes of an element of the type: a slot's 8 where they vary.

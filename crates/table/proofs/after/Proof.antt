@@ -4,7 +4,6 @@ use Rattle.table.specs.Words.{afterIn}
 use Rattle.table.proofs.after.Statement.{statement}
 use Rattle.table.proofs.after.Tie as tie
 
--- src/lib.rt:223:1
 returns : tie.Need-returns
 unfolding afterIn
 returns c = refl

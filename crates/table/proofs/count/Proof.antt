@@ -4,7 +4,6 @@ use Rattle.table.specs.Words.{countIn}
 use Rattle.table.proofs.count.Statement.{statement}
 use Rattle.table.proofs.count.Tie as tie
 
--- src/lib.rt:216:1
 returns : tie.Need-returns
 unfolding countIn
 returns c = refl

@@ -4,19 +4,15 @@ use borrow.Author.Needs.{needs}
 use Rattle.table.proofs.element_width.Statement.{statement}
 use Rattle.table.proofs.element_width.Tie as tie
 
--- src/lib.rt:234:8
 place-requires : tie.Need-place-requires
 place-requires c κs = search needs
 
--- src/lib.rt:234:28
 width-requires : tie.Need-width-requires
 width-requires c κs = search needs
 
--- src/lib.rt:230:1
 returns : tie.Need-returns
 returns c = element-fixed (c .before .before .before .pre) (c .before .before .place .ensures) (c .before .if1 .taken) (c .width .ensures)
 
--- src/lib.rt:230:1
 returns-2 : tie.Need-returns-2
 returns-2 c = element-varies (c .before .before .pre) (c .before .place .ensures) (c .if1 .left)
 

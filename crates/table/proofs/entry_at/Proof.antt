@@ -4,18 +4,15 @@ use Rattle.table.proofs.Places.{place-room, table-short, entry-says}
 use Rattle.table.proofs.entry_at.Statement.{statement}
 use Rattle.table.proofs.entry_at.Tie as tie
 
--- src/lib.rt:185:5
 mul-result : tie.Need-mul-result
 mul-result c =
     let a = c .args in
     let r = place-room (a .t .now) (c .pre .table) (a .c) (a .depth) (c .pre .typed) in
     omega (arith, r, table-short (a .t .now) (c .pre .table))
 
--- src/lib.rt:185:5
 shared-slice-read-result : tie.Need-shared-slice-read-result
 shared-slice-read-result c = place-room (c .before .args .t .now) (c .before .pre .table) (c .before .args .c) (c .before .args .depth) (c .before .pre .typed)
 
--- src/lib.rt:181:1
 returns : tie.Need-returns
 returns c = entry-says (c .before .args .t .now) (c .before .pre .table) (c .before .args .c) (c .before .args .depth) (c .before .pre .typed)
 

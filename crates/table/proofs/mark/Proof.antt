@@ -4,7 +4,6 @@ use Rattle.table.specs.Words.{markIn}
 use Rattle.table.proofs.mark.Statement.{statement}
 use Rattle.table.proofs.mark.Tie as tie
 
--- src/lib.rt:195:1
 returns : tie.Need-returns
 unfolding markIn
 returns c = refl

@@ -4,7 +4,6 @@ use Rattle.table.specs.Words.{placeIn}
 use Rattle.table.proofs.place.Statement.{statement}
 use Rattle.table.proofs.place.Tie as tie
 
--- src/lib.rt:189:1
 returns : tie.Need-returns
 unfolding placeIn
 returns c = refl

@@ -4,7 +4,6 @@ use Rattle.table.specs.Words.{topIn}
 use Rattle.table.proofs.top.Statement.{statement}
 use Rattle.table.proofs.top.Tie as tie
 
--- src/lib.rt:209:1
 returns : tie.Need-returns
 unfolding topIn
 returns c = refl

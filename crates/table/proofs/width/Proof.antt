@@ -4,7 +4,6 @@ use Rattle.table.specs.Words.{widthIn}
 use Rattle.table.proofs.width.Statement.{statement}
 use Rattle.table.proofs.width.Tie as tie
 
--- src/lib.rt:202:1
 returns : tie.Need-returns
 unfolding widthIn
 returns c = refl
