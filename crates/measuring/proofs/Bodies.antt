@@ -6,8 +6,11 @@ use Prim.Native.Nat.{ℕ, _+_, _*_, _-_, _≤_, _<_, _%_}
 use native.Mathlib.Decide.{decLt, ℕ-discrete}
 use native.Mathlib.Omega.{arith}
 use lib.ListN.{length, drop, getD, replicate, length-append}
+use mir.Syntax.{w64}
+use mir.Val.{Fits}
 use Rattle.words.specs.Bytes.{Bytes, num, part, zeros, pad}
 use Rattle.words.specs.Reads.{Reads}
+use Rattle.words.specs.Pairs.{lowIn, highIn, Paired}
 use Rattle.words.proofs.Numbers.{bytes-drop, length-padded, length-le}
 use Rattle.words.proofs.Parts.{length-part}
 use Rattle.words.proofs.NumLaws.{part-lt, num-one}
@@ -24,39 +27,10 @@ use Rattle.layout.proofs.Items.{Listed}
 use Rattle.layout.proofs.Listed.{script-lawful, not-nu}
 use Rattle.layout.proofs.Widths.{limit-free}
 use Rattle.table.specs.Words.{widthIn, placeIn}
-use Rattle.measuring.specs.Measure.{
-  tailLen,
-  size,
-  nextIn,
-  sizeIn,
-  Packable,
-  Packed,
-  Gives,
-  BodyTold,
-  ChildTold,
-  ArrayTold,
-  FieldsTold,
-  NullTold,
-  OnlyNull,
-  Goes,
-  FixedCan,
-  TextCan,
-}
-use Rattle.measuring.proofs.Packs.{packed-bare, told-none, told-gives, packs, told-as}
-use Rattle.measuring.proofs.Records.{
-  cut-short,
-  cut-at,
-  item-short,
-  item-null,
-  item-other,
-  item-body,
-  number-short,
-  number-high,
-  number-good,
-  text-short,
-  text-cut,
-  text-good,
-}
+use Rattle.measuring.specs.Measure.{tailLen, size, Gives, BodyTold, ChildTold, ArrayTold, FieldsTold, NullTold, OnlyNull, Goes, FixedCan, TextCan}
+use Rattle.measuring.proofs.Packs.{paired-bare, told-none, told-gives, told-as}
+use Rattle.measuring.proofs.Records.{cut-short, cut-at, item-short, item-null, item-other, item-body}
+use Rattle.measuring.proofs.Records.{number-short, number-high, number-good, text-short, text-cut, text-good}
 
 -- ---- bytes behind the slots
 
@@ -114,8 +88,8 @@ module _ {w : ℕ} {l : List ℕ} {from : ℕ} (p : FixedCan w l from) where
   wide-is : widthIn w ≡ width f
   wide-is = p .lined .width ∙ line-width (placeIn w) (p .fixed)
 
-  pub width-small : {x : ℕ} → x ≡ widthIn w → x ≤ 8
-  width-small e = omega (arith, wide-is, width-8 f)
+  pub width-fits : {x : ℕ} → x ≡ widthIn w → Fits w64 (2 + x)
+  width-fits e = omega (arith, wide-is, width-8 f)
 
   pub fixed-short : {x : ℕ} → x ≡ widthIn w → length l - from < 2 + x → script (fix f) .get (drop (from + 2) l) ≡ none
   unfolding script
@@ -125,10 +99,7 @@ module _ {w : ℕ} {l : List ℕ} {from : ℕ} (p : FixedCan w l from) where
     room : width f ≤ length l - (from + 2)
     room = omega (arith, wide-is)
 
-    pub fixed-packs : Packable (from + (2 + x)) 0
-    fixed-packs = record { low = omega (arith, p .goes .short); high = omega arith; some = omega arith }
-
-    fixed-good : num (part l (from + 2) (width f)) < limit f → {r : ℕ} → Packed (from + (2 + x)) 0 r → BodyTold (fix f) l (from + 2) r
+    fixed-good : num (part l (from + 2) (width f)) < limit f → {r : ℕ} → Paired (from + (2 + x)) 0 r → BodyTold (fix f) l (from + 2) r
     unfolding script
     fixed-good b q =
         let u = part l (from + 2) (width f) in
@@ -141,10 +112,10 @@ module _ {w : ℕ} {l : List ℕ} {from : ℕ} (p : FixedCan w l from) where
             words = omega arith;
             inside = omega arith;
             small = omega arith;
-          }) q;
+          }) (omega arith) q;
         }
 
-    pub fixed-free : Bytes l → {k : ℕ} → k ≡ placeIn w → (k ≡ 0 → ⊥) → {r : ℕ} → Packed (from + (2 + x)) 0 r → BodyTold (fix f) l (from + 2) r
+    pub fixed-free : Bytes l → {k : ℕ} → k ≡ placeIn w → (k ≡ 0 → ⊥) → {r : ℕ} → Paired (from + (2 + x)) 0 r → BodyTold (fix f) l (from + 2) r
     fixed-free hb ek ne =
         fixed-good (rw (limit-free f (λ e. ne (ek ∙ sym (place-fixed (placeIn w) (p .fixed)) ∙ e))) (part-lt (from + 2) (width f) hb (omega (arith, room))))
 
@@ -159,7 +130,7 @@ module _ {w : ℕ} {l : List ℕ} {from : ℕ} (p : FixedCan w l from) where
       unfolding script
       bool-high b = record { told = told-none (number-high (width f) (limit f) l (from + 2) room (omega (arith, bool-two (placeIn w) (sym ek ∙ z), one))) }
 
-      pub bool-good : getD l (from + 2) 0 ≤ 1 → {r : ℕ} → Packed (from + (2 + x)) 0 r → BodyTold (fix f) l (from + 2) r
+      pub bool-good : getD l (from + 2) 0 ≤ 1 → {r : ℕ} → Paired (from + (2 + x)) 0 r → BodyTold (fix f) l (from + 2) r
       bool-good b = fixed-good (omega (arith, bool-two (placeIn w) (sym ek ∙ z), one))
 
 -- ---- texts
@@ -193,11 +164,8 @@ module _ {w : ℕ} {l : List ℕ} {from : ℕ} (p : TextCan w l from) where
             small = omega arith;
           }
 
-      pub text-packs : Packable (from + 6 + n) m
-      text-packs = packs text-gives (p .goes .short) (omega arith) (omega arith)
-
-      pub texts-good : {r : ℕ} → Packed (from + 6 + n) m r → BodyTold (text st) l (from + 2) r
-      texts-good q = record { told = told-gives text-gives q }
+      pub texts-good : {r : ℕ} → Paired (from + 6 + n) m r → BodyTold (text st) l (from + 2) r
+      texts-good q = record { told = told-gives text-gives (omega arith) q }
 
 -- strings and binaries are alike
 pub text-any : (t : Text) {l : List ℕ} {at r : ℕ} → BodyTold (text st) l at r → BodyTold (text t) l at r
@@ -243,24 +211,18 @@ nu-is = refl
 pub child-short : {t : Ty} {l : List ℕ} {from : ℕ} → length l - from < 2 → ChildTold t l from 0
 child-short {t} {l} {from} h = record { each = λ w. told-none (item-short w (mark t) (script t) l from h) }
 
--- what is known once the mark's number m was read: x is that of the type's own
-pub record Marks (t : Ty) (l : List ℕ) (from m x : ℕ) : Type 0 where
-  pub goes : Goes l from
-  pub two : 2 ≤ length l - from
-  pub read : m ≡ num (part l from 2)
-  pub own : x ≡ num (mark t)
-
-module _ {t : Ty} {l : List ℕ} {from m x : ℕ} (k : Marks t l from m x) where
+-- the mark's number m was read: x is that of the type's own
+module _ (t : Ty) {l : List ℕ} {from m x : ℕ} (g : Goes l from) (two : 2 ≤ length l - from) (read : m ≡ num (part l from 2)) (own : x ≡ num (mark t)) where
   null-gives : m ≡ num nu → ChildTold t l from (from + 2)
   null-gives e = record {
     each = λ w. told-gives (record {
       thing = null (zeros w);
-      reads = item-null w (mark t) (script t) l from (k .two) (sym (k .read) ∙ e);
+      reads = item-null w (mark t) (script t) l from two (sym read ∙ e);
       is = null-tail (kid w (codec t)) (zeros w);
       words = omega arith;
-      inside = omega (arith, k .two);
+      inside = omega arith;
       small = omega arith;
-    }) (packed-bare (omega arith) (omega (arith, k .goes .inside, k .goes .short)));
+    }) (omega arith) (paired-bare (omega (arith, g .inside, g .short)));
   }
 
   pub child-unmarked : (m ≡ x → ⊥) → {r : ℕ} → NullTold m from r → ChildTold t l from r
@@ -269,13 +231,13 @@ module _ {t : Ty} {l : List ℕ} {from m x : ℕ} (k : Marks t l from m x) where
       go : Dec (m ≡ 30062) → ChildTold t l from r
       go (yes e) = rw (z .null e) (null-gives (e ∙ sym nu-is))
       go (no e) = rw (z .other e) (record {
-        each = λ w. told-none (item-other w (mark t) (script t) l from (k .two) (λ q. e (k .read ∙ q ∙ nu-is)) (λ q. ne (k .read ∙ q ∙ sym (k .own))));
+        each = λ w. told-none (item-other w (mark t) (script t) l from two (λ q. e (read ∙ q ∙ nu-is)) (λ q. ne (read ∙ q ∙ sym own)));
       })
 
   marked-body : m ≡ x → (w : ℕ) → item w (mark t) (script t) .get (drop from l) ≡ script t .get (drop (from + 2) l)
   marked-body e w =
-      let own : num (part l from 2) ≡ num (mark t) = sym (k .read) ∙ e ∙ k .own in
-      item-body w (mark t) (script t) l from (k .two) (λ q. not-nu t (sym own ∙ q)) own
+      let same : num (part l from 2) ≡ num (mark t) = sym read ∙ e ∙ own in
+      item-body w (mark t) (script t) l from two (λ q. not-nu t (sym same ∙ q)) same
 
   pub child-body : m ≡ x → Bytes l → {r : ℕ} → BodyTold t l (from + 2) r → ChildTold t l from r
   child-body e hb b = record { each = λ w. told-as (λ q. marked-body e w ∙ q) (gives w) (b .told) }
@@ -295,14 +257,11 @@ module _ {t : Ty} {l : List ℕ} {from m x : ℕ} (k : Marks t l from m x) where
 pub child-only : (t : Ty) {l : List ℕ} {from r : ℕ} → Goes l from → OnlyNull l from r → script t .get (drop (from + 2) l) ≡ none → ChildTold t l from r
 child-only t {l} {from} {r} g z e = go (decLt (length l - from) 2)
   where
-    seen : (h : 2 ≤ length l - from) → Marks t l from (num (part l from 2)) (num (mark t))
-    seen h = record { goes = g; two = h; read = refl; own = refl }
-
     told : (h : 2 ≤ length l - from) → Dec (num (part l from 2) ≡ num (mark t)) → ChildTold t l from r
-    told h (no ne) = child-unmarked (seen h) ne (z .seen h)
+    told h (no ne) = child-unmarked t g h refl refl ne (z .seen h)
     told h (yes q) =
         let other : r ≡ 0 = z .seen h .other (λ y. not-nu t (sym q ∙ y ∙ sym nu-is)) in
-        rw other (record { each = λ w. told-none (marked-body (seen h) q w ∙ e) })
+        rw other (record { each = λ w. told-none (marked-body t g h refl refl q w ∙ e) })
 
     go : Dec (length l - from < 2) → ChildTold t l from r
     go (yes h) = rw (z .short h) (child-short h)
@@ -356,19 +315,19 @@ module _ {l : List ℕ} {at : ℕ} (h : 4 ≤ length l - at) {n : ℕ} (e : Read
     map-keys z = record { told = told-none (rw (cut-at 4 l at h, ← e .is, x .told .refused z)) }
 
     -- and its values behind them, measured as b
-    module _ (ne : a ≡ 0 → ⊥) {mid : ℕ} (em : mid ≡ nextIn a) {b : ℕ} (y : ArrayTold v l mid n b) where
+    module _ (ne : a ≡ 0 → ⊥) {mid : ℕ} (em : mid ≡ lowIn a) {b : ℕ} (y : ArrayTold v l mid n b) where
       abbrev keys : Gives (runGet (replicate n (element k (script k))) (drop (at + 4) l)) (λ cs. size (li k) (node cs))
-          l (16 * (at + 4)) 24 (nextIn a) (sizeIn a)
+          l (16 * (at + 4)) 24 (lowIn a) (highIn a)
       keys = x .told .good ne
 
-      abbrev there : ArrayTold v l (nextIn a) n b
+      abbrev there : ArrayTold v l (lowIn a) n b
       there = subst (λ (j : ℕ). ArrayTold v l j n b) em y
 
       pub map-values : b ≡ 0 → BodyTold (ma k v) l at 0
       unfolding script mapScript
       map-values z = record { told = told-none (rw (cut-at 4 l at h, ← e .is, keys .reads, there .told .refused z)) }
 
-      pub map-gives : (b ≡ 0 → ⊥) → {next K U : ℕ} → next ≡ nextIn b → K ≡ sizeIn a → U ≡ sizeIn b
+      pub map-gives : (b ≡ 0 → ⊥) → {next K U : ℕ} → next ≡ lowIn b → K ≡ highIn a → U ≡ highIn b
           → Gives (script (ma k v) .get (drop at l)) (tailLen (ma k v)) l (16 * at) 0 next (8 + K + U)
       unfolding script mapScript
       map-gives z {next} {K} {U} en ek eu =

@@ -18,7 +18,7 @@ use Rattle.layout.proofs.Children.{all-length}
 use Rattle.layout.proofs.Containers.{repeat, body-length, kids-lawful, element-lawful, kids-count}
 use Rattle.layout.proofs.Items.{Listed, RunListed, run-forth}
 use Rattle.layout.proofs.Listed.{script-lawful, scripts-lawful}
-use Rattle.measuring.specs.Measure.{Gives, size}
+use Rattle.measuring.specs.Measure.{Gives, size, Goes}
 
 -- the bytes behind the slots of all children that were read
 unfoldable pub totalOf : List Kid → Option (List Cell × List ℕ) → Option (ℕ × List ℕ)
@@ -83,14 +83,15 @@ total-some ks (some (cs, q)) {u} {r} e =
 
 pub record Going (whole : Option (ℕ × List ℕ)) (ks : List Kid) (ss : List Script) (l : List ℕ) (n left from pos sum : ℕ) : Type 0 where
   pub same : added sum (totalOf ks (runGet ss (drop pos l))) ≡ whole
-  pub inside : pos ≤ length l
+  pub bytes : Bytes l
+  pub goes : Goes l pos
   pub most : left ≤ n
   pub words : sum % 8 ≡ 0
   pub small : 16 * from + 32 * (n - left) + sum ≤ 16 * pos
 
-pub going-start : (ks : List Kid) (ss : List Script) (l : List ℕ) (n from : ℕ) → from ≤ length l
+pub going-start : (ks : List Kid) (ss : List Script) (l : List ℕ) (n from : ℕ) → Bytes l → Goes l from
     → Going (totalOf ks (runGet ss (drop from l))) ks ss l n n from from 0
-going-start ks ss l n from h = record { same = added-none _; inside = h; most = omega arith; words = omega arith; small = omega arith }
+going-start ks ss l n from hb h = record { same = added-none _; bytes = hb; goes = h; most = omega arith; words = omega arith; small = omega arith }
 
 module _ {whole : Option (ℕ × List ℕ)} {l : List ℕ} {n left from pos sum : ℕ} where
   module _ {k : Kid} {ks : List Kid} {s : Script} {ss : List Script} (g : Going whole (k ∷ ks) (s ∷ ss) l n left from pos sum) where
@@ -102,7 +103,8 @@ module _ {whole : Option (ℕ × List ℕ)} {l : List ℕ} {n left from pos sum 
           ∙ sym (run-one k ks (x .thing) sum (runGet ss (drop next l)))
           ∙ ap (λ o. added sum (totalOf (k ∷ ks) o)) (sym (run-more s ss (drop pos l) (x .thing) (drop next l) (x .reads)))
           ∙ g .same;
-      inside = x .inside;
+      bytes = g .bytes;
+      goes = record { inside = x .inside; short = g .goes .short };
       most = omega (arith, g .most);
       words = omega (arith, g .words, x .words);
       small = omega (arith, g .small, x .small, g .most);

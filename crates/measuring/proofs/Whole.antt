@@ -8,6 +8,7 @@ use native.Mathlib.Omega.{arith}
 use lib.ListN.{length, drop, length-drop}
 use Rattle.words.specs.Bytes.{Bytes, num, part, pad}
 use Rattle.words.specs.Reads.{Reads}
+use Rattle.words.specs.Pairs.{lowIn, highIn}
 use Rattle.schema.specs.Marks.{types, markAt}
 use Rattle.schema.specs.Types.{Ty, ro, Tys, count, place, mark}
 use Rattle.schema.specs.Walk.{Typed, typeAt, fieldsOf}
@@ -23,7 +24,7 @@ use Rattle.layout.proofs.Children.{tails-eight}
 use Rattle.layout.proofs.Containers.{kids-lawful}
 use Rattle.layout.proofs.Listed.{not-nu}
 use Rattle.table.specs.Tables.{Table, schemaOf, posOf}
-use Rattle.measuring.specs.Measure.{nextIn, sizeIn, size, Gives, ChildTold, ChildCan}
+use Rattle.measuring.specs.Measure.{size, Gives, ChildTold, ChildCan}
 use Rattle.measuring.specs.Row.{RowTold}
 use Rattle.measuring.proofs.Records.{assert-no, cut-short, cut-at, item-body}
 use Rattle.measuring.proofs.Bodies.{tail-varies, ro-none, tail-here, read-here}
@@ -133,8 +134,8 @@ size-is : (t : Ty) (c : Cell) → size t c ≡ length (content t c)
 unfolding size
 size-is t c = refl
 
-zero-next : (r : ℕ) → r ≡ 0 → nextIn r ≡ 0
-unfolding nextIn
+zero-next : (r : ℕ) → r ≡ 0 → lowIn r ≡ 0
+unfolding lowIn
 zero-next r e = rw e
 
 -- ---- in the words of the code
@@ -160,21 +161,21 @@ module _ {t : List ℕ} (h : Table t) where
     pub row-short : length l < 2 → RowTold (schemaOf t) l 0
     row-short g = row-none (image-short (schemaOf t) l hl g)
 
+    pub row-can : ChildCan t 0 8 l 0
+    row-can =
+        let p = typed-place (schemaOf t) (posOf t 0) 8 root-typed ∙ ap place root-type ∙ ro-place (fieldsOf (schemaOf t)) in
+        record {
+          stands = record { table = h; typed = root-typed };
+          holds = omega (arith, p);
+          goes = record { inside = omega arith; short = hl };
+        }
+
     module _ (h2 : 2 ≤ length l) {m : ℕ} (em : Reads l 0 2 m) where
       pub row-other : (m ≡ 28530 → ⊥) → RowTold (schemaOf t) l 0
       row-other f = row-none (image-other (schemaOf t) l hl h2 (λ e. f (em .is ∙ e)))
 
-      pub row-can : ChildCan t 0 8 l 0
-      row-can =
-          let p = typed-place (schemaOf t) (posOf t 0) 8 root-typed ∙ ap place root-type ∙ ro-place (fieldsOf (schemaOf t)) in
-          record {
-            stands = record { table = h; typed = root-typed };
-            holds = omega (arith, p);
-            goes = record { inside = omega arith; short = hl };
-          }
-
       -- the fields were measured as r, and the listing goes on at next
-      module _ (e : m ≡ 28530) (hb : Bytes l) {r : ℕ} (x : ChildTold (typeOf t 0 8) l 0 r) {next : ℕ} (en : next ≡ nextIn r) where
+      module _ (e : m ≡ 28530) (hb : Bytes l) {r : ℕ} (x : ChildTold (typeOf t 0 8) l 0 r) {next : ℕ} (en : next ≡ lowIn r) where
         abbrev fs : Tys
         fs = fieldsOf (schemaOf t)
 
@@ -196,39 +197,39 @@ module _ {t : List ℕ} (h : Table t) where
             go (yes z) = image-bad (schemaOf t) l hl h2 first-mark (sym body ∙ there .each 8 .refused z)
             go (no ne) =
                 let g = there .each 8 .good ne in
-                image-left (schemaOf t) l hl h2 first-mark (g .thing) (nextIn r) (sym body ∙ g .reads) (g .inside) (λ q. f (en ∙ q))
+                image-left (schemaOf t) l hl h2 first-mark (g .thing) (lowIn r) (sym body ∙ g .reads) (g .inside) (λ q. f (en ∙ q))
 
         module _ (f : next ≡ length l) where
           some-row : r ≡ 0 → ⊥
           some-row z = omega (arith, zero-next r z)
 
           abbrev given : Gives (item 8 (mark (ro fs)) (script (ro fs)) .get (drop 0 l)) (λ c. length (kidTail (kid 8 (codec (ro fs))) c))
-              l (16 * 0 + 32) 0 (nextIn r) (sizeIn r)
+              l (16 * 0 + 32) 0 (lowIn r) (highIn r)
           given = there .each 8 .good some-row
 
-          parts : Cells fs (drop 2 l) (given .thing) (drop (nextIn r) l)
-          parts = struct-cells fs (drop 2 l) (given .thing) (drop (nextIn r) l) (sym body ∙ given .reads)
+          parts : Cells fs (drop 2 l) (given .thing) (drop (lowIn r) l)
+          parts = struct-cells fs (drop 2 l) (given .thing) (drop (lowIn r) l) (sym body ∙ given .reads)
 
           filled : Words (size (ro fs) (node (parts .cells)))
-          filled = struct-words fs l 2 (parts .cells) (drop (nextIn r) l) hb (accepted-root (schemaOf t) (h .accepted) .low) (parts .reads)
+          filled = struct-words fs l 2 (parts .cells) (drop (lowIn r) l) hb (accepted-root (schemaOf t) (h .accepted) .low) (parts .reads)
 
-          row-size : sizeIn r ≡ size (ro fs) (node (parts .cells))
+          row-size : highIn r ≡ size (ro fs) (node (parts .cells))
           row-size =
-              let here = read-here (ro fs) l 2 (given .thing) (drop (nextIn r) l) hb (sym body ∙ given .reads) in
-              let p : sizeIn r ≡ pad (size (ro fs) (node (parts .cells))) =
+              let here = read-here (ro fs) l 2 (given .thing) (drop (lowIn r) l) hb (sym body ∙ given .reads) in
+              let p : highIn r ≡ pad (size (ro fs) (node (parts .cells))) =
               given .is ∙ sym (tail-here 8 (ro fs) (given .thing) here) ∙ tail-varies (ro fs) (ro-none fs) (given .thing)
               ∙ ap (λ (c : Cell). pad (size (ro fs) c)) (parts .is) in
               omega (arith, filled .even)
 
-          pub row-good : {n : ℕ} → n ≡ sizeIn r → RowTold (schemaOf t) l n
+          pub row-good : {n : ℕ} → n ≡ highIn r → RowTold (schemaOf t) l n
           row-good q = record {
             refused = λ z. absurd (omega (arith, row-size, filled .some));
             good = λ _. record {
               cells = parts .cells;
-              rest = drop (nextIn r) l;
+              rest = drop (lowIn r) l;
               reads = parts .reads;
               image =
-                  image-good (schemaOf t) l hl h2 first-mark (given .thing) (nextIn r) (sym body ∙ given .reads) (sym en ∙ f)
+                  image-good (schemaOf t) l hl h2 first-mark (given .thing) (lowIn r) (sym body ∙ given .reads) (sym en ∙ f)
                   ∙ ap (λ (c : Cell). some (content (ro fs) c)) (parts .is);
               is = q ∙ row-size ∙ size-is (ro fs) (node (parts .cells));
               short = hl;

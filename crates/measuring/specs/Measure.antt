@@ -3,9 +3,10 @@
 use mathlib.Core.Path.{_≡_}
 use mathlib.Core.Option.{Option, none, some}
 use mathlib.Core.List.{List}
-use Prim.Native.Nat.{ℕ, _+_, _*_, _-_, _/_, _%_, _≤_, _<_}
+use Prim.Native.Nat.{ℕ, _+_, _*_, _-_, _%_, _≤_, _<_}
 use lib.ListN.{length, drop, replicate}
 use Rattle.words.specs.Bytes.{num, part}
+use Rattle.words.specs.Pairs.{lowIn, highIn}
 use Rattle.schema.specs.Types.{Ty, li, ro, Tys, mark, place}
 use Rattle.schema.specs.Kinds.{placeAt}
 use Rattle.schema.specs.Walk.{TypedAll}
@@ -15,25 +16,7 @@ use Rattle.layout.specs.Listing.{item, runGet, element, script, scripts}
 use Rattle.table.specs.Words.{Lined, placeIn}
 use Rattle.table.specs.Tables.{Table, Stands, EntryAt, schemaOf, posOf}
 
--- ---- a measure in one number: where the listing goes on in the low 32 bits and the bytes above them, 0 where it is refused
-
-unfoldable pub nextIn : ℕ → ℕ
-nextIn r = r % 4294967296
-
-unfoldable pub sizeIn : ℕ → ℕ
-sizeIn r = r / 4294967296
-
-pub record Packable (next n : ℕ) : Type 0 where
-  pub low : next < 4294967296
-  pub high : n < 4294967296
-  pub some : 1 ≤ next + n
-
-pub record Packed (next n r : ℕ) : Type 0 where
-  pub goes : nextIn r ≡ next
-  pub takes : sizeIn r ≡ n
-  pub some : r ≡ 0 → ⊥
-
--- ---- what it says
+-- ---- what it says: in one number, where the listing goes on in the low half and the bytes in the high half, 0 where it is refused
 
 -- A reading yields a thing of n bytes, which are whole words, and leaves the listing from next on. The bytes are bounded by what was
 -- read of the listing, so that no sum of them wraps.
@@ -47,7 +30,7 @@ pub record Gives {A : Type 0} (o : Option (A × List ℕ)) (size : A → ℕ) (l
 
 pub record Told {A : Type 0} (o : Option (A × List ℕ)) (size : A → ℕ) (l : List ℕ) (low high r : ℕ) : Type 0 where
   pub refused : r ≡ 0 → o ≡ none
-  pub good : (r ≡ 0 → ⊥) → Gives o size l low high (nextIn r) (sizeIn r)
+  pub good : (r ≡ 0 → ⊥) → Gives o size l low high (lowIn r) (highIn r)
 
 -- the bytes that contents of the type take behind their container's slots
 unfoldable pub tailLen : Ty → Cell → ℕ

@@ -1,5 +1,5 @@
 // Judging and measuring a listing by its schema's table, so that nothing is written where it is refused.
-// A measure is one number and stays in a register: where the listing goes on in the low 32 bits, and the bytes above them. It is 0
+// A measure is one number and stays in a register: where the listing goes on in the low half, and the bytes in the high half. It is 0
 // where the listing is refused. What a container holds is whole words, so only a text is padded.
 ghost use mathlib.Core.Path.{_≡_};
 ghost use Prim.Native.Nat.{_+_, _*_, _≤_, _<_};
@@ -8,34 +8,16 @@ ghost use Rattle.schema.specs.Marks.{elementWidth};
 ghost use Rattle.schema.specs.Walk.{typeAt, typesAt};
 ghost use Rattle.table.specs.Words.{placeIn, Lined};
 ghost use Rattle.table.specs.Tables.{Table, schemaOf, posOf};
-ghost use Rattle.measuring.specs.Measure.{nextIn, sizeIn, Packable, Packed, NullTold, OnlyNull, BodyTold, ChildTold, LeafTold, ArrayTold};
+ghost use Rattle.measuring.specs.Measure.{NullTold, OnlyNull, BodyTold, ChildTold, LeafTold, ArrayTold};
 ghost use Rattle.measuring.specs.Measure.{FieldsTold, Goes, FixedCan, TextCan, ChildCan, ListsCan, ArrayCan, FieldsCan};
 ghost use Rattle.measuring.specs.Row.{RowTold};
+use words::pairs;
 
 // The number of the mark of null.
 const NULL: usize = 0x756E;
 
 // The number of the mark of a struct.
 const STRUCT_MARK: usize = 0x6F72;
-
-fn packed(next: usize, size: usize) -> u64
-    requires { ⌜ Packable next size ⌝ }
-    ensures { λ r. ⌜ Packed next size r ⌝ }
-{
-    next as u64 + size as u64 * 0x1_0000_0000
-}
-
-fn next_of(m: u64) -> usize
-    ensures { λ r. ⌜ r ≡ nextIn m ⌝ }
-{
-    (m % 0x1_0000_0000) as usize
-}
-
-fn size_of(m: u64) -> usize
-    ensures { λ r. ⌜ r ≡ sizeIn m ⌝ }
-{
-    (m / 0x1_0000_0000) as usize
-}
 
 // The bytes of an array of n elements up to their data: its count, its bitmap, its elements and the zeros up to Pad.
 fn array_size(w: u64, n: usize) -> usize
@@ -89,12 +71,12 @@ fn measure_fixed(w: u64, l: &[u8], from: usize) -> u64
         return unmarked(m, from);
     }
     if table::place(w) != table::BOOL {
-        return packed(from + v, 0);
+        return pairs::pair(from + v, 0);
     }
     if 1 < l[from + 2] {
         return 0;
     }
-    packed(from + v, 0)
+    pairs::pair(from + v, 0)
 }
 
 // A string or binary with its mark.
@@ -113,7 +95,7 @@ fn measure_text(w: u64, l: &[u8], from: usize) -> u64
     if l.len() - from - 6 < n {
         return 0;
     }
-    packed(from + 6 + n, words::sizes::pad_size(n))
+    pairs::pair(from + 6 + n, words::sizes::pad_size(n))
 }
 
 // A container with its mark: its type's entry stands at place c.
@@ -157,13 +139,16 @@ fn measure_lists(t: &[u64], c: usize, depth: usize, w: u64, l: &[u8], from: usiz
         table::after(table::entry_at(t, c + 1, d)),
         d,
         l,
-        next_of(keys),
+        pairs::low(keys),
         n,
     );
     if values == 0 {
         return 0;
     }
-    packed(next_of(values), 8 + size_of(keys) + size_of(values))
+    pairs::pair(
+        pairs::low(values),
+        8 + pairs::high(keys) + pairs::high(values),
+    )
 }
 
 // n elements of the type at place c, as an array: a short listing that announces many is refused where it ends.
@@ -186,11 +171,11 @@ fn measure_array(t: &[u64], c: usize, depth: usize, l: &[u8], from: usize, n: us
         if r == 0 {
             return 0;
         }
-        pos = next_of(r);
-        sum += size_of(r);
+        pos = pairs::low(r);
+        sum += pairs::high(r);
         left -= 1;
     }
-    packed(pos, sum)
+    pairs::pair(pos, sum)
 }
 
 // The n fields of a struct, the first's entry at place first.
@@ -214,12 +199,12 @@ fn measure_fields(t: &[u64], first: usize, n: usize, depth: usize, l: &[u8], fro
         if r == 0 {
             return 0;
         }
-        pos = next_of(r);
-        sum += size_of(r);
+        pos = pairs::low(r);
+        sum += pairs::high(r);
         c = table::after(w);
         left -= 1;
     }
-    packed(pos, sum)
+    pairs::pair(pos, sum)
 }
 
 // The bytes of the row of a whole listing, 0 where it is refused: the root is not null, and nothing is left over.
@@ -237,8 +222,8 @@ pub fn measure_row(t: &[u64], l: &[u8]) -> usize
         return 0;
     }
     let m = measure_child(t, 0, 8, l, 0);
-    if next_of(m) != l.len() {
+    if pairs::low(m) != l.len() {
         return 0;
     }
-    size_of(m)
+    pairs::high(m)
 }

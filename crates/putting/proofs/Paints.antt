@@ -2,7 +2,7 @@
 use mathlib.Core.Path.{_≡_, refl, ap, _∙_}
 use mathlib.Core.Option.{Option, none, some}
 use mathlib.Core.List.{List, [], _∷_}
-use Prim.Native.Nat.{ℕ, suc, _+_, _*_, _-_, _/_, _≤_, _<_}
+use Prim.Native.Nat.{ℕ, suc, _+_, _*_, _-_, _/_, _^_, _≤_, _<_}
 use native.Mathlib.Omega.{arith}
 use lib.ListN.{length, drop, length-append}
 use lib.Seq.{sets}
@@ -54,8 +54,11 @@ less w i n h = let e : n - i ≡ suc (n - (i + 1)) = omega arith in rw e (omega 
 
 module _ {ks : List Kid} {ss : List Script} {l : List ℕ} {base bm w : ℕ} {goal stop : List ℕ} {last : ℕ} {x : List ℕ} {i n pos slot cur : ℕ}
     (g : Paints ks ss l base bm w goal stop last x i n pos slot cur) where
-  pub paints-cur : cur ≤ length x
+  paints-cur : cur ≤ length x
   paints-cur = omega (arith, g .ends, g .room)
+
+  pub paints-answer : length l ≤ 65536 → length x ≤ 16384 → (pos < 2 ^ 32) × (cur < 2 ^ 32)
+  paints-answer hl hx = (omega (arith, g .inside), omega (arith, paints-cur))
 
   pub paints-bit : i < n → bm + i / 8 < slot
   paints-bit h = omega (arith, g .map)

@@ -1,14 +1,14 @@
 -- The whole row: the root of the table's schema is a struct, and its contents fill the room. Assumes nothing.
-use mathlib.Core.Path.{_≡_, refl, sym, ap, _∙_, subst}
+use mathlib.Core.Path.{_≡_, refl, sym, ap, _∙_}
 use mathlib.Core.Option.{some}
 use mathlib.Core.List.{List}
 use Prim.Native.Nat.{ℕ, _%_}
 use native.Mathlib.Omega.{arith}
 use lib.ListN.{length, drop}
 use lib.Seq.{sets}
-use Rattle.words.specs.Bytes.{Bytes, padded}
+use Rattle.words.specs.Bytes.{padded}
 use Rattle.words.proofs.Runs.{sets-whole}
-use Rattle.schema.specs.Types.{Ty, ro, place}
+use Rattle.schema.specs.Types.{ro, place}
 use Rattle.schema.specs.Kinds.{placeAt}
 use Rattle.schema.specs.Walk.{typeAt, fieldsOf}
 use Rattle.schema.proofs.Judging.{Root, accepted-root}
@@ -22,9 +22,9 @@ use Rattle.layout.proofs.Containers.{kids-lawful}
 use Rattle.table.specs.Tables.{schemaOf, posOf}
 use Rattle.measuring.specs.Measure.{size}
 use Rattle.measuring.proofs.Totals.{fields-fit, fields-size}
-use Rattle.putting.specs.Put.{Ready, typeIn, Held, PutStruct, PutRow}
+use Rattle.putting.specs.Put.{typeIn, Held, PutStruct, PutRow}
 use Rattle.putting.proofs.Given.{same-thing}
-use Rattle.putting.proofs.Slots.{padded-whole}
+use Rattle.putting.proofs.Slots.{Octets, octets-are, padded-whole}
 use Rattle.putting.proofs.Paints.{size-is}
 
 root-at : (t : List ℕ) → posOf t 0 ≡ 0
@@ -56,7 +56,7 @@ module _ {t l : List ℕ} {len : ℕ} (p : PutRow t l len) where
         put = record {
           stands = record { table = p .table; typed = rw (root-at t) (root .typed) };
           holds = omega (arith, k);
-          ready = subst (λ (y : Ty). Ready (script y .get (drop 2 l)) (size y) 0 len) (sym whole) (record {
+          ready = rw whole (record {
             thing = node (p .gives .cells);
             rest = p .gives .rest;
             reads = reads;
@@ -68,18 +68,18 @@ module _ {t l : List ℕ} {len : ℕ} (p : PutRow t l len) where
         struct = k;
       }
 
-  row-eight : Bytes l → length row % 8 ≡ 0
-  row-eight hb =
+  row-eight : Octets l → length row % 8 ≡ 0
+  row-eight o =
       let ts = fieldsOf s in
       let cs = p .gives .cells in
-      let f = fields-fit ts l 2 cs (p .gives .rest) hb (p .gives .reads) in
+      let f = fields-fit ts l 2 cs (p .gives .rest) (octets-are o) (p .gives .reads) in
       omega (arith, size-is (ro ts) (node cs), fields-size ts cs f, tails-eight 8 (kids ts) cs (kids-lawful ts))
 
-  pub row-image : Bytes l → {x y : List ℕ} {next stop : ℕ} → length x ≡ len → Held (typeIn t 0 8) l 2 0 x y next stop → some y ≡ imageOf s l
-  row-image hb {x} {y} {next} {stop} el w =
-      let v : Held (ro (fieldsOf s)) l 2 0 x y next stop = subst (λ (z : Ty). Held z l 2 0 x y next stop) whole w in
+  pub row-image : Octets l → {x y : List ℕ} {next stop : ℕ} → length x ≡ len → Held (typeIn t 0 8) l 2 0 x y next stop → some y ≡ imageOf s l
+  row-image o {x} {y} {next} {stop} el w =
+      let v : Held (ro (fieldsOf s)) l 2 0 x y next stop = rw whole at w in
       let c : node (p .gives .cells) ≡ v .thing = same-thing reads (v .reads) in
       let q : content (ro (fieldsOf s)) (v .thing) ≡ row = ap (content (ro (fieldsOf s))) (sym c) in
       let long : length row ≡ length x = omega (arith, p .gives .is) in
-      ap some (v .bytes ∙ ap (λ (u : List ℕ). sets x 0 (padded u)) q ∙ ap (sets x 0) (padded-whole row (row-eight hb)) ∙ sets-whole x row long)
+      ap some (v .bytes ∙ ap (λ (u : List ℕ). sets x 0 (padded u)) q ∙ ap (sets x 0) (padded-whole row (row-eight o)) ∙ sets-whole x row long)
       ∙ sym (p .gives .image)

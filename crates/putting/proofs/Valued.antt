@@ -1,5 +1,5 @@
 -- The contents of a container written behind their mark, by the entry of its type. Assumes nothing.
-use mathlib.Core.Path.{_≡_, sym, ap, _∙_, subst}
+use mathlib.Core.Path.{_≡_, sym, ap, _∙_}
 use mathlib.Core.Option.{some}
 use mathlib.Core.List.{List, [], _∷_, _++_}
 use Prim.Native.Nat.{ℕ, _+_, _*_, _-_, _%_, _≤_, _<_}
@@ -32,7 +32,7 @@ use Rattle.measuring.proofs.Records.{cut-at}
 use Rattle.measuring.proofs.Totals.{array-fit, array-size}
 use Rattle.putting.specs.Put.{Ready, typeIn, Held, PutValue, PutStruct, PutArray, ArrayWrote}
 use Rattle.putting.proofs.Given.{same-thing, same-rest, list-four, given-list, Pair, map-four, given-map}
-use Rattle.putting.proofs.Slots.{padded-whole}
+use Rattle.putting.proofs.Slots.{Octets, octets-are, padded-whole}
 use Rattle.putting.proofs.Paints.{size-is}
 
 map-content : (k v : Ty) (ks vs : List Cell) → content (ma k v) (node (node ks ∷ node vs ∷ []))
@@ -58,49 +58,38 @@ array-eight t from {l} {n} {cs} {r} hb few e =
     let f = array-fit t l from n cs r hb (omega arith) e in
     omega (arith, size-is (li t) (node cs), array-size t n cs f, tails-eight w (replicate n k) cs (repeat w n k (element-lawful t)))
 
--- contents whose kind the code has found
-pub record ValueKnown (t : List ℕ) (c d : ℕ) (l : List ℕ) (from pos len k : ℕ) : Type 0 where
-  pub put : PutValue t c d l from pos len
-  pub octets : Bytes l
-  pub entry : ℕ
-  pub says : EntryAt t c d entry
-  pub kind : k ≡ placeIn entry
+-- the measure falls from a value to it as a struct, and from an array to a value of it
+pub struct-rank : (d : ℕ) {m : ℕ} → 3 * d + 2 ≡ m → 3 * d + 1 < m
+struct-rank d e = omega arith
 
--- the contents are a map's, and n is the count in front of them
-pub record IsMap (t : List ℕ) (c d : ℕ) (l : List ℕ) (from pos len k n : ℕ) : Type 0 where
-  pub known : ValueKnown t c d l from pos len k
-  pub count : Reads l from 4 n
-  pub ten : k ≡ 10
+pub element-rank : (d : ℕ) {m : ℕ} → 3 * d + 3 ≡ m → 3 * d + 2 < m
+element-rank d e = omega arith
 
-module _ {t : List ℕ} {c d : ℕ} {l : List ℕ} {from pos len k : ℕ} (p : ValueKnown t c d l from pos len k) where
-  place-is : k ≡ placeAt (schemaOf t) (posOf t c)
-  place-is = p .kind ∙ p .says .place
-
+module _ {t : List ℕ} {c d : ℕ} {l : List ℕ} {from pos len : ℕ} (p : PutValue t c d l from pos len) where
   pub value-deep : 1 ≤ d
-  value-deep = omega (arith, typed-deep (schemaOf t) (posOf t c) d (p .put .stands .typed))
+  value-deep = omega (arith, typed-deep (schemaOf t) (posOf t c) d (p .stands .typed))
 
+  -- and from a value to an array in it
   pub value-falls : {m : ℕ} → 3 * d + 2 ≡ m → 3 * (d - 1) + 3 < m
   value-falls e = omega (arith, value-deep)
 
-  pub struct-falls : {m : ℕ} → 3 * d + 2 ≡ m → 3 * d + 1 < m
-  struct-falls e = omega arith
-
   pub value-child : Fits w64 (c + 1)
-  value-child =
-      let s = p .put .stands in
-      omega (arith, place-room t (s .table) c d (s .typed), table-short t (s .table))
-
-  pub struct-can : k ≡ 11 → PutStruct t c d l from pos len
-  struct-can e = record { put = p .put; struct = sym place-is ∙ e }
+  value-child = let s = p .stands in omega (arith, place-room t (s .table) c d (s .typed), table-short t (s .table))
 
   ready-as : {u : Ty} → typeIn t c d ≡ u → Ready (script u .get (drop from l)) (size u) pos len
-  ready-as e = subst (λ (y : Ty). Ready (script y .get (drop from l)) (size y) pos len) e (p .put .ready)
+  ready-as e = rw e at (p .ready)
+
+-- e is the entry of its type, and k the type's place in the table of types
+module _ {t : List ℕ} {c d : ℕ} {l : List ℕ} {from pos len : ℕ} (p : PutValue t c d l from pos len) {e : ℕ}
+    (en : EntryAt t c d e) {k : ℕ} (ek : k ≡ placeIn e) where
+  place-is : k ≡ placeAt (schemaOf t) (posOf t c)
+  place-is = ek ∙ en .place
+
+  pub struct-can : k ≡ 11 → PutStruct t c d l from pos len
+  struct-can z = record { put = p; struct = sym place-is ∙ z }
 
   held-as : {u : Ty} → typeIn t c d ≡ u → {x y : List ℕ} {next stop : ℕ} → Held u l from pos x y next stop → Held (typeIn t c d) l from pos x y next stop
-  held-as e {x} {y} {next} {stop} w = subst (λ (z : Ty). Held z l from pos x y next stop) (sym e) w
-
-  pub value-map : {n : ℕ} → Reads l from 4 n → (k ≡ 11 → ⊥) → (k ≡ 9 → ⊥) → IsMap t c d l from pos len k n
-  value-map g n11 n9 = record { known = p; count = g; ten = omega (arith, p .put .holds, place-is, p .says .lined .few, p .kind) }
+  held-as z w = rw z w
 
   -- what a list and a map hold stands one place on
   abbrev keyTy : Ty
@@ -110,143 +99,141 @@ module _ {t : List ℕ} {c d : ℕ} {l : List ℕ} {from pos len k : ℕ} (p : V
   valueTy = typeAt (schemaOf t) (nextAt (schemaOf t) (posOf t (c + 1)) (d - 1)) (d - 1)
 
   child-at : (k ≡ 11 → ⊥) → posOf t (c + 1) ≡ posOf t c + 2
-  child-at ne = p .says .child (λ e. ne (p .kind ∙ e))
+  child-at ne = en .child (λ z. ne (ek ∙ z))
 
   list-at : k ≡ 9 → ListAt (schemaOf t) (posOf t c) d (posOf t (c + 1))
-  list-at e = rw (child-at (λ z. omega arith)) (place-li (schemaOf t) (posOf t c) d (p .put .stands .typed) k place-is e)
+  list-at q = rw (child-at (λ z. omega arith)) (place-li (schemaOf t) (posOf t c) d (p .stands .typed) k place-is q)
 
   map-at : k ≡ 10 → MapAt (schemaOf t) (posOf t c) d (posOf t (c + 1)) (nextAt (schemaOf t) (posOf t (c + 1)) (d - 1))
-  map-at e = rw (child-at (λ z. omega arith)) (place-ma (schemaOf t) (posOf t c) d (p .put .stands .typed) k place-is e)
+  map-at q = rw (child-at (λ z. omega arith)) (place-ma (schemaOf t) (posOf t c) d (p .stands .typed) k place-is q)
 
-  -- a list and a map begin with four bytes
-  pub value-four : (k ≡ 11 → ⊥) → from + 4 ≤ length l
-  value-four ne = go (ℕ-discrete k 9)
-    where
-      go : Dec (k ≡ 9) → from + 4 ≤ length l
-      go (yes e) = omega (arith, list-four l from pos len keyTy (ready-as (list-at e .whole)))
-      go (no f) =
-          let ten : k ≡ 10 = omega (arith, p .put .holds, place-is, p .says .lined .few, p .kind) in
-          omega (arith, map-four l from pos len keyTy valueTy (ready-as (map-at ten .whole)))
+  module _ (n11 : k ≡ 11 → ⊥) where
+    ten : (k ≡ 9 → ⊥) → k ≡ 10
+    ten n9 = omega (arith, p .holds, place-is, en .lined .few, ek)
 
-  pub value-after : (k ≡ 11 → ⊥) → Fits w64 (from + 4)
-  value-after ne = omega (arith, value-four ne, p .put .short)
+    -- a list and a map begin with four bytes
+    pub value-four : from + 4 ≤ length l
+    value-four = go (ℕ-discrete k 9)
+      where
+        go : Dec (k ≡ 9) → from + 4 ≤ length l
+        go (yes q) = omega (arith, list-four l from pos len keyTy (ready-as p (list-at q .whole)))
+        go (no f) = omega (arith, map-four l from pos len keyTy valueTy (ready-as p (map-at (ten f) .whole)))
 
-  module _ (e : k ≡ 9) {n : ℕ} (g : Reads l from 4 n) where
-    other : k ≡ 11 → ⊥
-    other z = omega arith
+    pub value-after : Fits w64 (from + 4)
+    value-after = omega (arith, value-four, p .short)
+
+  -- ---- a list: n is its count
+
+  module _ (q : k ≡ 9) {n : ℕ} (r : Reads l from 4 n) where
+    list-head : from + 4 ≤ length l
+    list-head = value-four (λ z. omega arith)
 
     pub list-can : PutArray t (c + 1) (d - 1) l (from + 4) n pos len
     list-can = record {
-      stands = record { table = p .put .stands .table; typed = list-at e .element };
-      inside = value-four other;
-      few = omega (arith, g .below);
-      ready = given-list l from pos len keyTy (ready-as (list-at e .whole)) n (g .is);
-      small = p .put .small;
-      short = p .put .short;
+      stands = record { table = p .stands .table; typed = list-at q .element };
+      inside = list-head;
+      few = omega (arith, r .below);
+      ready = given-list l from pos len keyTy (ready-as p (list-at q .whole)) n (r .is);
+      small = p .small;
+      short = p .short;
     }
 
-    pub list-held : {x y : List ℕ} {next stop : ℕ} → ArrayWrote keyTy l (from + 4) n pos x y next stop → Held (typeIn t c d) l from pos x y next stop
+    pub list-held : Octets l → {x y : List ℕ} {next stop : ℕ} → ArrayWrote keyTy l (from + 4) n pos x y next stop → Held (typeIn t c d) l from pos x y next stop
     unfolding script listScript
-    list-held {x} {y} {next} {stop} w =
-        let four : 4 ≤ length l - from = omega (arith, value-four other) in
-        let en = g .is in
+    list-held o {x} w =
+        let four : 4 ≤ length l - from = omega (arith, list-head) in
+        let er = r .is in
         let u = content (li keyTy) (node (w .thing)) in
-        held-as (list-at e .whole) (record {
+        held-as (list-at q .whole) (record {
           thing = node (w .thing);
-          reads = rw (cut-at 4 l from four, ← en, w .reads);
+          reads = rw (cut-at 4 l from four, ← er, w .reads);
           inside = w .inside;
-          bytes = w .bytes ∙ ap (sets x pos) (sym (padded-whole u (array-eight keyTy (from + 4) (p .octets) (list-can .few) (w .reads))));
+          bytes = w .bytes ∙ ap (sets x pos) (sym (padded-whole u (array-eight keyTy (from + 4) (octets-are o) (list-can .few) (w .reads))));
           ends = w .ends;
         })
 
--- ---- a map: its keys behind their size, and its values behind them
+  -- ---- a map, which is what is left: its keys behind their size, and its values behind them
 
-module _ {t : List ℕ} {c d : ℕ} {l : List ℕ} {from pos len k n : ℕ} (q : IsMap t c d l from pos len k n) where
-  abbrev keysTy : Ty
-  keysTy = typeIn t (c + 1) (d - 1)
+  module _ (n11 : k ≡ 11 → ⊥) (n9 : k ≡ 9 → ⊥) where
+    at-map : MapAt (schemaOf t) (posOf t c) d (posOf t (c + 1)) (nextAt (schemaOf t) (posOf t (c + 1)) (d - 1))
+    at-map = map-at (ten n11 n9)
 
-  abbrev valuesTy : Ty
-  valuesTy = typeAt (schemaOf t) (nextAt (schemaOf t) (posOf t (c + 1)) (d - 1)) (d - 1)
+    pub keys-stand : Stands t (c + 1) (d - 1)
+    keys-stand = record { table = p .stands .table; typed = at-map .keys }
 
-  no-struct : k ≡ 11 → ⊥
-  no-struct e = omega (arith, q .ten)
+    module _ {n : ℕ} (r : Reads l from 4 n) where
+      both : Pair l from pos len keyTy valueTy n
+      both = given-map l from pos len keyTy valueTy (ready-as p (at-map .whole)) n (r .is)
 
-  both : Pair l from pos len keysTy valuesTy n
-  both = given-map l from pos len keysTy valuesTy (ready-as (q .known) (map-at (q .known) (q .ten) .whole)) n (q .count .is)
+      few : n < 4294967296
+      few = omega (arith, r .below)
 
-  few : n < 4294967296
-  few = omega (arith, q .count .below)
-
-  pub keys-stand : Stands t (c + 1) (d - 1)
-  keys-stand = record { table = q .known .put .stands .table; typed = map-at (q .known) (q .ten) .keys }
-
-  pub keys-can : PutArray t (c + 1) (d - 1) l (from + 4) n (pos + 8) len
-  keys-can = record {
-    stands = keys-stand;
-    inside = value-four (q .known) no-struct;
-    few = few;
-    ready = record { thing = both .ks; rest = both .mid; reads = both .keys; room = omega (arith, both .room) };
-    small = q .known .put .small;
-    short = q .known .put .short;
-  }
-
-  pub head-fits : Fits w64 (pos + 8)
-  head-fits = omega (arith, both .room, q .known .put .small)
-
-  pub head-in : {m : ℕ} → m ≡ len → pos + 8 ≤ m
-  head-in e = omega (arith, both .room)
-
-  module _ {x x₁ : List ℕ} {mid stop : ℕ} (a : ArrayWrote keysTy l (from + 4) n (pos + 8) x x₁ mid stop) where
-    pub keys-long : {m : ℕ} → m ≡ stop → pos + 8 ≤ m
-    keys-long e = omega (arith, a .ends)
-
-    keys-size : stop ≡ pos + 8 + size (li keysTy) (node (both .ks))
-    keys-size =
-        let same = ap (λ cs. length (content (li keysTy) (node cs))) (same-thing (both .keys) (a .reads)) in
-        omega (arith, a .ends, size-is (li keysTy) (node (both .ks)), same)
-
-    -- the values' type stands behind the keys'
-    module _ {e v : ℕ} (w : EntryAt t (c + 1) (d - 1) e) (ev : v ≡ afterIn e) where
-      values-at : posOf t v ≡ nextAt (schemaOf t) (posOf t (c + 1)) (d - 1)
-      values-at = ap (posOf t) ev ∙ w .next
-
-      pub values-can : {m mid₁ stop₁ : ℕ} → m ≡ len → mid₁ ≡ mid → stop₁ ≡ stop → PutArray t v (d - 1) l mid₁ n stop₁ m
-      values-can {m} {mid₁} {stop₁} el em es = rw (el, em, es) (record {
-        stands = record { table = q .known .put .stands .table; typed = rw values-at (map-at (q .known) (q .ten) .values) };
-        inside = a .inside;
+      pub keys-can : PutArray t (c + 1) (d - 1) l (from + 4) n (pos + 8) len
+      keys-can = record {
+        stands = keys-stand;
+        inside = value-four n11;
         few = few;
-        ready = rw values-at (record {
-          thing = both .vs;
-          rest = both .rest;
-          reads = ap (runGet (replicate n (element valuesTy (script valuesTy)))) (sym (same-rest (both .keys) (a .reads))) ∙ both .values;
-          room = omega (arith, keys-size, both .room);
-        });
-        small = q .known .put .small;
-        short = q .known .put .short;
-      })
+        ready = record { thing = both .ks; rest = both .mid; reads = both .keys; room = omega (arith, both .room) };
+        small = p .small;
+        short = p .short;
+      }
 
-      pub map-held : {mid₁ stop₁ : ℕ} → mid₁ ≡ mid → stop₁ ≡ stop → {x₂ y : List ℕ} {next last : ℕ} → x₂ ≡ sets x₁ pos (le 8 (stop₁ - (pos + 8)))
-          → ArrayWrote (typeIn t v (d - 1)) l mid₁ n stop₁ x₂ y next last → Held (typeIn t c d) l from pos x y next last
-      unfolding script mapScript
-      map-held {mid₁} {stop₁} em es {x₂} {y} {next} {last} e₂ b′ =
-          let b : ArrayWrote valuesTy l mid n stop x₂ y next last = rw (values-at, em, es) at b′ in
-          let K = content (li keysTy) (node (a .thing)) in
-          let U = content (li valuesTy) (node (b .thing)) in
-          let four : 4 ≤ length l - from = omega (arith, value-four (q .known) no-struct) in
-          let en = q .count .is in
-          let size : stop₁ - (pos + 8) ≡ length K = omega (arith, a .ends) in
-          let e₃ : x₂ ≡ sets x₁ pos (le 8 (length K)) = rw size at e₂ in
-          let whole : content (ma keysTy valuesTy) (node (node (a .thing) ∷ node (b .thing) ∷ [])) ≡ le 8 (length K) ++ (K ++ U) =
-          map-content keysTy valuesTy (a .thing) (b .thing) in
-          let all = content (ma keysTy valuesTy) (node (node (a .thing) ∷ node (b .thing) ∷ [])) in
-          let long : length all ≡ 8 + length K + length U = ap length whole
-          ∙ rw (length-append, length-append, length-le) (omega arith) in
-          let even : padded all ≡ all = padded-whole all
-          (omega (arith, long, array-eight keysTy (from + 4) (q .known .octets) few (a .reads), array-eight valuesTy mid (q .known .octets) few (b .reads))) in
-          held-as (q .known) (map-at (q .known) (q .ten) .whole) (record {
-            thing = node (node (a .thing) ∷ node (b .thing) ∷ []);
-            reads = rw (cut-at 4 l from four, ← en, a .reads, b .reads);
-            inside = b .inside;
-            bytes = map-bytes x K U pos (a .bytes) (a .ends) e₃ (b .bytes) ∙ ap (sets x pos) (sym whole ∙ sym even);
-            ends = omega (arith, a .ends, b .ends, long);
-          })
+      pub head-fits : Fits w64 (pos + 8)
+      head-fits = omega (arith, both .room, p .small)
+
+      pub head-in : {m : ℕ} → m ≡ len → pos + 8 ≤ m
+      head-in e = omega (arith, both .room)
+
+      -- where the keys end is stop, the listing goes on at mid, and v is the place of the values' type, behind the keys' entry e₁
+      module _ {x x₁ : List ℕ} {mid stop : ℕ} (a : ArrayWrote keyTy l (from + 4) n (pos + 8) x x₁ mid stop) where
+        pub keys-long : {m : ℕ} → m ≡ stop → pos + 8 ≤ m
+        keys-long e = omega (arith, a .ends)
+
+        module _ {e₁ v : ℕ} (en₁ : EntryAt t (c + 1) (d - 1) e₁) (ev : v ≡ afterIn e₁) {mid₁ stop₁ : ℕ} (em : mid₁ ≡ mid) (es : stop₁ ≡ stop) where
+          values-at : posOf t v ≡ nextAt (schemaOf t) (posOf t (c + 1)) (d - 1)
+          values-at = ap (posOf t) ev ∙ en₁ .next
+
+          pub values-can : {m : ℕ} → m ≡ len → PutArray t v (d - 1) l mid₁ n stop₁ m
+          values-can el =
+              let same = ap (λ cs. length (content (li keyTy) (node cs))) (same-thing (both .keys) (a .reads)) in
+              rw (el, em, es) (record {
+                stands = record { table = p .stands .table; typed = rw values-at (at-map .values) };
+                inside = a .inside;
+                few = few;
+                ready = rw values-at (record {
+                  thing = both .vs;
+                  rest = both .rest;
+                  reads = ap (runGet (replicate n (element valueTy (script valueTy)))) (sym (same-rest (both .keys) (a .reads))) ∙ both .values;
+                  room = omega (arith, a .ends, size-is (li keyTy) (node (both .ks)), same, both .room);
+                });
+                small = p .small;
+                short = p .short;
+              })
+
+          pub map-held : Octets l → {x₂ y : List ℕ} {next last : ℕ} → x₂ ≡ sets x₁ pos (le 8 (stop₁ - (pos + 8)))
+              → ArrayWrote (typeIn t v (d - 1)) l mid₁ n stop₁ x₂ y next last → Held (typeIn t c d) l from pos x y next last
+          unfolding script mapScript
+          map-held o {x₂} {y} {next} {last} e₂ b′ =
+              let b : ArrayWrote valueTy l mid n stop x₂ y next last = rw (values-at, em, es) at b′ in
+              let K = content (li keyTy) (node (a .thing)) in
+              let U = content (li valueTy) (node (b .thing)) in
+              let four : 4 ≤ length l - from = omega (arith, value-four n11) in
+              let er = r .is in
+              let size : stop₁ - (pos + 8) ≡ length K = omega (arith, a .ends) in
+              let e₃ : x₂ ≡ sets x₁ pos (le 8 (length K)) = rw size at e₂ in
+              let all = content (ma keyTy valueTy) (node (node (a .thing) ∷ node (b .thing) ∷ [])) in
+              let whole : all ≡ le 8 (length K) ++ (K ++ U) = map-content keyTy valueTy (a .thing) (b .thing) in
+              let long : length all ≡ 8 + length K + length U = ap length whole ∙ rw (length-append, length-append, length-le) (omega arith) in
+              let even : padded all ≡ all = padded-whole all (omega (
+                arith,
+                long,
+                array-eight keyTy (from + 4) (octets-are o) few (a .reads),
+                array-eight valueTy mid (octets-are o) few (b .reads),
+              )) in
+              held-as (at-map .whole) (record {
+                thing = node (node (a .thing) ∷ node (b .thing) ∷ []);
+                reads = rw (cut-at 4 l from four, ← er, a .reads, b .reads);
+                inside = b .inside;
+                bytes = map-bytes x K U pos (a .bytes) (a .ends) e₃ (b .bytes) ∙ ap (sets x pos) (sym whole ∙ sym even);
+                ends = omega (arith, a .ends, b .ends, long);
+              })

@@ -2,7 +2,7 @@
 use mathlib.Core.Path.{_≡_}
 use mathlib.Core.Option.{Option, some}
 use mathlib.Core.List.{List}
-use Prim.Native.Nat.{ℕ, _+_, _*_, _-_, _/_, _%_, _^_, _≤_, _<_}
+use Prim.Native.Nat.{ℕ, _+_, _*_, _-_, _≤_, _<_}
 use lib.ListN.{length, drop, replicate}
 use lib.Seq.{sets}
 use Rattle.words.specs.Bytes.{le, num, part, zeros, pad, padded, bitmap}
@@ -15,17 +15,6 @@ use Rattle.layout.specs.Listing.{runGet, element, script}
 use Rattle.table.specs.Tables.{schemaOf, posOf, Table, Stands}
 use Rattle.measuring.specs.Measure.{size}
 use Rattle.measuring.specs.Row.{RowGives}
-
--- an answer of two numbers in one word: where the listing goes on, and where what was written ends
-unfoldable pub nextIn : ℕ → ℕ
-nextIn r = r % 2 ^ 32
-
-unfoldable pub stopIn : ℕ → ℕ
-stopIn r = r / 2 ^ 32
-
-pub record Paired (next stop r : ℕ) : Type 0 where
-  pub goes-on : nextIn r ≡ next
-  pub ends : stopIn r ≡ stop
 
 -- the type at a place of a table
 abbrev pub typeIn : List ℕ → ℕ → ℕ → Ty

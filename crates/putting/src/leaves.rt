@@ -4,28 +4,10 @@ ghost use Prim.Native.Nat.{_+_, _*_, _-_, _^_, _≤_, _<_};
 ghost use lib.ListN.{length};
 ghost use lib.Seq.{sets};
 ghost use Rattle.words.specs.Bytes.{le, part, zeros, pad, padded, bitmap};
+ghost use Rattle.words.specs.Pairs.{lowIn, highIn};
 ghost use Rattle.words.specs.Reads.{Reads};
-ghost use Rattle.putting.specs.Put.{nextIn, stopIn, Paired, TextCan, TextWrote, PaddedCan, SeatCan, ClearCan, FrontCan, frontOf};
-
-// Where the listing goes on, and where what was written ends, in one word: an answer that goes through no memory.
-pub fn pair(next: usize, stop: usize) -> u64
-    requires { ⌜ (next < 2 ^ 32) × (stop < 2 ^ 32) ⌝ }
-    ensures { λ r. ⌜ Paired next stop r ⌝ }
-{
-    words::slots::slot(stop as u64, next as u64)
-}
-
-pub fn next_of(p: u64) -> usize
-    ensures { λ r. ⌜ r ≡ nextIn p ⌝ }
-{
-    words::slots::slot_size(p) as usize
-}
-
-pub fn stop_of(p: u64) -> usize
-    ensures { λ r. ⌜ r ≡ stopIn p ⌝ }
-{
-    words::slots::slot_offset(p) as usize
-}
+ghost use Rattle.putting.specs.Put.{TextCan, TextWrote, PaddedCan, SeatCan, ClearCan, FrontCan, frontOf};
+use words::pairs;
 
 // The number of fewer than 8 bytes: by one read of a word where the listing has one.
 pub fn short_number(l: &[u8], at: usize, k: usize) -> u64
@@ -86,29 +68,29 @@ pub fn put_padded(out: &mut [u8], to: usize, l: &[u8], from: usize, n: usize)
 // A string or binary behind its mark, from pos on.
 pub fn put_text(l: &[u8], from: usize, out: &mut [u8], pos: usize) -> u64
     requires { ⌜ TextCan (now l) from pos (length (now out)) ⌝ }
-    ensures { λ r. ⌜ TextWrote (now (l .entry)) from pos (now (out .entry)) (now (out .exit)) (nextIn r) (stopIn r) ⌝ }
+    ensures { λ r. ⌜ TextWrote (now (l .entry)) from pos (now (out .entry)) (now (out .exit)) (lowIn r) (highIn r) ⌝ }
 {
     let n = words::nums::get4(l, from);
     let text = from + 4;
     put_padded(out, pos, l, text, n);
-    pair(text + n, pos + n)
+    pairs::pair(text + n, pos + n)
 }
 
 // The slot of the contents from cur on, whose answer is p: its offset counts from the container's first byte, its size is without
 // the padding.
 pub fn held_slot(p: u64, base: usize, cur: usize) -> u64
-    requires { ⌜ SeatCan base cur (stopIn p) ⌝ }
-    ensures { λ r. ⌜ r ≡ (cur - base) * 2 ^ 32 + (stopIn p - cur) ⌝ }
+    requires { ⌜ SeatCan base cur (highIn p) ⌝ }
+    ensures { λ r. ⌜ r ≡ (cur - base) * 2 ^ 32 + (highIn p - cur) ⌝ }
 {
-    words::slots::slot((cur - base) as u64, (stop_of(p) - cur) as u64)
+    words::slots::slot((cur - base) as u64, (pairs::high(p) - cur) as u64)
 }
 
 // Where they end with their padding.
 pub fn held_end(p: u64, cur: usize) -> usize
-    requires { ⌜ SeatCan 0 cur (stopIn p) ⌝ }
-    ensures { λ r. ⌜ r ≡ cur + pad (stopIn p - cur) ⌝ }
+    requires { ⌜ SeatCan 0 cur (highIn p) ⌝ }
+    ensures { λ r. ⌜ r ≡ cur + pad (highIn p - cur) ⌝ }
 {
-    cur + words::sizes::pad_size(stop_of(p) - cur)
+    cur + words::sizes::pad_size(pairs::high(p) - cur)
 }
 
 // The bitmap of a struct, with no bit set.

@@ -1,20 +1,20 @@
-// Writing the row of a listing that was measured, by the schema's table.
+// Writing the row of a listing that was measured, by the schema's table. An answer is two numbers in one word (words::pairs): in its low
+// half where the listing goes on, in its high half where what was written ends.
 ghost use mathlib.Core.Path.{_≡_};
 ghost use mathlib.Core.Option.{some};
 ghost use lib.ListN.{length};
+ghost use Rattle.words.specs.Pairs.{lowIn, highIn};
 ghost use Rattle.layout.specs.Entries.{imageOf};
 ghost use Rattle.table.specs.Tables.{schemaOf};
-ghost use Rattle.putting.specs.Put.{nextIn, stopIn, typeIn, Held, PutValue, PutStruct, PutArray, ArrayWrote, PutRow};
+ghost use Rattle.putting.specs.Put.{typeIn, Held, PutValue, PutStruct, PutArray, ArrayWrote, PutRow};
 use crate::leaves::clear_bits;
 use crate::leaves::held_end;
 use crate::leaves::held_slot;
-use crate::leaves::next_of;
 use crate::leaves::number;
-use crate::leaves::pair;
 use crate::leaves::put_front;
 use crate::leaves::put_slot;
 use crate::leaves::put_text;
-use crate::leaves::stop_of;
+use words::pairs;
 
 pub mod leaves;
 
@@ -32,7 +32,7 @@ fn put_value(
     pos: usize,
 ) -> u64
     requires { ⌜ PutValue (now t) c depth (now l) from pos (length (now out)) ⌝ }
-    ensures { λ r. ⌜ Held (typeIn (now (t .entry)) c depth) (now (l .entry)) from pos (now (out .entry)) (now (out .exit)) (nextIn r) (stopIn r) ⌝ }
+    ensures { λ r. ⌜ Held (typeIn (now (t .entry)) c depth) (now (l .entry)) from pos (now (out .entry)) (now (out .exit)) (lowIn r) (highIn r) ⌝ }
 {
     let kind = table::place(table::entry_at(t, c, depth));
     if kind == table::STRUCT {
@@ -47,10 +47,10 @@ fn put_value(
     }
     let start = pos + 8;
     let keys = put_array(t, held, d, l, body, n, out, start);
-    let end = stop_of(keys);
+    let end = pairs::high(keys);
     words::nums::put8(out, pos, (end - start) as u64);
     let values = table::after(table::entry_at(t, held, d));
-    put_array(t, values, d, l, next_of(keys), n, out, end)
+    put_array(t, values, d, l, pairs::low(keys), n, out, end)
 }
 
 // An array of n elements of the type at a place, from pos on: its count, its bitmap, its elements and the zeros up to Pad, and the
@@ -66,7 +66,7 @@ fn put_array(
     pos: usize,
 ) -> u64
     requires { ⌜ PutArray (now t) c depth (now l) from n pos (length (now out)) ⌝ }
-    ensures { λ r. ⌜ ArrayWrote (typeIn (now (t .entry)) c depth) (now (l .entry)) from n pos (now (out .entry)) (now (out .exit)) (nextIn r) (stopIn r) ⌝ }
+    ensures { λ r. ⌜ ArrayWrote (typeIn (now (t .entry)) c depth) (now (l .entry)) from n pos (now (out .entry)) (now (out .exit)) (lowIn r) (highIn r) ⌝ }
 {
     let e = table::entry_at(t, c, depth);
     let w = table::element_width(e);
@@ -93,14 +93,14 @@ fn put_array(
                 put_value(t, c, depth, l, body, out, cur)
             };
             x = held_slot(p, pos, cur);
-            at = next_of(p);
+            at = pairs::low(p);
             cur = held_end(p, cur);
         }
         put_slot(out, slot, w, x);
         slot += w;
         i += 1;
     }
-    pair(at, cur)
+    pairs::pair(at, cur)
 }
 
 // The fields of the struct at a place of the table, from pos on: its bitmap, its slots, and the bytes behind them.
@@ -114,7 +114,7 @@ fn put_fields(
     pos: usize,
 ) -> u64
     requires { ⌜ PutStruct (now t) c depth (now l) from pos (length (now out)) ⌝ }
-    ensures { λ r. ⌜ Held (typeIn (now (t .entry)) c depth) (now (l .entry)) from pos (now (out .entry)) (now (out .exit)) (nextIn r) (stopIn r) ⌝ }
+    ensures { λ r. ⌜ Held (typeIn (now (t .entry)) c depth) (now (l .entry)) from pos (now (out .entry)) (now (out .exit)) (lowIn r) (highIn r) ⌝ }
 {
     let n = table::count(table::entry_at(t, c, depth));
     let d = depth - 1;
@@ -143,7 +143,7 @@ fn put_fields(
                 put_value(t, field, d, l, body, out, cur)
             };
             x = held_slot(p, pos, cur);
-            at = next_of(p);
+            at = pairs::low(p);
             cur = held_end(p, cur);
         }
         words::nums::put8(out, slot, x);
@@ -151,7 +151,7 @@ fn put_fields(
         slot += 8;
         i += 1;
     }
-    pair(at, cur)
+    pairs::pair(at, cur)
 }
 
 // The row of a listing that was measured, in a room of exactly its size.

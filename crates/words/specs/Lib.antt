@@ -3,3 +3,4 @@ pub mod Bytes
 pub mod Bits
 pub mod Signed
 pub mod Reads
+pub mod Pairs

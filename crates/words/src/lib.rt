@@ -1,8 +1,9 @@
-// Bytes: little-endian numbers, slots, null bits, signed numbers, padding and copies.
+// Bytes: little-endian numbers, slots, pairs, null bits, signed numbers, padding and copies.
 pub mod copies;
 pub mod finds;
 pub mod nulls;
 pub mod nums;
+pub mod pairs;
 pub mod signed;
 pub mod sizes;
 pub mod slots;

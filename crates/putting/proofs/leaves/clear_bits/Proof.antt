@@ -17,16 +17,13 @@ same-length : tie.Need-same-length
 same-length c = search needs
 
 returns : tie.Need-returns
-returns c = clear-two (c .before .before .before .before .before .before .before .before .before .before .args .out .now)
-    (c .before .before .before .before .before .before .before .before .before .before .pre) (c .before .before .before .before .if1 .taken)
-    (c .before .before .before .before .before .before .before .put8 .ensures) (c .before .before .put82 .ensures)
+returns c = search clear-two
 
 same-length-2 : tie.Need-same-length-2
 same-length-2 c = search needs
 
 returns-2 : tie.Need-returns-2
-returns-2 c = clear-one (c .before .before .before .before .before .before .args .out .now) (c .before .before .before .before .before .before .pre)
-    (c .if1 .left) (c .before .before .before .put8 .ensures)
+returns-2 c = search clear-one
 
 pub clear-bits-spec : {M : Type 1} → statement M
 clear-bits-spec =

@@ -38,12 +38,7 @@ same-length : tie.Need-same-length
 same-length c = search needs
 
 returns : tie.Need-returns
-returns c = front-is
-    (c .before .before .before .before .before .before .before .before .before .before .before .before .before .before .before .args .out .now)
-    (c .before .before .before .before .before .before .before .before .before .before .before .before .before .before .before .pre)
-    (c .before .before .before .before .before .before .before .before .before .before .before .before .before .bitmap-size .ensures)
-    (c .before .before .before .pad-size .ensures) (c .before .before .before .before .before .before .before .before .before .before .before .put8 .ensures)
-    (c .before .before .before .before .before .before .before .zero .ensures) (c .before .before .zero2 .ensures)
+returns c = search front-is
 
 pub put-front-spec : {M : Type 1} → statement M
 put-front-spec =

@@ -11,7 +11,7 @@ add-text : tie.Need-add-text
 add-text c = search needs
 
 put-padded-requires : tie.Need-put-padded-requires
-put-padded-requires c κs = text-padded (c .before .before .before .before .pre) (c .before .get4 .ensures)
+put-padded-requires c κs = search text-padded
 
 add-pair : tie.Need-add-pair
 add-pair c = search needs
@@ -26,8 +26,7 @@ same-length : tie.Need-same-length
 same-length c = search needs
 
 returns : tie.Need-returns
-returns c = text-wrote (c .before .before .before .before .before .get4 .ensures) (c .before .before .before .put-padded .ensures) (c .pair .ensures .goes-on)
-    (c .pair .ensures .ends)
+returns c = search text-wrote
 
 pub put-text-spec : {M : Type 1} → statement M
 put-text-spec =

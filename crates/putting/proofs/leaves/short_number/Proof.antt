@@ -1,5 +1,4 @@
 -- `putting::leaves::short_number` meets its contract. Assumes nothing.
-use Rattle.words.proofs.Numbers.{bytes-of}
 use Rattle.putting.proofs.Slots.{short-some, short-reads}
 use borrow.Author.Needs.{needs}
 use Rattle.putting.proofs.leaves.short_number.Statement.{statement}
@@ -24,11 +23,10 @@ shl-result : tie.Need-shl-result
 shl-result c = search needs
 
 rem-result : tie.Need-rem-result
-rem-result c = short-some (c .before .before .before .args .k) (c .before .before .before .pre .1)
+rem-result c = search short-some
 
 returns-2 : tie.Need-returns-2
-returns-2 c = short-reads (bytes-of (c .before .before .before .args .l .now) (λ j. c .before .before .shared-slice-known .given j .fits))
-    (c .before .before .before .pre .0) (c .before .before .before .pre .1) (c .get8 .ensures)
+returns-2 c = search short-reads
 
 pub short-number-spec : {M : Type 1} → statement M
 short-number-spec =
