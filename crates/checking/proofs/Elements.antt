@@ -200,7 +200,7 @@ module _ {t : List ℕ} {c d : ℕ} {b : List ℕ} {n w v slots start : ℕ} (z 
   room-of : (x : ℕ) → slotWidth (h r) ≡ x → ListRoom b x n slots start
   room-of x e =
       let q : start ≡ slots + pad (n * slotWidth (h r)) = omega (arith, begin, f r .map) in
-      record { small = h r .holding .small; map = f r .map; elements = rw e at q; room = r .room }
+      record { small = h r .holding .small; whole = h r .even; map = f r .map; elements = rw e at q; room = r .room }
 
   -- bools
   is-bool : k ≡ 0 → own ≡ fix bo
@@ -257,6 +257,7 @@ module _ {t : List ℕ} {c d : ℕ} {b : List ℕ} {n w v slots start : ℕ} (z 
           entry = m (f r) .entry;
           holds = omega (arith, ek);
           small = h r .holding .small;
+          whole = h r .even;
           room = omega (arith, r .room);
         }
 

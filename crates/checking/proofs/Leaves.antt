@@ -49,6 +49,7 @@ texts-slots r hb = record {
   data₀ = omega (arith, r .elements);
   room = r .room;
   small = r .small;
+  whole = r .whole;
   bytes = hb;
 }
 

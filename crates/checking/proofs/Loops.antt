@@ -91,6 +91,7 @@ pub record Slots (k : Held) (b : List ℕ) (n slots start : ℕ) : Type 0 where
   pub data₀ : start ≡ slots + 8 * n
   pub room : start ≤ length b
   pub small : length b ≤ 16384
+  pub whole : length b % 8 ≡ 0
   pub bytes : Bytes b
 
 -- the ranges of the children before number i, and that one stands beside them
@@ -172,7 +173,7 @@ module _ {k : Held} {b : List ℕ} {n slots start : ℕ} (d : Slots k b n slots 
 
   -- the question that its slots are asked
   pub slots-in : SlotsIn (headOf k) b n
-  slots-in = record { small = d .small; room = omega (arith, d .map, d .data₀, d .room) }
+  slots-in = record { small = d .small; whole = d .whole; room = omega (arith, d .map, d .data₀, d .room) }
 
   -- the end
   ends-at : (i : ℕ) (rs : List Range) (cur : ℕ) → i ≡ n → start + total rs ≡ cur → faultFrom (headOf k) 8 (kidsOf k) b i rs ≡ cond (eqb cur (length b)) 0 1
@@ -270,15 +271,9 @@ module _ {k : Held} {b : List ℕ} {n slots start i slot cur stop done since : �
     pub loop-slot : slot + 8 ≤ length b
     loop-slot = omega (arith, a .within, a .slot-is, d .data₀, d .room)
 
-    -- the slot's upper half, which is its offset, and its lower half
-    pub loop-upper-on : Fits w64 (slot + 4)
-    loop-upper-on = omega (arith, loop-slot, d .small)
-
-    pub loop-upper : slot + 4 + 4 ≤ length b
-    loop-upper = omega (arith, loop-slot)
-
-    pub loop-lower : slot + 4 ≤ length b
-    loop-lower = omega (arith, loop-slot)
+    -- the slot as the place of a fault
+    pub loop-fault : Fits w64 (slot + 2)
+    loop-fault = omega (arith, loop-slot, d .small)
 
     pub loop-slot-on : Fits w64 (slot + 8)
     loop-slot-on = omega (arith, loop-slot, d .small)

@@ -3,7 +3,7 @@
 use mathlib.Core.Path.{_≡_, refl, sym, ap, _∙_, subst}
 use mathlib.Core.Bool.{Bool, true, false, not}
 use mathlib.Core.List.{List}
-use Prim.Native.Nat.{ℕ, _+_, _*_, _-_, _/_, _^_, _≤_, _<_}
+use Prim.Native.Nat.{ℕ, _+_, _*_, _-_, _/_, _%_, _^_, _≤_, _<_}
 use native.Mathlib.Decide.{ℕ-discrete}
 use native.Mathlib.Omega.{arith}
 use mir.Val.{Fits}
@@ -11,10 +11,11 @@ use mir.Syntax.{w64}
 use lib.Bits.{bitAnd, and-mask}
 use lib.Dec.{eqb, ltb}
 use lib.ListN.{length}
-use borrow.Author.Tests.{eq-eqb, ne-eqb, eqb-true, not-false}
+use borrow.Author.Tests.{eq-eqb, ne-eqb, not-false}
 use Rattle.words.specs.Bytes.{Bytes, num, pad, bitmap, part}
 use Rattle.words.specs.Bits.{bitOf, bit}
 use Rattle.words.specs.Reads.{Reads}
+use Rattle.words.specs.Slots.{Offset, Size}
 use Rattle.words.proofs.BitLaws.{bit-num}
 use Rattle.words.proofs.Turns.{shift-test}
 use Rattle.schema.specs.Types.{ro, fixedAt}
@@ -24,7 +25,7 @@ use Rattle.checking.specs.Sound.{faultOf}
 use Rattle.checking.specs.Room.{typesOf, Fields, FieldRoom, fieldGood}
 use Rattle.checking.proofs.Fields.{field-whole, field-above, above-shift}
 use Rattle.checking.proofs.Loops.{fields, At, loop-null, loop-plain}
-use Rattle.checking.proofs.Cursor.{Here, here-next}
+use Rattle.checking.proofs.Cursor.{Here, here-next, stop-small}
 use Rattle.checking.proofs.Values.{place-fits}
 use Rattle.checking.proofs.StructLoops.{FieldAt, fields-whole, leaves-start, field-stands, one-on}
 use Rattle.checking.proofs.StructLoops.{Reached, reached-vary, reached-text, reached-leaf, leaf-room, leaf-passes}
@@ -48,15 +49,15 @@ module _ {t : List ℕ} {first n d : ℕ} {b : List ℕ} (f : Fields t first n d
     pub plain-word : 8 ≤ length b
     plain-word = omega arith
 
-    pub plain-start : Bytes b → {nulls : ℕ} → Reads b 0 8 nulls → nulls / 2 ^ n ≡ 0 → PlainAt t first d n b nulls 0 (8 + 8 * n)
-    plain-start hb r z = record {
+    pub plain-start : length b % 8 ≡ 0 → Bytes b → {nulls : ℕ} → Reads b 0 8 nulls → nulls / 2 ^ n ≡ 0 → PlainAt t first d n b nulls 0 (8 + 8 * n)
+    plain-start e8 hb r z = record {
       given = f;
       some = some;
       few = few;
       word = r;
       past = z;
       field = leaves-start
-          (record { table = f .table; typed = f .typed; high = f .high; slots = record { small = f .small; room = omega arith } })
+          (record { table = f .table; typed = f .typed; high = f .high; slots = record { small = f .small; whole = e8; room = omega arith } })
           (omega arith) hb;
     }
 
@@ -70,10 +71,9 @@ module _ {t : List ℕ} {first d n : ℕ} {b : List ℕ} {nulls i cur : ℕ} (a 
   clear : eqb (nulls / 2 ^ n) 0 ≡ ltb (num (part b (8 - bitmap n) (bitmap n))) (2 ^ n)
   clear = shift-test nulls n ∙ rw (← one-word) (ap (λ (x : ℕ). ltb x (2 ^ n)) (a .word .is))
 
-  -- the cursor is a multiple of 8, and so is the struct's size where it ends
   pub plain-whole : n ≤ i → eqb cur (length b) ≡ true → 0 ≡ faultOf (ro (typesOf t first d n)) b
   plain-whole over e =
-      fields-whole (a .given) one-word (omega (arith, eqb-true cur (length b) e, a .field .state .order refl .eight))
+      fields-whole (a .given) one-word (a .field .state .fixed .whole)
       (omega (arith, a .field .state .fixed .room)) clear (rw (eq-eqb (nulls / 2 ^ n) 0 (a .past))) (loop-plain (a .field .state) over e)
 
   -- ---- its body
@@ -94,9 +94,10 @@ module _ {t : List ℕ} {first d n : ℕ} {b : List ℕ} {nulls i cur : ℕ} (a 
     pub plain-less : n - (i + 1) < n - i
     plain-less = omega arith
 
-    -- a value's padding ends behind the bitmap
-    pub plain-pad : {s to : ℕ} → Reads b (8 + 8 * i) 4 s → to ≡ pad (cur + s) → 8 ≤ to
-    plain-pad r e = omega (arith, a .field .state .sum)
+    -- a value's padding ends behind the bitmap, and in the struct, which is whole units
+    pub plain-pad : {s to : ℕ} → Size b (8 + 8 * i) s → cur + s ≤ length b → to ≡ pad (cur + s)
+        → (8 ≤ to) × (to ≤ length b) × (cur + s < 2 ^ 40) × (to ≡ pad (cur + s))
+    plain-pad z h e = (omega (arith, a .field .state .sum), omega (arith, a .field .state .fixed .whole), stop-small (a .field .state) z, e)
 
     -- the field's bit, as the word has it
     bit-is : bit b 0 i ≡ eqb (bitAnd (nulls / 2 ^ i) 1) 1
@@ -153,16 +154,17 @@ module _ {t : List ℕ} {first d n : ℕ} {b : List ℕ} {nulls i cur : ℕ} (a 
             good (no f) = sym (not-false _ q) ∙ field-above room bytes (sym (bit-here z)) refl r e f
 
       -- a string, which stands at the cursor, and its padding
-      pub plain-text : 7 ≤ k → k < 9 → bitAnd (nulls / 2 ^ i) 1 ≡ 0 → {o : ℕ} → Reads b (8 + 8 * i + 4) 4 o → o ≡ cur
-          → {s : ℕ} → Reads b (8 + 8 * i) 4 s → {to : ℕ} → to ≡ pad (cur + s) → to ≤ length b
+      pub plain-text : 7 ≤ k → k < 9 → bitAnd (nulls / 2 ^ i) 1 ≡ 0 → {o : ℕ} → Offset b (8 + 8 * i) o → o ≡ cur
+          → {s : ℕ} → Size b (8 + 8 * i) s → cur + s ≤ length b → {to : ℕ} → to ≡ pad (cur + s)
           → {v : Bool} → v ≡ eqb (num (part b (cur + s) (to - (cur + s)))) 0 → not v ≡ false → PlainAt t first d n b nulls (i + 1) to
-      plain-text lo hi z {o} upper at {s} lower {to} et most e q = next hi (here-next here most (reached-text reached lo hi _) e q)
+      plain-text lo hi z {o} offset at {s} size end {to} et e q = next hi (here-next here (reached-text reached lo hi _) e q)
         where
           here : Here (a .field .state) s to
           here = record {
             offset = o;
-            told = record { less = l; ranged = reached-vary reached lo; here = bit-here z; reads = upper };
+            told = record { less = l; ranged = reached-vary reached lo; here = bit-here z; says = offset };
             from = at;
-            size = lower;
+            size = size;
+            end = end;
             to = et;
           }

@@ -66,7 +66,7 @@ module _ {t : List ℕ} {first n d : ℕ} {b : List ℕ} (f : Fields t first n d
       fields-map hb = record { small = f .small; bytes = hb; low = omega arith; high = omega arith; few = omega (arith, f .high) }
 
       pub fields-from : FieldsFrom t first d n b
-      fields-from = record { table = f .table; typed = f .typed; high = f .high; slots = record { small = f .small; room = omega arith } }
+      fields-from = record { table = f .table; typed = f .typed; high = f .high; slots = record { small = f .small; whole = e8; room = omega arith } }
 
       from : slots - bitmap n ≡ 0
       from = omega arith
@@ -114,6 +114,7 @@ module _ {t : List ℕ} {first d n : ℕ} {b : List ℕ} (f : FieldsFrom t first
         data₀ = refl;
         room = omega (arith, f .slots .room);
         small = f .slots .small;
+        whole = f .slots .whole;
         bytes = hb;
       });
     }

@@ -167,6 +167,7 @@ module _ {t : List ℕ} {c d w : ℕ} {b : List ℕ} {n : ℕ} (i : Items t c d 
     data₀ = refl;
     room = omega (arith, i .room);
     small = i .small;
+    whole = i .whole;
     bytes = hb;
   }
 

@@ -2,7 +2,7 @@
 use mathlib.Core.Path.{_≡_}
 use mathlib.Core.Bool.{Bool, true, false, cond}
 use mathlib.Core.List.{List}
-use Prim.Native.Nat.{ℕ, _+_, _*_, _/_, _≤_, _<_}
+use Prim.Native.Nat.{ℕ, _+_, _*_, _/_, _%_, _≤_, _<_}
 use lib.Dec.{eqb}
 use lib.ListN.{length, replicate}
 use Rattle.words.specs.Bytes.{pad, bitmap, part}
@@ -24,9 +24,10 @@ typesOf t c d n = typesAt (schemaOf t) (posOf t c) d n
 
 -- ---- lists of leaves
 
--- A list's n elements of w bytes start at slots, behind its bitmap, and its variable data at start; all of it lies in b.
+-- A list's n elements of w bytes start at slots, behind its bitmap, and its variable data at start; all of it lies in b, which is whole units.
 pub record ListRoom (b : List ℕ) (w n slots start : ℕ) : Type 0 where
   pub small : length b ≤ 16384
+  pub whole : length b % 8 ≡ 0
   pub map : slots ≡ 8 + bitmap n
   pub elements : start ≡ slots + pad (n * w)
   pub room : start ≤ length b
@@ -97,12 +98,13 @@ pub record LeafFields (w n : ℕ) : Type 0 where
 abbrev pub LeavesOr0 : ℕ → ℕ → Type 0
 LeavesOr0 w n = (n ≡ 0 → ⊥) → LeafFields w n
 
--- the type is a container, w its entry, and the slots of a list of n such elements lie in b
+-- the type is a container, w its entry, and the slots of a list of n such elements lie in b, which is whole units
 pub record Items (t : List ℕ) (c d w : ℕ) (b : List ℕ) (n : ℕ) : Type 0 where
   pub stands : Stands t c d
   pub entry : EntryAt t c d w
   pub holds : 9 ≤ placeIn w
   pub small : length b ≤ 16384
+  pub whole : length b % 8 ≡ 0
   pub room : 8 + bitmap n + 8 * n ≤ length b
 
 -- the types of a map's keys and values

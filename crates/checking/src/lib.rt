@@ -1,7 +1,7 @@
 // Checking a row against the layout by its schema's table: a cycle over struct, list and map, with remaining depth falling along the
 // calls, and loops over the children. Each answers a number: 0 where there is no fault, 1 for one in the value's slot, i + 2 for one
-// at the value's byte i. The exact byte is looked for only where there is a fault. The size of a sound container is a multiple of 8: there
-// is no padding to look at behind it.
+// at the value's byte i. The exact byte is looked for only where there is a fault. A container's size is judged first and is a multiple of
+// 8: there is no padding to look at behind one, and a value that ends in one ends there with its padding too.
 //
 // Values may stand in any order, and mostly stand in the order of their slots. A loop over children holds its cursor where the next value
 // in order would stand. Where a slot says another place, the cursor moves there, and at the first such move the slots are asked, once,
@@ -115,6 +115,9 @@ fn is_plain(t: &[u64], first: usize, n: usize, depth: usize, b: &[u8]) -> bool
     requires { ⌜ Fields (now t) first n depth (now b) × (1 ≤ n) × (n < 64) ⌝ }
     ensures { λ r. ⌜ (r ≡ true → 0 ≡ faultOf (ro (typesOf (now (t .entry)) first depth n)) (now (b .entry))) ⌝ }
 {
+    if b.len() % 8 != 0 {
+        return false;
+    }
     if b.len() < 8 + 8 * n {
         return false;
     }
@@ -142,14 +145,14 @@ fn is_plain(t: &[u64], first: usize, n: usize, depth: usize, b: &[u8]) -> bool
             i += 1;
             continue;
         }
-        if words::nums::get4(b, slot + 4) != cur {
+        if words::slots::offset_at(b, slot) != cur {
             return false;
         }
-        let end = cur + words::nums::get4(b, slot);
+        let end = cur + words::slots::size_at(b, slot);
+        if b.len() < end {
+            return false;
+        }
         let next = words::sizes::pad_size(end);
-        if b.len() < next {
-            return false;
-        }
         if !words::sizes::pad_clear(b, end, next) {
             return false;
         }
@@ -237,7 +240,7 @@ fn check_items(t: &[u64], c: usize, depth: usize, w: u64, b: &[u8], n: usize) ->
             i += 1;
             continue;
         }
-        let from = words::nums::get4(b, slot + 4);
+        let from = words::slots::offset_at(b, slot);
         if from != cur {
             stop = lists::items_stand(b, n, stop, done);
             done += cur - since;
@@ -245,11 +248,11 @@ fn check_items(t: &[u64], c: usize, depth: usize, w: u64, b: &[u8], n: usize) ->
             cur = from;
             continue;
         }
-        let end = cur + words::nums::get4(b, slot);
-        let next = words::sizes::pad_size(end);
-        if b.len() < next {
+        let end = cur + words::slots::size_at(b, slot);
+        if b.len() < end {
             return slot + 2;
         }
+        let next = words::sizes::pad_size(end);
         let part = &b[cur..end];
         let r = if m != 0 && is_plain(t, c + 1, m, d, part) {
             0
@@ -349,7 +352,7 @@ fn check_fields(t: &[u64], first: usize, n: usize, depth: usize, b: &[u8]) -> us
             i += 1;
             continue;
         }
-        let from = words::nums::get4(b, slot + 4);
+        let from = words::slots::offset_at(b, slot);
         if from != cur {
             stop = fields_stand(t, first, n, depth, b, stop, done);
             done += cur - since;
@@ -357,11 +360,11 @@ fn check_fields(t: &[u64], first: usize, n: usize, depth: usize, b: &[u8]) -> us
             cur = from;
             continue;
         }
-        let end = cur + words::nums::get4(b, slot);
-        let next = words::sizes::pad_size(end);
-        if b.len() < next {
+        let end = cur + words::slots::size_at(b, slot);
+        if b.len() < end {
             return slot + 2;
         }
+        let next = words::sizes::pad_size(end);
         if k < table::LIST {
             if !words::sizes::pad_clear(b, end, next) {
                 return words::finds::first_set(b, end, next) + 2;

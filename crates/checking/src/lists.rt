@@ -67,7 +67,7 @@ pub fn check_texts(b: &[u8], n: usize, slots: usize, start: usize) -> usize
             i += 1;
             continue;
         }
-        let from = words::nums::get4(b, slot + 4);
+        let from = words::slots::offset_at(b, slot);
         if from != cur {
             stop = items_stand(b, n, stop, done);
             done += cur - since;
@@ -75,11 +75,11 @@ pub fn check_texts(b: &[u8], n: usize, slots: usize, start: usize) -> usize
             cur = from;
             continue;
         }
-        let end = cur + words::nums::get4(b, slot);
-        let next = words::sizes::pad_size(end);
-        if b.len() < next {
+        let end = cur + words::slots::size_at(b, slot);
+        if b.len() < end {
             return slot + 2;
         }
+        let next = words::sizes::pad_size(end);
         if !words::sizes::pad_clear(b, end, next) {
             return words::finds::first_set(b, end, next) + 2;
         }

@@ -2,22 +2,23 @@
 use mathlib.Core.Path.{_≡_, refl, sym, ap, _∙_}
 use mathlib.Core.Bool.{Bool, true, false, cond}
 use mathlib.Core.List.{List}
-use Prim.Native.Nat.{ℕ, zero, suc, _+_, _-_, _/_, _%_, _^_, _≤_, _<_}
+use Prim.Native.Nat.{ℕ, zero, suc, _+_, _*_, _-_, _/_, _%_, _^_, _≤_, _<_}
 use native.Mathlib.Decide.{decLt, ℕ-discrete}
+use native.Mathlib.Nat.{lt-of-lt-of-le, mod-lt, mod-eq-of-lt, one-mul}
 use native.Mathlib.Numerals.{add-one}
 use native.Mathlib.Omega.{arith}
 use lib.ListN.{length, getD, set}
-use lib.Bits.{bitOr}
-use Rattle.words.specs.Bytes.{Bytes, num, pad, part}
+use lib.Bits.{bitAnd, bitOr, and-mask}
+use lib.Pow.{pow-lt}
+use Rattle.words.specs.Bytes.{pad}
 use Rattle.words.specs.Bits.{bitOf, withBit, bit, putBit}
-use Rattle.words.specs.Reads.{Reads}
-use Rattle.words.proofs.BitLaws.{or-bit, bit-with, with-same, length-put}
-use Rattle.words.proofs.NumLaws.{slot-high, slot-low}
+use Rattle.words.specs.Slots.{Offset, Size}
+use Rattle.words.proofs.BitLaws.{or-bit, bit-with, with-same, with-byte, length-put}
 use Rattle.layout.specs.Tiles.{Range, ends}
 use Rattle.standing.specs.Maps.{both, clearFrom, marked, admits, taken, admitted, places, placed}
 use Rattle.standing.specs.Standing.{rangeAt, Placing, PlacingChild}
 use borrow.Author.Tests.{eq-eqb, ne-eqb, lt-ltb, le-ltb}
-use lib.Dec.{eqb, ltb}
+use lib.Dec.{eqb, ltb, lit<, lit≤}
 
 pub clash : true ≡ false → ⊥
 clash e = let z : _≡_ {A = ℕ} 0 1 = cc in omega arith
@@ -81,25 +82,30 @@ module _ (m : List ℕ) (a b : ℕ) where
 
 -- ---- one unit, by the byte that has its bit, and x the mask of that bit
 
-module _ (m : List ℕ) (a : ℕ) {x : ℕ} (is : x ≡ 2 ^ (a % 8)) where
-  abbrev old : ℕ
-  old = getD m (a / 8) 0
+pub unit-mask : (a : ℕ) → 1 * 2 ^ bitAnd a 7 % 2 ^ 64 ≡ 2 ^ (a % 8)
+unit-mask a =
+    let l : 2 ^ (a % 8) < 2 ^ 64 = pow-lt {j = 64} (lt-of-lt-of-le (mod-lt a (lit< tt)) (lit≤ {m = 8} {n = 64} tt)) in
+    rw (and-mask a 3, one-mul) (mod-eq-of-lt l)
 
+module _ (m : List ℕ) (a : ℕ) {old x : ℕ} (was : old ≡ getD m (a / 8) 0) (is : x ≡ 2 ^ (a % 8)) where
   with-unit : bitOr old x ≡ withBit old (a % 8) true
   with-unit = ap (bitOr old) is ∙ or-bit old (a % 8)
 
   first-map : 0 + a / 8 ≡ a / 8
   first-map = omega arith
 
+  pub unit-fits : old < 256 → bitOr old x < 256
+  unit-fits h = rw with-unit (with-byte old (a % 8) true (mod-lt a (lit< tt)) h)
+
   pub unit-taken : bitOr old x ≡ old → (false ≡ admits m a (a + 1)) × (m ≡ admitted m a (a + 1) false)
   unit-taken e =
-      let f : bit m 0 a ≡ true = rw (first-map, ← e, with-unit) (bit-with old (a % 8) true) in
+      let f : bit m 0 a ≡ true = rw (first-map, ← was, ← e, with-unit) (bit-with old (a % 8) true) in
       admit-taken m a (a + 1) (λ e. omega arith) (clear-set m 0 a (a + 1) (omega arith) f)
 
   pub unit-free : (bitOr old x ≡ old → ⊥) → (true ≡ admits m a (a + 1)) × (set m (a / 8) (bitOr old x) ≡ admitted m a (a + 1) true)
   unit-free n =
-      let f : bit m 0 a ≡ false = rw first-map (go (bitOf old (a % 8)) refl) in
-      let g : set m (a / 8) (bitOr old x) ≡ putBit m 0 a true = rw (first-map, with-unit) in
+      let f : bit m 0 a ≡ false = rw (first-map, ← was) (go (bitOf old (a % 8)) refl) in
+      let g : set m (a / 8) (bitOr old x) ≡ putBit m 0 a true = rw (first-map, with-unit, was) in
       let e = marked-step m 0 a (a + 1) (omega arith) ∙ marked-end (putBit m 0 a true) 0 (a + 1) (a + 1) (omega arith) in
       admit-full m a (a + 1) (λ e. omega arith) (clear-step m 0 a (a + 1) (omega arith) f ∙ clear-end m 0 (a + 1) (a + 1) (omega arith))
       (clear-end m 528 (a + 1) (a + 1) (omega arith)) _ _ (g ∙ sym e) (sym (marked-end _ 264 (a + 1) (a + 1) (omega arith)))
@@ -114,13 +120,27 @@ pub place-low : {m : List ℕ} {start len : ℕ} {r : Range} {from : ℕ} → fr
 unfolding places placed admitted
 place-low {start = start} {r = r} e h = record { is = rw (lt-ltb (r .start) start (omega arith)); maps = refl }
 
--- it begins at from, at or behind start, and ends at next if from is a multiple of 8
-pub record Bounds (start : ℕ) (r : Range) (from next : ℕ) : Type 0 where
+odd : {m : List ℕ} {start len : ℕ} {r : Range} {from : ℕ} → from ≡ r .start → start ≤ from → (from % 8 ≡ 0 → ⊥) → Placing m start len r false m
+unfolding places placed admitted
+odd {start = start} {r = r} e l h = record {
+  is = rw (le-ltb (r .start) start (omega arith), ne-eqb (r .start % 8) 0 (λ z. h (ap (λ (u : ℕ). u % 8) e ∙ z)));
+  maps = refl;
+}
+
+even : (from : ℕ) → bitAnd from 7 ≡ 0 → from % 8 ≡ 0
+even from f = sym (and-mask from 3) ∙ f
+
+pub place-odd : {m : List ℕ} {start len : ℕ} {r : Range} {from : ℕ} → from ≡ r .start → start ≤ from → (bitAnd from 7 ≡ 0 → ⊥)
+    → Placing m start len r false m
+place-odd {from = from} e l h = odd e l (λ z. h (and-mask from 3 ∙ z))
+
+-- it begins at from, at or behind start, and has size bytes without its padding
+pub record Bounds (start : ℕ) (r : Range) (from size : ℕ) : Type 0 where
   pub from-is : from ≡ r .start
-  pub next-is : from % 8 ≡ 0 → next ≡ ends r
+  pub ends-is : ends r ≡ from + pad size
   pub low : start ≤ from
 
-module _ {start : ℕ} {r : Range} {from next : ℕ} (d : Bounds start r from next) where
+module _ {start : ℕ} {r : Range} {from size : ℕ} (d : Bounds start r from size) where
   first : start ≤ r .start
   first = omega (arith, d .from-is, d .low)
 
@@ -128,66 +148,47 @@ module _ {start : ℕ} {r : Range} {from next : ℕ} (d : Bounds start r from ne
   eight e = omega (arith, d .from-is)
 
   module _ {m : List ℕ} {len : ℕ} where
-    pub place-odd : (from % 8 ≡ 0 → ⊥) → Placing m start len r false m
+    pub place-long : len < from + size → Placing m start len r false m
     unfolding places placed admitted
-    place-odd h = record {
-      is = rw (le-ltb (r .start) start first, ne-eqb (r .start % 8) 0 (λ z. h (ap (λ (u : ℕ). u % 8) (d .from-is) ∙ z)));
-      maps = refl;
-    }
-
-    module _ (e : from % 8 ≡ 0) where
-      over : len < next → Placing m start len r false m
-      unfolding places placed admitted
-      over h = record {
-        is = rw (le-ltb (r .start) start first, eq-eqb (r .start % 8) 0 (eight e), lt-ltb len (ends r) (omega (arith, d .next-is e)));
-        maps = refl;
-      }
-
-      pub place-beside : next ≤ len → {v : Bool} {m′ : List ℕ}
-          → (v ≡ admits m (from / 8) (next / 8)) × (m′ ≡ admitted m (from / 8) (next / 8) v)
-          → Placing m start len r v m′
-      unfolding places placed
-      place-beside h a = record {
-        is = rw (le-ltb (r .start) start first, eq-eqb (r .start % 8) 0 (eight e), le-ltb len (ends r) (omega (arith, d .next-is e)))
-            (rw (d .from-is, d .next-is e) at (a .0));
-        maps = rw (d .from-is, d .next-is e) at (a .1);
-      }
-
-      -- it takes one unit
-      pub place-unit : next ≡ from + 8 → next ≤ len → {v : Bool} {m′ : List ℕ}
-          → (v ≡ admits m (from / 8) (from / 8 + 1)) × (m′ ≡ admitted m (from / 8) (from / 8 + 1) v)
-          → Placing m start len r v m′
-      place-unit o h a = let z : from / 8 + 1 ≡ next / 8 = omega arith in place-beside h (rw z at a)
-
-    pub place-long : len < next → Placing m start len r false m
     place-long h = go (ℕ-discrete (from % 8) 0)
       where
         go : Dec (from % 8 ≡ 0) → Placing m start len r false m
-        go (yes e) = over e h
-        go (no n) = place-odd n
+        go (yes e) = record {
+          is = rw (le-ltb (r .start) start first, eq-eqb (r .start % 8) 0 (eight e), lt-ltb len (ends r) (omega (arith, d .ends-is)));
+          maps = refl;
+        }
+        go (no n) = odd (d .from-is) (d .low) n
 
--- where the value of a slot begins and ends
-module _ {b : List ℕ} (slot : ℕ) {from : ℕ} (bytes : Bytes b) (room : slot + 8 ≤ length b) (f : Reads b (slot + 4) 4 from) where
-  pub slot-from : from ≡ rangeAt b slot .start
-  slot-from = f .is ∙ sym (slot-high slot bytes room)
+    module _ (f : bitAnd from 7 ≡ 0) (w : len % 8 ≡ 0) (h : from + size ≤ len) where
+      pub place-beside : {next : ℕ} → next ≡ pad (from + size) → {v : Bool} {m′ : List ℕ}
+          → (v ≡ admits m (from / 8) (next / 8)) × (m′ ≡ admitted m (from / 8) (next / 8) v)
+          → Placing m start len r v m′
+      unfolding places placed
+      place-beside {next} n a =
+          let z : next ≡ ends r = omega (arith, d .ends-is, even from f) in
+          record {
+            is = rw (le-ltb (r .start) start first, eq-eqb (r .start % 8) 0 (eight (even from f)), le-ltb len (ends r) (omega (arith, d .ends-is, even from f)))
+                (rw (d .from-is, z) at (a .0));
+            maps = rw (d .from-is, z) at (a .1);
+          }
 
-  pub slot-bounds : {start size next : ℕ} → Reads b slot 4 size → next ≡ pad (from + size) → start ≤ from → Bounds start (rangeAt b slot) from next
-  slot-bounds {size = size} z e l =
-      let n : size ≡ num (part b slot 8) % 2 ^ 32 = z .is ∙ sym (slot-low slot bytes room) in
-      record {
-        from-is = slot-from;
-        next-is = λ q. let p : pad (from + size) ≡ from + pad size = omega arith in e ∙ p ∙ rw (slot-from, n);
-        low = l;
-      }
+      -- it takes one unit
+      pub place-unit : (size ≡ 0 → ⊥) → size ≤ 8 → {v : Bool} {m′ : List ℕ}
+          → (v ≡ admits m (from / 8) (from / 8 + 1)) × (m′ ≡ admitted m (from / 8) (from / 8 + 1) v)
+          → Placing m start len r v m′
+      place-unit o l a = let z : from / 8 + 1 ≡ pad (from + size) / 8 = omega (arith, even from f) in place-beside refl (rw z at a)
 
--- a child that is null, and one that is there
-pub child-null : {m b : List ℕ} {h i slot start : ℕ} → bit b h i ≡ true → PlacingChild m b h i slot start true m
-child-null e = record { null = λ z. (refl, refl); there = λ z. absurd (clash (sym e ∙ z)) }
+-- where the value of a slot begins, and its size
+pub slot-bounds : {b : List ℕ} {slot from size start : ℕ} → Offset b slot from → Size b slot size → start ≤ from → Bounds start (rangeAt b slot) from size
+slot-bounds f z l = record { from-is = f .is; ends-is = rw (f .is, z .is); low = l }
 
-pub child-there : {m b : List ℕ} {h i slot start : ℕ} {v : Bool} {m′ : List ℕ} → bit b h i ≡ false
-    → Placing m start (length b) (rangeAt b slot) v m′
-    → PlacingChild m b h i slot start v m′
-child-there e p = record { null = λ z. absurd (clash (sym z ∙ e)); there = λ z. p }
+-- a child that is null, and one that is there, by its bit
+module _ {m b : List ℕ} {h i slot start : ℕ} {x : Bool} (e : x ≡ bit b h i) where
+  pub child-null : x ≡ true → PlacingChild m b h i slot start true m
+  child-null f = record { null = λ z. (refl, refl); there = λ z. absurd (clash (sym f ∙ e ∙ z)) }
+
+  pub child-there : x ≡ false → {v : Bool} {m′ : List ℕ} → Placing m start (length b) (rangeAt b slot) v m′ → PlacingChild m b h i slot start v m′
+  child-there f p = record { null = λ z. absurd (clash (sym z ∙ sym e ∙ f)); there = λ z. p }
 
 -- what an answer says
 pub record Beside (m : List ℕ) (start len : ℕ) (r : Range) : Type 0 where

@@ -2,7 +2,7 @@
 use mathlib.Core.Path.{_≡_, refl, sym, ap, _∙_, subst}
 use mathlib.Core.Bool.{Bool, true, false, not}
 use mathlib.Core.List.{List, _∷_}
-use Prim.Native.Nat.{ℕ, _+_, _*_, _-_, _/_, _^_, _≤_, _<_}
+use Prim.Native.Nat.{ℕ, _+_, _*_, _-_, _^_, _≤_, _<_}
 use native.Mathlib.Decide.{ℕ-discrete}
 use native.Mathlib.Omega.{arith}
 use mir.Val.{Fits}
@@ -14,7 +14,7 @@ use Rattle.words.specs.Bits.{bit}
 use Rattle.layout.specs.Tiles.{Range}
 use Rattle.layout.proofs.Units.{AllEven}
 use Rattle.standing.specs.Maps.{placed}
-use Rattle.standing.specs.Standing.{SlotsIn, rangeAt, rangesTo, StandsAt, FirstUnfit, PlacingChild}
+use Rattle.standing.specs.Standing.{SlotsIn, rangeAt, rangesTo, StandsAt, FirstUnfit, ChildRoom, PlacingChild}
 use Rattle.standing.proofs.Marks.{clash, Beside, places-yes}
 use Rattle.standing.proofs.Shows.{Shows, shows-start, stands-beside, stands-places, shows-beside}
 use Rattle.standing.proofs.Unfit.{ranges-fixed, ranges-null, ranges-there}
@@ -97,13 +97,14 @@ module _ {h : ℕ} {vary : ℕ → Bool} {b : List ℕ} {n slots start i : ℕ} 
     pub passed-less : n - (i + 1) < n - i
     passed-less = omega arith
 
-    pub passed-asks : (length b ≤ 16384) × (h + i / 8 < length b) × (slots + 8 * i + 8 ≤ length b) × (length m ≡ 792)
-    passed-asks = (
-      p .slots-in .small,
-      omega (arith, p .slots-in .room),
-      omega (arith, p .slots-in .room, p .slots-are),
-      p .shows .long,
-    )
+    pub passed-asks : ChildRoom m b h i (slots + 8 * i)
+    passed-asks = record {
+      small = p .slots-in .small;
+      whole = p .slots-in .whole;
+      bit-room = omega (arith, p .slots-in .room);
+      slot-room = omega (arith, p .slots-in .room, p .slots-are);
+      maps = p .shows .long;
+    }
 
     abbrev before : List Range
     before = rangesTo h slots vary b i

@@ -16,7 +16,7 @@ use Rattle.schema.proofs.Typing.{FieldLaw, field-typed, field-here}
 use Rattle.schema.proofs.Places.{typed-place}
 use Rattle.table.specs.Words.{placeIn, afterIn}
 use Rattle.table.specs.Tables.{schemaOf, posOf, Stands, EntryAt}
-use Rattle.standing.specs.Standing.{varies, fieldVaries, FieldsFrom, FirstUnfit, PlacingChild}
+use Rattle.standing.specs.Standing.{varies, fieldVaries, FieldsFrom, ChildRoom, FirstUnfit, PlacingChild}
 use Rattle.standing.proofs.Passing.{
   Passed,
   slots-first,
@@ -127,7 +127,7 @@ module _ {t : List ℕ} {first d n : ℕ} {b : List ℕ} {slots start at i : ℕ
   pub field-slot : Fits w64 (slots + 8 * i)
   field-slot = passed-slot (p .passed) (f .less)
 
-  pub field-asks : (length b ≤ 16384) × (0 + i / 8 < length b) × (slots + 8 * i + 8 ≤ length b) × (length m ≡ 792)
+  pub field-asks : ChildRoom m b 0 i (slots + 8 * i)
   field-asks = passed-asks (p .passed) (f .less)
 
   pub field-on : Fits w64 (i + 1)

@@ -1,6 +1,6 @@
 -- What the slots of a container tell: the ranges before a child, one child after the other, and the first that may not stand.
 -- Assumes nothing.
-use mathlib.Core.Path.{_≡_, refl, sym, ap, _∙_}
+use mathlib.Core.Path.{_≡_, refl, ap, _∙_}
 use mathlib.Core.Bool.{Bool, true, false, not, cond}
 use mathlib.Core.List.{List, _∷_}
 use Prim.Native.Nat.{ℕ, _+_, _*_, _≤_, _<_}
@@ -11,7 +11,6 @@ use Rattle.words.specs.Bits.{bit}
 use Rattle.layout.specs.Tiles.{Range}
 use Rattle.standing.specs.Maps.{both}
 use Rattle.standing.specs.Standing.{rangeAt, rangesTo, StandsAt, FirstUnfit}
-use Rattle.standing.proofs.Marks.{clash}
 
 -- ---- the ranges, with one child more
 
@@ -39,21 +38,6 @@ module _ (h slots : ℕ) (vary : ℕ → Bool) (b : List ℕ) (i : ℕ) where
 -- ---- the first that may not stand
 
 module _ {h slots start : ℕ} {vary : ℕ → Bool} {b : List ℕ} {n r : ℕ} (u : FirstUnfit h slots start vary b n r) where
-  -- it varies and is not null
-  pub unfit-varies : r < n → vary r ≡ true
-  unfit-varies l = go (vary r) refl
-    where
-      go : (v : Bool) → vary r ≡ v → vary r ≡ true
-      go true e = e
-      go false e = absurd (u .fault l (λ v. absurd (clash (sym v ∙ e))))
-
-  pub unfit-there : r < n → bit b h r ≡ false
-  unfit-there l = go (bit b h r) refl
-    where
-      go : (v : Bool) → bit b h r ≡ v → bit b h r ≡ false
-      go true e = absurd (u .fault l (λ v z. absurd (clash (sym e ∙ z))))
-      go false e = e
-
   -- it is none of those that may
   pub unfit-from : (i : ℕ) → i ≤ n → ((j : ℕ) → j < i → StandsAt h slots start vary b j) → i ≤ r
   unfit-from i m s = go (decLe i r)

@@ -48,9 +48,10 @@ pub record FirstUnfit (h slots start : ℕ) (vary : ℕ → Bool) (b : List ℕ)
   pub stand : (j : ℕ) → j < r → StandsAt h slots start vary b j
   pub fault : r < n → StandsAt h slots start vary b r → ⊥
 
--- the null bits and slots of n children lie in b, and b is short enough for a row
+-- the null bits and slots of n children lie in b, and b is short enough for a row, and whole units of 8 bytes
 pub record SlotsIn (h : ℕ) (b : List ℕ) (n : ℕ) : Type 0 where
   pub small : length b ≤ 16384
+  pub whole : length b % 8 ≡ 0
   pub room : h + bitmap n + 8 * n ≤ length b
 
 -- the types of a struct's n fields stand from a place of the table on; and which of them vary
@@ -62,6 +63,14 @@ pub record FieldsFrom (t : List ℕ) (first d n : ℕ) (b : List ℕ) : Type 0 w
 
 abbrev pub fieldVaries : List ℕ → ℕ → ℕ → ℕ → ℕ → Bool
 fieldVaries t first d n j = varies (field (typesAt (schemaOf t) (posOf t first) d n) j)
+
+-- the null bit and the slot of child i lie in such a b, and m is the three maps of its units
+pub record ChildRoom (m b : List ℕ) (h i slot : ℕ) : Type 0 where
+  pub small : length b ≤ 16384
+  pub whole : length b % 8 ≡ 0
+  pub bit-room : h + i / 8 < length b
+  pub slot-room : slot + 8 ≤ length b
+  pub maps : length m ≡ 792
 
 -- fits is whether a range may stand beside those that the maps m show, and m′ shows it too if so
 pub record Placing (m : List ℕ) (start len : ℕ) (r : Range) (fits : Bool) (m′ : List ℕ) : Type 0 where

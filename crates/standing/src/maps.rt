@@ -2,10 +2,10 @@
 // byte 0 on the units that are covered, from byte 264 on the units' starts that lie inside a value, from byte 528 on those at which an
 // empty value stands.
 ghost use mathlib.Core.Path.{_≡_};
-ghost use Prim.Native.Nat.{_+_, _-_, _/_, _≤_, _<_};
+ghost use Prim.Native.Nat.{_+_, _-_, _≤_, _<_};
 ghost use lib.ListN.{length};
 ghost use Rattle.standing.specs.Maps.{clearFrom, marked, admits, admitted};
-ghost use Rattle.standing.specs.Standing.{PlacingChild};
+ghost use Rattle.standing.specs.Standing.{ChildRoom, PlacingChild};
 
 // No bit from a up to b is set.
 fn clear(m: &[u8], at: usize, a: usize, b: usize) -> bool
@@ -34,17 +34,17 @@ fn mark(m: &mut [u8], at: usize, a: usize, b: usize)
     }
 }
 
-// Unit a is taken if nothing took it before.
+// Unit a is taken if nothing took it before: its bit set in a whole word is one instruction, in a byte four.
 fn take(m: &mut [u8], a: usize) -> bool
     requires { ⌜ (a < 2048) × (length (now m) ≡ 792) ⌝ }
     ensures { λ r. ⌜ (r ≡ admits (now (m .entry)) a (a + 1)) × (now (m .exit) ≡ admitted (now (m .entry)) a (a + 1) r) ⌝ }
 {
-    let old = m[a >> 3];
-    let new = old | words::nulls::mask(a);
+    let old = words::nums::wide(m[a >> 3]);
+    let new = old | 1 << (a & 7);
     if new == old {
         return false;
     }
-    m[a >> 3] = new;
+    m[a >> 3] = new as u8;
     true
 }
 
@@ -74,26 +74,28 @@ fn admit(m: &mut [u8], a: usize, b: usize) -> bool
 // Child i of b, whose slot stands at `slot` and whose null bit behind a header of h bytes, may stand beside those that were placed before:
 // a null has no value.
 pub fn place_child(m: &mut [u8], b: &[u8], h: usize, i: usize, slot: usize, start: usize) -> bool
-    requires { ⌜ (length (now b) ≤ 16384) × (h + i / 8 < length (now b)) × (slot + 8 ≤ length (now b)) × (length (now m) ≡ 792) ⌝ }
+    requires { ⌜ ChildRoom (now m) (now b) h i slot ⌝ }
     ensures { λ r. ⌜ PlacingChild (now (m .entry)) (now (b .entry)) h i slot start r (now (m .exit)) ⌝ }
 {
     if words::nulls::is_null(b, h, i) {
         return true;
     }
-    let from = words::nums::get4(b, slot + 4);
+    let from = words::slots::offset_at(b, slot);
     if from < start {
         return false;
     }
-    let next = words::sizes::pad_size(from + words::nums::get4(b, slot));
-    if b.len() < next {
+    // b is whole units: what ends in it ends there with its padding too
+    let size = words::slots::size_at(b, slot);
+    let end = from + size;
+    if b.len() < end {
         return false;
     }
     if from & 7 != 0 {
         return false;
     }
-    // Most values take one unit, and nothing can stand inside one.
-    if next == from + 8 {
+    // most values take one unit, and nothing can stand inside one
+    if size != 0 && size <= 8 {
         return take(m, from >> 3);
     }
-    admit(m, from >> 3, next >> 3)
+    admit(m, from >> 3, words::sizes::pad_size(end) >> 3)
 }

@@ -1,4 +1,4 @@
--- Little-endian numbers over the width: sums of parts, bytes of a joined number, the halves of a slot. Assumes nothing.
+-- Little-endian numbers over the width: sums of parts, bytes of a joined number. Assumes nothing.
 use mathlib.Core.Path.{_≡_, refl, sym, ap, ap₂, _∙_}
 use mathlib.Core.List.{List, [], _∷_, _++_}
 use Prim.Native.Nat.{ℕ, zero, suc, _+_, _*_, _/_, _%_, _^_, _≤_, _<_}
@@ -44,13 +44,6 @@ num-high {b} at j k h f = rw (num-part b at j k f) (digits-div (num (part b (at 
 
 pub num-low : {b : List ℕ} (at j k : ℕ) → Bytes b → at + j ≤ length b → num (part b at (j + k)) % 256 ^ j ≡ num (part b at j)
 num-low {b} at j k h f = rw (num-part b at j k f) (digits-mod (num (part b (at + j) k)) (part-lt at j h f))
-
--- a slot's offset and size are its upper and its lower 4 bytes
-pub slot-high : {b : List ℕ} (at : ℕ) → Bytes b → at + 8 ≤ length b → num (part b at 8) / 2 ^ 32 ≡ num (part b (at + 4) 4)
-slot-high at h f = num-high at 4 4 h (omega arith)
-
-pub slot-low : {b : List ℕ} (at : ℕ) → Bytes b → at + 8 ≤ length b → num (part b at 8) % 2 ^ 32 ≡ num (part b at 4)
-slot-low at h f = num-low at 4 4 h (omega arith)
 
 -- ---- the bytes of a number
 

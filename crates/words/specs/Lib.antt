@@ -3,4 +3,5 @@ pub mod Bytes
 pub mod Bits
 pub mod Signed
 pub mod Reads
+pub mod Slots
 pub mod Pairs

@@ -6,9 +6,9 @@ use native.Mathlib.Omega.{arith}
 use Rattle.words.proofs.Numbers.{bytes-of}
 use Rattle.checking.proofs.Tests.{failed, map-asks, past-asks, past-fits, falls-list, falls-map, falls-struct}
 use Rattle.checking.proofs.Containers.{list-odd, list-short, map-odd, map-short}
-use Rattle.checking.proofs.Loops.{slots-in, loop-start, loop-since, loop-sum, loop-told, loop-unfit, loop-done, loop-over, loop-bit, loop-upper-on}
-use Rattle.checking.proofs.Loops.{loop-upper, loop-lower, loop-slot-on, loop-on, loop-falls, loop-null}
-use Rattle.checking.proofs.Cursor.{told-moves, told-less, stop-fits, stop-small, here-slot-on, here-on, here-less, here-told, here-long, here-pad}
+use Rattle.checking.proofs.Loops.{loop-start, loop-since, loop-sum, loop-told, loop-unfit, loop-done, loop-over, loop-bit, loop-fault}
+use Rattle.checking.proofs.Loops.{loop-slot, loop-slot-on, loop-on, loop-falls, loop-null}
+use Rattle.checking.proofs.Cursor.{told-moves, told-less, stop-fits, stop-small, here-slot-on, here-on, here-less, past-end, here-pad}
 use Rattle.checking.proofs.Cursor.{here-part, here-end, here-asks, here-bad, here-whole, here-unpadded, here-next, here-search, here-found}
 use Rattle.checking.proofs.Elements.{list-many, measured-asks, measured-map, measured-mul, measured-end, measured-pad, list-out, list-map, list-bits}
 use Rattle.checking.proofs.Elements.{bools-room, list-bools, numbers-end, list-numbers, texts-room, list-texts, items-room, list-items}
@@ -74,35 +74,33 @@ pub +check-fields+check-items+check-list+check-map+check-struct-spec : {M : Type
     (λ c. reached-next (fields-reached t (c .before .before .before .before)) (c .after2 .ensures)
     (loop-null (c .before .before .before .before .before .before .before .loop .inv .state)
     (c .before .before .before .before .before .before .loop-test .taken) (c .before .before .is-null .ensures) (c .before .if3 .taken)))  -- loop-again-2
-    (λ c. search loop-upper-on)  -- add-get4
-    (λ c κs. search loop-upper)  -- get4-requires
+    (λ c κs. search loop-slot)  -- offset-at-requires
     (λ c κs. c .before .before .before .before .before .before .before .before .loop .inv .given)  -- fields-stand-requires
     (λ c. search loop-since)  -- sub-done
     (λ c. search loop-sum)  -- add-done
     (λ c. told-less (fields-told t (c .before .before)) (c .before .if4 .taken))  -- loop-less-3
     (λ c. field-moves (c .before .before .before .before .before .before .before .before .before .loop .inv)
     (told-moves (fields-told t (c .before .before)) (c .fields-stand .ensures)))  -- loop-again-3
-    (λ c κs. search loop-lower)  -- get4-requires-2
+    (λ c κs. search loop-slot)  -- size-at-requires
     (λ c. search stop-fits)  -- add-end
+    (λ c. search loop-fault)  -- add-result
+    (λ c. past-end (fields-told t (c .before .before .before)) (c .before .before .if4 .left) (c .before .size-at .ensures) (c .if5 .taken))  -- returns-2
     (λ c κs. search stop-small)  -- pad-size-requires
-    (λ c. here-told (fields-here t (c .before)))  -- add-result
-    (λ c. here-long (fields-here t (c .before)) (c .if5 .taken))  -- returns-2
-    (λ c κs. here-pad (fields-here t (c .before .before)) (c .before .if5 .left))  -- pad-clear-requires
-    (λ c κs. here-search (fields-here t (c .before .before .before .before)) (c .before .before .before .if5 .left))  -- first-set-requires
-    (λ c. here-found (fields-here t (c .before .before .before .before .before)) (c .before .before .before .before .if5 .left)
+    (λ c κs. here-pad (fields-here t (c .before)))  -- pad-clear-requires
+    (λ c κs. here-search (fields-here t (c .before .before .before)))  -- first-set-requires
+    (λ c. here-found (fields-here t (c .before .before .before .before))
     (c .first-set .ensures))  -- add-result-2
-    (λ c. here-unpadded (fields-here t (c .before .before .before .before .before)) (c .before .before .before .before .if5 .left)
+    (λ c. here-unpadded (fields-here t (c .before .before .before .before))
     (reached-text (fields-reached t (c .before .before .before .before .before .before .before .before .before .before .before .before))
     (c .before .before .before .before .before .before .before .before .before .before .before .if1 .left)
     (c .before .before .before .if6 .taken) _) (c .before .before .pad-clear .ensures) (c .before .if7 .taken) (c .first-set .ensures))  -- returns-3
     (λ c κs. tt)  -- after-requires-3
-    (λ c. here-slot-on (fields-here t (c .before .before .before .before .before)))  -- add-slot-3
-    (λ c. here-on (fields-here t (c .before .before .before .before .before)))  -- add-i-3
-    (λ c. here-less (fields-here t (c .before .before .before .before .before)))  -- loop-less-4
+    (λ c. here-slot-on (fields-here t (c .before .before .before .before)))  -- add-slot-3
+    (λ c. here-on (fields-here t (c .before .before .before .before)))  -- add-i-3
+    (λ c. here-less (fields-here t (c .before .before .before .before)))  -- loop-less-4
     (λ c. reached-next
     (fields-reached t (c .before .before .before .before .before .before .before .before .before .before .before .before))
-    (c .after3 .ensures) (here-next (fields-here t (c .before .before .before .before .before))
-    (c .before .before .before .before .if5 .left) (reached-text (fields-reached t
+    (c .after3 .ensures) (here-next (fields-here t (c .before .before .before .before)) (reached-text (fields-reached t
     (c .before .before .before .before .before .before .before .before .before .before .before .before))
     (c .before .before .before .before .before .before .before .before .before .before .before .if1 .left)
     (c .before .before .before .if6 .taken) _) (c .before .before .pad-clear .ensures) (c .before .if7 .left)))  -- loop-again-4
@@ -110,9 +108,9 @@ pub +check-fields+check-items+check-list+check-map+check-struct-spec : {M : Type
     (λ c κs. place-low
     (field-stands (c .before .before .before .before .before .before .before .before .before .before .before .before .loop .inv)
     (c .before .before .before .before .before .before .before .before .before .before .before .loop-test .taken)))  -- leaf-fields-requires
-    (λ c. here-part (fields-here t (c .before .before .before)) (c .before .before .if5 .left))  -- sub-part
-    (λ c. here-part (fields-here t (c .before .before .before)) (c .before .before .if5 .left))  -- part-part-start
-    (λ c. here-end (fields-here t (c .before .before .before)) (c .before .before .if5 .left))  -- part-part-end
+    (λ c. here-part (fields-here t (c .before .before)))  -- sub-part
+    (λ c. here-part (fields-here t (c .before .before)))  -- part-part-start
+    (λ c. here-end (fields-here t (c .before .before)))  -- part-part-end
     (λ c. child-first (fields-child t (c .before .before .before)))  -- add-is-plain
     (λ c κs. child-plain (fields-child t (c .before .before .before)) (c .before .before .leaf-fields .ensures) (c .if8 .taken))  -- is-plain-requires
     (λ c. child-first (fields-child t (c .before .before .before .before)))  -- add-check-struct
@@ -126,19 +124,16 @@ pub +check-fields+check-items+check-list+check-map+check-struct-spec : {M : Type
     (λ c κs. tt)  -- after-requires-4
     (λ c κs. child-map (fields-child t (c .before .before .before .before .before .before .before))
     (c .before .before .before .if10 .left) (c .before .before .if11 .left) (c .before .entry-at2 .ensures) (c .after4 .ensures))  -- check-map-requires
-    (λ c κs. here-asks (fields-here t (c .before .before .before .before .before .before))
-    (c .before .before .before .before .before .if5 .left) (fields-judged t (c .before)) (c .if12 .taken))  -- in-child-requires
-    (λ c. here-bad (fields-here t (c .before .before .before .before .before .before .before))
-    (c .before .before .before .before .before .before .if5 .left) (fields-judged t (c .before .before)) (c .before .if12 .taken)
+    (λ c κs. here-asks (fields-here t (c .before .before .before .before .before)) (fields-judged t (c .before)) (c .if12 .taken))  -- in-child-requires
+    (λ c. here-bad (fields-here t (c .before .before .before .before .before .before)) (fields-judged t (c .before .before)) (c .before .if12 .taken)
     (c .in-child .ensures))  -- returns-4
     (λ c κs. tt)  -- after-requires-5
-    (λ c. here-slot-on (fields-here t (c .before .before .before .before .before .before .before)))  -- add-slot-4
-    (λ c. here-on (fields-here t (c .before .before .before .before .before .before .before)))  -- add-i-4
-    (λ c. here-less (fields-here t (c .before .before .before .before .before .before .before)))  -- loop-less-5
+    (λ c. here-slot-on (fields-here t (c .before .before .before .before .before .before)))  -- add-slot-4
+    (λ c. here-on (fields-here t (c .before .before .before .before .before .before)))  -- add-i-4
+    (λ c. here-less (fields-here t (c .before .before .before .before .before .before)))  -- loop-less-5
     (λ c. let r = fields-reached t
     (c .before .before .before .before .before .before .before .before .before .before .before .before .before .before) in reached-next r
-    (c .after5 .ensures) (here-whole (fields-here t (c .before .before .before .before .before .before .before))
-    (c .before .before .before .before .before .before .if5 .left) (fields-judged t (c .before .before))
+    (c .after5 .ensures) (here-whole (fields-here t (c .before .before .before .before .before .before)) (fields-judged t (c .before .before))
     (reached-eights r (c .before .before .before .before .before .if6 .left)) (c .before .if12 .left)))  -- loop-again-5
     (λ c. search loop-told)  -- add-result-3
     (λ c. loop-unfit (c .before .before .loop .inv .state) (c .before .loop-test .left) (c .if13 .taken))  -- returns-5
@@ -161,21 +156,20 @@ pub +check-fields+check-items+check-list+check-map+check-struct-spec : {M : Type
     (λ c. search loop-on)  -- add-i
     (λ c. search loop-falls)  -- loop-less
     (λ c. loop-null (c .before .before .before .loop .inv) (c .before .before .loop-test .taken) (c .before .is-null .ensures) (c .if1 .taken))  -- loop-again
-    (λ c. search loop-upper-on)  -- add-get4
-    (λ c κs. search loop-upper)  -- get4-requires
-    (λ c κs. search slots-in)  -- items-stand-requires
+    (λ c κs. loop-slot (c .before .before .before .loop .inv) (c .before .before .loop-test .taken))  -- offset-at-requires
+    (λ c κs. search)  -- items-stand-requires
     (λ c. search loop-since)  -- sub-done
     (λ c. search loop-sum)  -- add-done
     (λ c. told-less (items-told t (c .before .before)) (c .before .if2 .taken))  -- loop-less-2
     (λ c. told-moves (items-told t (c .before .before)) (c .items-stand .ensures))  -- loop-again-2
-    (λ c κs. search loop-lower)  -- get4-requires-2
+    (λ c κs. loop-slot (c .before .before .before .before .before .loop .inv) (c .before .before .before .before .loop-test .taken))  -- size-at-requires
     (λ c. search stop-fits)  -- add-end
+    (λ c. search loop-fault)  -- add-result
+    (λ c. past-end (items-told t (c .before .before .before)) (c .before .before .if2 .left) (c .before .size-at .ensures) (c .if3 .taken))  -- returns
     (λ c κs. search stop-small)  -- pad-size-requires
-    (λ c. here-told (items-here t (c .before)))  -- add-result
-    (λ c. here-long (items-here t (c .before)) (c .if3 .taken))  -- returns
-    (λ c. here-part (items-here t (c .before)) (c .if3 .left))  -- sub-part
-    (λ c. here-part (items-here t (c .before)) (c .if3 .left))  -- part-part-start
-    (λ c. here-end (items-here t (c .before)) (c .if3 .left))  -- part-part-end
+    (λ c. here-part (items-here t c))  -- sub-part
+    (λ c. here-part (items-here t c))  -- part-part-start
+    (λ c. here-end (items-here t c))  -- part-part-end
     (λ c. child-first (items-child t (c .before .before)))  -- add-is-plain
     (λ c κs. child-plain (items-child t (c .before .before))
     (c .before .before .before .before .before .before .before .before .before .before .before .before .leaf-fields .ensures)
@@ -191,14 +185,14 @@ pub +check-fields+check-items+check-list+check-map+check-struct-spec : {M : Type
     (λ c κs. tt)  -- after-requires
     (λ c κs. child-map (items-child t (c .before .before .before .before .before .before)) (c .before .before .before .if6 .left)
     (c .before .before .if7 .left) (c .before .entry-at .ensures) (c .after .ensures))  -- check-map-requires
-    (λ c κs. here-asks (items-here t (c .before .before .before .before)) (c .before .before .before .if3 .left)
+    (λ c κs. here-asks (items-here t (c .before .before .before))
     (items-judged t (c .before)) (c .if8 .taken))  -- in-child-requires
-    (λ c. here-bad (items-here t (c .before .before .before .before .before)) (c .before .before .before .before .if3 .left)
+    (λ c. here-bad (items-here t (c .before .before .before .before))
     (items-judged t (c .before .before)) (c .before .if8 .taken) (c .in-child .ensures))  -- returns-2
-    (λ c. here-slot-on (items-here t (c .before .before .before .before)))  -- add-slot-2
-    (λ c. here-on (items-here t (c .before .before .before .before)))  -- add-i-2
-    (λ c. here-less (items-here t (c .before .before .before .before)))  -- loop-less-3
-    (λ c. here-whole (items-here t (c .before .before .before .before)) (c .before .before .before .if3 .left) (items-judged t (c .before))
+    (λ c. here-slot-on (items-here t (c .before .before .before)))  -- add-slot-2
+    (λ c. here-on (items-here t (c .before .before .before)))  -- add-i-2
+    (λ c. here-less (items-here t (c .before .before .before)))  -- loop-less-3
+    (λ c. here-whole (items-here t (c .before .before .before)) (items-judged t (c .before))
     (item-eights
     (c .before .before .before .before .before .before .before .before .before .before .before .before .before .before .before .before .before .pre .1))
     (c .if8 .left))  -- loop-again-3

@@ -8,9 +8,10 @@ pub check-row-spec : {M : Type 1} → statement M
 check-row-spec =
     tie.close
     (tie.spec (λ c κs. root-stands (c .before .before .pre .0)) (λ c κs. tt)
-    (λ c κs. root-fields (c .before .before .before .before .pre .0) (c .before .entry-at .ensures) _ (c .before .before .before .before .pre .1) (c .count .ensures))
+    (λ c κs. let s = (c .before .before .before .before .pre) in root-fields (s .0) (c .before .entry-at .ensures) _ (s .1) (c .count .ensures))
     (λ c. let s = (c .before .before .before .before .before .before .pre) in
-    root-none (s .0) (c .before .before .before .entry-at .ensures) _ (s .1) (c .before .before .count .ensures) (c .before .check-struct .ensures) (c .if1 .taken))
+    root-none (s .0) (c .before .before .before .entry-at .ensures) _ (s .1) (c .before .before .count .ensures)
+    (c .before .check-struct .ensures) (c .if1 .taken))
     (λ c. let s = (c .before .before .before .before .before .before .before .pre) in
     root-slot (s .0) (c .before .before .before .before .entry-at .ensures) _ (s .1) (c .before .before .before .count .ensures)
     (c .before .before .check-struct .ensures) (c .if2 .taken))

@@ -4,7 +4,7 @@ use mathlib.Core.Logic.{⊎-elim}
 use Prim.Native.Nat.{_-_}
 use Rattle.words.proofs.Numbers.{bytes-of}
 use Rattle.checking.proofs.Tests.{clash}
-use Rattle.checking.proofs.Loops.{loop-upper-on, loop-upper, loop-lower, loop-slot, loop-on}
+use Rattle.checking.proofs.Loops.{loop-slot, loop-on}
 use Rattle.checking.proofs.Cursor.{stop-fits, stop-small}
 use Rattle.checking.proofs.StructLoops.{struct-mul, field-stands, fixed-leaf}
 use Rattle.checking.proofs.Plain.{PlainAt, plain-add, plain-word, plain-start, plain-whole, plain-place, plain-shift}
@@ -19,15 +19,22 @@ abbrev μ-loop : tie.MeasureT-loop
 μ-loop t first n depth b nulls cur₀ i₀ cur i = n - i
 
 -- a string or a binary that stands where its slot says
+pad-clear-requires : tie.Need-pad-clear-requires Inv-loop μ-loop
+pad-clear-requires c κs =
+    let z = c .before .before in
+    let l = z .before .before .before .before .before .before .before .before in
+    plain-pad (l .before .loop .inv) (l .loop-test .taken) (z .size-at .ensures) (c .before .if10 .left) (c .pad-size .ensures)
+
 loop-again-3 : tie.Need-loop-again-3 Inv-loop μ-loop
 loop-again-3 c =
-    let s = c .before .before .before in
-    let k = s .before .before .before .before .before in
+    let s = c .before .before in
+    let z = s .before .before in
+    let o = z .before .before in
+    let k = o .before .before in
     let l = k .before .before .before .before in
     plain-text (l .before .loop .inv) (l .loop-test .taken) (k .before .before .before .entry-at .ensures) (k .before .before .place .ensures)
-    (k .before .if3 .left) (k .if6 .left) (s .before .before .before .before .if7 .left) (s .before .before .before .get4 .ensures)
-    (s .before .before .if8 .left) (s .before .get42 .ensures) (s .pad-size .ensures) (c .before .before .if9 .left) (c .before .pad-clear .ensures)
-    (c .if10 .left)
+    (k .before .if4 .left) (k .if7 .left) (o .before .if8 .left) (o .offset-at .ensures) (z .before .if9 .left) (z .size-at .ensures)
+    (s .before .if10 .left) (s .pad-size .ensures) (c .before .pad-clear .ensures) (c .if11 .left)
 
 pub is-plain-spec : {M : Type 1} → statement M
 is-plain-spec =
@@ -35,6 +42,7 @@ is-plain-spec =
     (tie.spec
     Inv-loop
     μ-loop
+    (λ c e. absurd (clash e refl))
     (λ c. search struct-mul)
     (λ c. search plain-add)
     (λ c e. absurd (clash e refl))
@@ -43,7 +51,7 @@ is-plain-spec =
     (λ c e. absurd (clash e refl))
     (λ c. search struct-mul)
     (λ c. search plain-add)
-    (λ c. let p = c .before .before .before in
+    (λ c. let p = c .before .before .before .before in
     search (plain-start, bytes-of (p .before .before .args .b .now) (λ i. p .shared-slice-known2 .given i .fits)))
     (λ c. search plain-place)
     (λ c κs. search field-stands)
@@ -57,20 +65,19 @@ is-plain-spec =
     (λ c e. absurd (clash e refl))
     (λ c. search loop-on)
     (λ c. search plain-less)
-    (λ c. ⊎-elim (λ q. search plain-fixed) (λ q. search (plain-null, fixed-leaf)) (c .if4 .came))
+    (λ c. ⊎-elim (λ q. search plain-fixed) (λ q. search (plain-null, fixed-leaf)) (c .if5 .came))
     (λ c e. absurd (clash e refl))
     (λ c. search plain-shift)
     (λ c. search loop-on)
     (λ c. search plain-less)
     (λ c. search plain-null)
-    (λ c. search loop-upper-on)
-    (λ c κs. search loop-upper)
+    (λ c κs. search loop-slot)
     (λ c e. absurd (clash e refl))
-    (λ c κs. search loop-lower)
+    (λ c κs. search loop-slot)
     (λ c. search stop-fits)
-    (λ c κs. search stop-small)
     (λ c e. absurd (clash e refl))
-    (λ c κs. search (plain-pad, stop-small))
+    (λ c κs. search stop-small)
+    pad-clear-requires
     (λ c e. absurd (clash e refl))
     (λ c. search loop-on)
     (λ c. search plain-less)

@@ -46,7 +46,8 @@ use Rattle.words.proofs.finds.first_set.Reads as first-set
 use Rattle.words.proofs.finds.past_byte.Reads as past-byte
 use Rattle.words.proofs.nulls.is_null.Reads as is-null
 use Rattle.words.proofs.nulls.past_clear.Reads as past-clear
-use Rattle.words.proofs.nums.get4.Reads as get4
+use Rattle.words.proofs.slots.offset_at.Reads as offset-at
+use Rattle.words.proofs.slots.size_at.Reads as size-at
 use Rattle.words.proofs.nums.get8.Reads as get8
 use Rattle.words.proofs.sizes.bitmap_size.Reads as bitmap-size
 use Rattle.words.proofs.sizes.pad_clear.Reads as pad-clear
@@ -129,10 +130,12 @@ module _ (t : ℕ) where
     after.Learnt,
     is-null.Asked,
     is-null.Learnt,
-    get4.Asked,
-    get4.Learnt,
+    offset-at.Asked,
+    offset-at.Learnt,
     fields-stand.Asked,
     fields-stand.Learnt,
+    size-at.Asked,
+    size-at.Learnt,
     pad-size.Asked,
     pad-size.Learnt,
     pad-clear.Asked,
@@ -165,10 +168,12 @@ module _ (t : ℕ) where
     bitmap-size.Learnt,
     is-null.Asked,
     is-null.Learnt,
-    get4.Asked,
-    get4.Learnt,
+    offset-at.Asked,
+    offset-at.Learnt,
     items-stand.Asked,
     items-stand.Learnt,
+    size-at.Asked,
+    size-at.Learnt,
     pad-size.Asked,
     pad-size.Learnt,
     is-plain.Asked,
@@ -250,24 +255,25 @@ module _ (t : ℕ) where
   fields-reached c = record { less = c .before .before .loop-test .taken; entry = c .before .entry-at .ensures; kind = c .place .ensures }
 
   -- what its slot says
-  pub fields-told : (c : InFields in-fields.After-get4)
-      → Told (c .before .before .before .before .before .before .before .loop .inv .state) (c .get4 .result)
+  pub fields-told : (c : InFields in-fields.After-offset-at)
+      → Told (c .before .before .before .before .before .before .before .loop .inv .state) (c .offset-at .result)
   fields-told c = record {
     less = c .before .before .before .before .before .before .loop-test .taken;
     ranged = reached-vary (fields-reached (c .before .before .before .before)) (c .before .before .before .if1 .left);
     here = sym (c .before .before .is-null .ensures) ∙ c .before .if3 .left;
-    reads = c .get4 .ensures;
+    says = c .offset-at .ensures;
   }
 
-  -- and that the cursor is there
+  -- and that the cursor is there, with the value in the container
   pub fields-here : (c : InFields in-fields.After-pad-size)
-      → Here (c .before .before .before .before .before .before .before .before .before .before .loop .inv .state) (c .before .get42 .result)
-      (c .pad-size .result)
+      → Here (c .before .before .before .before .before .before .before .before .before .before .before .loop .inv .state)
+      (c .before .before .size-at .result) (c .pad-size .result)
   fields-here c = record {
-    offset = c .before .before .before .get4 .result;
-    told = fields-told (c .before .before .before);
-    from = c .before .before .if4 .left;
-    size = c .before .get42 .ensures;
+    offset = c .before .before .before .before .offset-at .result;
+    told = fields-told (c .before .before .before .before);
+    from = c .before .before .before .if4 .left;
+    size = c .before .before .size-at .ensures;
+    end = c .before .if5 .left;
     to = c .pad-size .ensures;
   }
 
@@ -277,11 +283,11 @@ module _ (t : ℕ) where
       let l = (c .before .before .before .before .before .before .before .before .before .before .before .before .loop) in
       Child (s .t .now) (l .c) (s .depth) (c .before .before .before .before .before .before .before .before .before .before .entry-at .result)
       (c .before .before .before .before .before .before .before .before .before .place .result) t
-      (part (s .b .now) (l .cur) (l .cur + c .before .before .before .get42 .result - l .cur))
+      (part (s .b .now) (l .cur) (l .cur + c .before .before .before .size-at .result - l .cur))
   fields-child c =
       reached-part (fields-reached (c .before .before .before .before .before .before .before .before .before)) (c .if6 .left)
       (c .before .before .before .before .before .before .before .before .before .before .before .before .before .before .before .before .pre .0)
-      (here-short (fields-here (c .before .before)) (c .before .if5 .left))
+      (here-short (fields-here (c .before)))
 
   -- and the number of their fault
   pub fields-judged : (c : InFields in-fields.Joined8-2)
@@ -289,7 +295,7 @@ module _ (t : ℕ) where
       let s = (h .before .before .before .before .before .before .before .before .before .before .before .before .before .before .before .before .args) in
       let l = (h .before .before .before .before .before .before .before .before .before .before .before .before .loop) in
       c .if8 .r ≡ faultOf (field (typesOf (s .t .now) (s .first) (s .depth) (s .n)) (l .i)) (part (s .b .now) (l .cur)
-      (l .cur + h .before .before .before .get42 .result - l .cur))
+      (l .cur + h .before .before .before .size-at .result - l .cur))
   fields-judged c =
       let h = (c .before .before .before) in
       let v = fields-child h in
@@ -306,42 +312,43 @@ module _ (t : ℕ) where
   InItems N = N items-calls items-at check-items.Post items-Inv items-μ
 
   -- what the item's slot says
-  pub items-told : (c : InItems in-items.After-get4) → Told (c .before .before .before .before .loop .inv) (c .get4 .result)
+  pub items-told : (c : InItems in-items.After-offset-at) → Told (c .before .before .before .before .loop .inv) (c .offset-at .result)
   items-told c = record {
     less = c .before .before .before .loop-test .taken;
     ranged = refl;
     here = sym (c .before .before .is-null .ensures) ∙ c .before .if1 .left;
-    reads = c .get4 .ensures;
+    says = c .offset-at .ensures;
   }
 
-  -- and that the cursor is there
+  -- and that the cursor is there, with the value in the container
   pub items-here : (c : InItems in-items.After-pad-size)
-      → Here (c .before .before .before .before .before .before .before .loop .inv) (c .before .get42 .result) (c .pad-size .result)
+      → Here (c .before .before .before .before .before .before .before .before .loop .inv) (c .before .before .size-at .result) (c .pad-size .result)
   items-here c = record {
-    offset = c .before .before .before .get4 .result;
-    told = items-told (c .before .before .before);
-    from = c .before .before .if2 .left;
-    size = c .before .get42 .ensures;
+    offset = c .before .before .before .before .offset-at .result;
+    told = items-told (c .before .before .before .before);
+    from = c .before .before .before .if2 .left;
+    size = c .before .before .size-at .ensures;
+    end = c .before .if3 .left;
     to = c .pad-size .ensures;
   }
 
   -- its bytes, which should stand for a container
-  pub items-child : (c : InItems in-items.Else3)
+  pub items-child : (c : InItems in-items.After-pad-size)
       → let s = (c .before .before .before .before .before .before .before .before .before .before .before .before .before .before .args) in
       let l = (c .before .before .before .before .before .before .before .before .loop) in
       Child (s .t .now) (s .c) (s .depth) (s .w) (c .before .before .before .before .before .before .before .before .before .before .before .place .result) t
-      (part (s .b .now) (l .cur) (l .cur + c .before .before .get42 .result - l .cur))
+      (part (s .b .now) (l .cur) (l .cur + c .before .before .size-at .result - l .cur))
   items-child c =
       let s = (c .before .before .before .before .before .before .before .before .before .before .before .before .before .before .pre) in
       item-part (s .1) (c .before .before .before .before .before .before .before .before .before .before .before .place .ensures) (s .0)
-      (here-short (items-here (c .before)) (c .if3 .left))
+      (here-short (items-here c))
 
   -- and the number of their fault
   pub items-judged : (c : InItems in-items.Joined4-2)
       → let h = (c .before .before) in
       let s = (h .before .before .before .before .before .before .before .before .before .before .before .before .before .before .args) in
       let l = (h .before .before .before .before .before .before .before .before .loop) in
-      c .if4 .r ≡ faultOf (typeOf (s .t .now) (s .c) (s .depth)) (part (s .b .now) (l .cur) (l .cur + h .before .before .get42 .result - l .cur))
+      c .if4 .r ≡ faultOf (typeOf (s .t .now) (s .c) (s .depth)) (part (s .b .now) (l .cur) (l .cur + h .before .before .size-at .result - l .cur))
   items-judged c =
       let h = (c .before .before) in
       let v = items-child h in

@@ -18,9 +18,8 @@ use Rattle.checking.proofs.Loops.{
   loop-done,
   loop-over,
   loop-bit,
-  loop-upper-on,
-  loop-upper,
-  loop-lower,
+  loop-fault,
+  loop-slot,
   loop-slot-on,
   loop-on,
   loop-falls,
@@ -36,8 +35,7 @@ use Rattle.checking.proofs.Cursor.{
   here-slot-on,
   here-on,
   here-less,
-  here-told,
-  here-long,
+  past-end,
   here-pad,
   here-unpadded,
   here-next,
@@ -75,19 +73,16 @@ loop-less c = loop-falls (c .before .before .before .loop .inv) (c .before .befo
 loop-again : tie.Need-loop-again Inv-loop μ-loop
 loop-again c = loop-null (c .before .before .before .loop .inv) (c .before .before .loop-test .taken) (c .before .null-at .ensures) (c .if1 .taken)
 
-add-get4 : tie.Need-add-get4 Inv-loop μ-loop
-add-get4 c = loop-upper-on (c .before .before .before .loop .inv) (c .before .before .loop-test .taken)
-
-get4-requires : tie.Need-get4-requires Inv-loop μ-loop
-get4-requires c κs = loop-upper (c .before .before .before .loop .inv) (c .before .before .loop-test .taken)
+offset-at-requires : tie.Need-offset-at-requires Inv-loop μ-loop
+offset-at-requires c κs = loop-slot (c .before .before .before .loop .inv) (c .before .before .loop-test .taken)
 
 -- what the slot says
-told : (c : tie.After-get4 Inv-loop μ-loop) → Told (c .before .before .before .before .loop .inv) (c .get4 .result)
+told : (c : tie.After-offset-at Inv-loop μ-loop) → Told (c .before .before .before .before .loop .inv) (c .offset-at .result)
 told c = record {
   less = c .before .before .before .loop-test .taken;
   ranged = refl;
   here = sym (c .before .before .null-at .ensures) ∙ c .before .if1 .left;
-  reads = c .get4 .ensures;
+  says = c .offset-at .ensures;
 }
 
 items-stand-requires : tie.Need-items-stand-requires Inv-loop μ-loop
@@ -105,56 +100,58 @@ loop-less-2 c = told-less (told (c .before .before)) (c .before .if2 .taken)
 loop-again-2 : tie.Need-loop-again-2 Inv-loop μ-loop
 loop-again-2 c = told-moves (told (c .before .before)) (c .items-stand .ensures)
 
-get4-requires-2 : tie.Need-get4-requires-2 Inv-loop μ-loop
-get4-requires-2 c κs = loop-lower (c .before .before .before .before .before .loop .inv) (c .before .before .before .before .loop-test .taken)
+size-at-requires : tie.Need-size-at-requires Inv-loop μ-loop
+size-at-requires c κs = loop-slot (c .before .before .before .before .before .loop .inv) (c .before .before .before .before .loop-test .taken)
 
 add-end : tie.Need-add-end Inv-loop μ-loop
-add-end c = stop-fits (c .before .before .before .before .before .before .loop .inv) (c .get42 .ensures)
+add-end c = stop-fits (c .before .before .before .before .before .before .loop .inv) (c .size-at .ensures)
+
+add-result : tie.Need-add-result Inv-loop μ-loop
+add-result c = loop-fault (c .before .before .before .before .before .before .before .loop .inv)
+    (c .before .before .before .before .before .before .loop-test .taken)
+
+returns : tie.Need-returns Inv-loop μ-loop
+returns c = past-end (told (c .before .before .before)) (c .before .before .if2 .left) (c .before .size-at .ensures) (c .if3 .taken)
 
 pad-size-requires : tie.Need-pad-size-requires Inv-loop μ-loop
-pad-size-requires c κs = stop-small (c .before .before .before .before .before .before .loop .inv) (c .get42 .ensures)
+pad-size-requires c κs = stop-small (c .before .before .before .before .before .before .before .loop .inv) (c .before .size-at .ensures)
 
--- and that the cursor is there
+-- and that the cursor is there, with the value in the list
 here : (c : tie.After-pad-size Inv-loop μ-loop)
-    → Here (c .before .before .before .before .before .before .before .loop .inv) (c .before .get42 .result) (c .pad-size .result)
+    → Here (c .before .before .before .before .before .before .before .before .loop .inv) (c .before .before .size-at .result) (c .pad-size .result)
 here c = record {
-  offset = c .before .before .before .get4 .result;
-  told = told (c .before .before .before);
-  from = c .before .before .if2 .left;
-  size = c .before .get42 .ensures;
+  offset = c .before .before .before .before .offset-at .result;
+  told = told (c .before .before .before .before);
+  from = c .before .before .before .if2 .left;
+  size = c .before .before .size-at .ensures;
+  end = c .before .if3 .left;
   to = c .pad-size .ensures;
 }
 
-add-result : tie.Need-add-result Inv-loop μ-loop
-add-result c = here-told (here (c .before))
-
-returns : tie.Need-returns Inv-loop μ-loop
-returns c = here-long (here (c .before)) (c .if3 .taken)
-
 pad-clear-requires : tie.Need-pad-clear-requires Inv-loop μ-loop
-pad-clear-requires c κs = here-pad (here (c .before)) (c .if3 .left)
+pad-clear-requires c κs = here-pad (here c)
 
 first-set-requires : tie.Need-first-set-requires Inv-loop μ-loop
-first-set-requires c κs = here-search (here (c .before .before .before)) (c .before .before .if3 .left)
+first-set-requires c κs = here-search (here (c .before .before))
 
 add-result-2 : tie.Need-add-result-2 Inv-loop μ-loop
-add-result-2 c = here-found (here (c .before .before .before .before)) (c .before .before .before .if3 .left) (c .first-set .ensures)
+add-result-2 c = here-found (here (c .before .before .before)) (c .first-set .ensures)
 
 returns-2 : tie.Need-returns-2 Inv-loop μ-loop
-returns-2 c = here-unpadded (here (c .before .before .before .before)) (c .before .before .before .if3 .left) (text-sound _)
-    (c .before .before .pad-clear .ensures) (c .before .if4 .taken) (c .first-set .ensures)
+returns-2 c = here-unpadded (here (c .before .before .before)) (text-sound _) (c .before .before .pad-clear .ensures) (c .before .if4 .taken)
+    (c .first-set .ensures)
 
 add-slot-2 : tie.Need-add-slot-2 Inv-loop μ-loop
-add-slot-2 c = here-slot-on (here (c .before .before .before))
+add-slot-2 c = here-slot-on (here (c .before .before))
 
 add-i-2 : tie.Need-add-i-2 Inv-loop μ-loop
-add-i-2 c = here-on (here (c .before .before .before))
+add-i-2 c = here-on (here (c .before .before))
 
 loop-less-3 : tie.Need-loop-less-3 Inv-loop μ-loop
-loop-less-3 c = here-less (here (c .before .before .before))
+loop-less-3 c = here-less (here (c .before .before))
 
 loop-again-3 : tie.Need-loop-again-3 Inv-loop μ-loop
-loop-again-3 c = here-next (here (c .before .before .before)) (c .before .before .if3 .left) (text-sound _) (c .before .pad-clear .ensures) (c .if4 .left)
+loop-again-3 c = here-next (here (c .before .before)) (text-sound _) (c .before .pad-clear .ensures) (c .if4 .left)
 
 add-result-3 : tie.Need-add-result-3 Inv-loop μ-loop
 add-result-3 c = loop-told (c .before .before .loop .inv) (c .before .loop-test .left) (c .if5 .taken)
@@ -187,18 +184,17 @@ check-texts-spec =
     add-i
     loop-less
     loop-again
-    add-get4
-    get4-requires
+    offset-at-requires
     items-stand-requires
     sub-done
     add-done
     loop-less-2
     loop-again-2
-    get4-requires-2
+    size-at-requires
     add-end
-    pad-size-requires
     add-result
     returns
+    pad-size-requires
     pad-clear-requires
     first-set-requires
     add-result-2
