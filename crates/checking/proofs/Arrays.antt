@@ -15,9 +15,9 @@ use Rattle.words.specs.Bytes.{num, part}
 use Rattle.words.specs.Reads.{Reads}
 use Rattle.schema.specs.Types.{Ty, li, ma}
 use Rattle.checking.specs.Sound.{faultOf, inChild}
-use Rattle.checking.specs.Room.{Holding, Pair}
-use Rattle.checking.proofs.Tests.{child-fault, child-sound}
-use Rattle.checking.proofs.Containers.{list-odd, list-short, map-uneven, map-unfit, map-is, child-asks}
+use Rattle.checking.specs.Room.{typeOf, Holding, Pair}
+use Rattle.checking.proofs.Tests.{child-fault, child-sound, part-small}
+use Rattle.checking.proofs.Containers.{list-odd, list-short, map-uneven, map-unfit, map-is, fault-small}
 
 -- a list of less than 8 bytes is at fault in its slot
 list-few : (t : Ty) (b : List ℕ) → length b < 8 → faultOf (li t) b ≡ 1
@@ -35,31 +35,14 @@ list-head t b e = go (decLe 8 (length b))
     go (yes h) = h
     go (no h) = absurd (omega (arith, list-few t b (omega arith)))
 
--- ---- what is known of a map, step by step
+-- ---- a map, as more and more of it is known
 
--- the size of its keys array is read
-pub record Sized (b : List ℕ) (size : ℕ) : Type 0 where
-  pub small : length b ≤ 16384
-  pub even : length b % 8 ≡ 0
-  pub head : 8 ≤ length b
-  pub reads : Reads b 0 8 size
+module _ {t : List ℕ} {k v d : ℕ} {b : List ℕ} (m : Pair t k v d b) {size : ℕ} (reads : Reads b 0 8 size) where
+  abbrev key : Ty
+  key = typeOf t k d
 
--- and the array lies in the map
-pub record Parted (b : List ℕ) (size : ℕ) : Type 0 where
-  pub sized : Sized b size
-  pub whole : size % 8 ≡ 0
-  pub room : size ≤ length b - 8
-
-module _ {b : List ℕ} {size : ℕ} (z : Sized b size) (k v : Ty) where
-  pub maps-uneven : (size % 8 ≡ 0 → ⊥) → 2 ≡ faultOf (ma k v) b
-  maps-uneven h = sym (map-uneven k v b (z .even) size (z .reads .is) (z .head) h)
-
-  pub maps-unfit : size % 8 ≡ 0 → length b - 8 < size → 2 ≡ faultOf (ma k v) b
-  maps-unfit w h = sym (map-unfit k v b (z .even) size (z .reads .is) (z .head) w (omega (arith, z .head)))
-
-module _ {b : List ℕ} {size : ℕ} (p : Parted b size) where
-  abbrev z : Sized b size
-  z = p .sized
+  abbrev value : Ty
+  value = typeOf t v d
 
   abbrev stop : ℕ
   stop = 8 + size
@@ -70,104 +53,113 @@ module _ {b : List ℕ} {size : ℕ} (p : Parted b size) where
   abbrev values : List ℕ
   values = part b stop (length b - stop)
 
-  -- ---- room
+  -- sound keys have their header
+  module _ (room : size ≤ length b - 8) {r : ℕ} (er : r ≡ faultOf (li key) keys) (sound : r ≡ 0) where
+    long-keys : 8 ≤ stop - 8
+    long-keys = omega (arith, list-head key keys (sym er ∙ sound), length-take (stop - 8) (drop 8 b))
 
-  pub parted-end : stop ≤ length b
-  parted-end = omega (arith, p .room, z .head)
+    pub keys-head : 8 + 8 ≤ length b
+    keys-head = omega (arith, long-keys)
 
-  pub parted-order : 8 ≤ stop
-  parted-order = omega arith
+  module _ (even : length b % 8 ≡ 0) (head : 8 ≤ length b) where
+    -- the size of its keys array does not fit
+    pub map-bad : (size % 8 ≡ 0 → ⊥) → 2 ≡ faultOf (ma key value) b
+    map-bad h = sym (map-uneven key value b even size (reads .is) head h)
 
-  pub parted-fits : Fits w64 stop
-  parted-fits = omega (arith, parted-end, z .small)
+    module _ (whole : size % 8 ≡ 0) where
+      pub map-over : length b - 8 < size → 2 ≡ faultOf (ma key value) b
+      map-over h = sym (map-unfit key value b even size (reads .is) head whole (omega arith))
 
-  pub parted-told : Fits w64 (stop + 2)
-  parted-told = omega (arith, parted-end, z .small)
+      -- it does
+      module _ (room : size ≤ length b - 8) where
+        pub map-end : stop ≤ length b
+        map-end = omega arith
 
-  keys-short : length keys ≤ 16384
-  keys-short = rw length-take (omega (arith, z .small, length-drop 8 b))
+        pub map-fits : Fits w64 stop
+        map-fits = omega (arith, m .small)
 
-  values-short : length values ≤ 16384
-  values-short = rw length-take (omega (arith, z .small, length-drop stop b))
+        pub map-low : stop ≤ 65536
+        map-low = omega (arith, m .small)
 
-  pub keys-hold : {t : List ℕ} {k v d : ℕ} → Pair t k v d b → Holding t k d keys
-  keys-hold q = record { stands = q .keys; small = keys-short }
+        pub map-told : Fits w64 (stop + 2)
+        map-told = omega (arith, m .small)
 
-  pub values-hold : {t : List ℕ} {k v d : ℕ} → Pair t k v d b → Holding t v d values
-  values-hold q = record { stands = q .values; small = values-short }
+        keys-short : length keys ≤ 16384
+        keys-short = part-small b 8 (stop - 8) (m .small)
 
-  pub values-head : 8 ≤ length b - stop → stop + 8 ≤ length b
-  values-head h = omega (arith, parted-end)
+        values-short : length values ≤ 16384
+        values-short = part-small b stop (length b - stop) (m .small)
 
-  -- ---- what is asked for of each array
+        pub keys-hold : Holding t k d keys
+        keys-hold = record { stands = m .keys; small = keys-short }
 
-  module _ (k : Ty) {r : ℕ} (er : r ≡ faultOf (li k) keys) where
-    pub keys-asks : (r ≡ 0 → ⊥) → (1 ≤ r) × (r ≤ 65536) × (8 ≤ 65536) × (8 ≤ 65536)
-    keys-asks ne = child-asks (li k) keys er ne keys-short (omega arith) (omega arith)
+        pub values-hold : Holding t v d values
+        values-hold = record { stands = m .values; small = values-short }
 
-    long-keys : r ≡ 0 → 8 ≤ stop - 8
-    long-keys e = omega (arith, list-head k keys (sym er ∙ e), length-take (stop - 8) (drop 8 b))
+        pub values-head : 8 ≤ length b - stop → stop + 8 ≤ length b
+        values-head h = omega arith
 
-    pub keys-head : r ≡ 0 → 8 + 8 ≤ length b
-    keys-head e = omega (arith, long-keys e, parted-end)
+        keys-is : keys ≡ part b 8 size
+        keys-is = let q : stop - 8 ≡ size = omega arith in ap (part b 8) q
 
-  pub values-asks : (v : Ty) {q : ℕ} → q ≡ faultOf (li v) values → (q ≡ 0 → ⊥) → (1 ≤ q) × (q ≤ 65536) × (stop ≤ 65536) × (stop ≤ 65536)
-  values-asks v eq ne = child-asks (li v) values eq ne values-short (omega (arith, parted-end, z .small)) (omega (arith, parted-end, z .small))
+        values-is : values ≡ drop stop b
+        values-is =
+            let q : length b - stop ≡ length (drop stop b) = rw length-drop in
+            ap (λ (n : ℕ). take n (drop stop b)) q ∙ take-length (drop stop b)
 
-  -- ---- their faults
+        is : faultOf (ma key value) b
+            ≡ inChild 8 8 (faultOf (li key) keys)
+            (cond (eqb (num (take 8 values)) (num (take 8 keys))) (inChild stop stop (faultOf (li value) values) 0) (suc (suc stop)))
+        is = map-is key value b even size (reads .is) head whole map-end ∙ rw (keys-is, values-is)
 
-  module _ (k v : Ty) where
-    keys-is : keys ≡ part b 8 size
-    keys-is = let q : stop - 8 ≡ size = omega arith in ap (part b 8) q
+        -- r is the fault of the keys
+        module _ {r : ℕ} (er : r ≡ faultOf (li key) keys) where
+          pub keys-few : r ≤ 65536
+          keys-few = omega (arith, fault-small (li key) keys r er keys-short)
 
-    values-is : values ≡ drop stop b
-    values-is =
-        let q : length b - stop ≡ length (drop stop b) = rw length-drop in
-        ap (λ (n : ℕ). take n (drop stop b)) q ∙ take-length (drop stop b)
+          pub keys-bad : (r ≡ 0 → ⊥) → {y : ℕ} → y ≡ inChild 8 8 r 0 → y ≡ faultOf (ma key value) b
+          keys-bad ne ey = ey ∙ sym (is ∙ rw (← er) (child-fault 8 8 r _ ne))
 
-    is : faultOf (ma k v) b
-        ≡ inChild 8 8 (faultOf (li k) keys)
-        (cond (eqb (num (take 8 values)) (num (take 8 keys))) (inChild stop stop (faultOf (li v) values) 0) (suc (suc stop)))
-    is = map-is k v b (z .even) size (z .reads .is) (z .head) (p .whole) parted-end ∙ rw (keys-is, values-is)
+          module _ (sound : r ≡ 0) where
+            on : faultOf (ma key value) b
+                ≡ cond (eqb (num (take 8 values)) (num (take 8 keys))) (inChild stop stop (faultOf (li value) values) 0) (suc (suc stop))
+            on = is ∙ child-sound 8 8 (faultOf (li key) keys) _ (sym er ∙ sound)
 
-    module _ {r : ℕ} (er : r ≡ faultOf (li k) keys) where
-      pub maps-keys : (r ≡ 0 → ⊥) → {y : ℕ} → y ≡ inChild 8 8 r 0 → y ≡ faultOf (ma k v) b
-      maps-keys h ey = ey ∙ sym (is ∙ rw (← er) (child-fault 8 8 r _ h))
+            at-stop : stop + 2 ≡ suc (suc stop)
+            at-stop = omega arith
 
-      module _ (zr : r ≡ 0) where
-        on : faultOf (ma k v) b ≡ cond (eqb (num (take 8 values)) (num (take 8 keys))) (inChild stop stop (faultOf (li v) values) 0) (suc (suc stop))
-        on = is ∙ child-sound 8 8 (faultOf (li k) keys) _ (sym er ∙ zr)
+            -- no room for the values' header: the counts differ, or the values are at fault in their slot, which is the same place
+            pub values-headless : length b - stop < 8 → stop + 2 ≡ faultOf (ma key value) b
+            unfolding inChild
+            values-headless h =
+                let f : faultOf (li value) values ≡ 1 = list-few value values (rw (length-take, length-drop) (omega arith)) in
+                at-stop ∙ sym (on ∙ rw f (go (eqb (num (take 8 values)) (num (take 8 keys)))))
+              where
+                go : (x : Bool) → cond x (suc (suc stop)) (suc (suc stop)) ≡ suc (suc stop)
+                go true = refl
+                go false = refl
 
-        at-stop : stop + 2 ≡ suc (suc stop)
-        at-stop = omega arith
+            -- the two counts
+            module _ (behind : 8 ≤ length b - stop) {x y : ℕ} (rx : Reads b 8 8 x) (ry : Reads b stop 8 y) where
+              keys-count : num (take 8 keys) ≡ x
+              keys-count = ap num (take-take 8 (stop - 8) (drop 8 b) (long-keys room er sound)) ∙ sym (rx .is)
 
-        -- no room for the values' header: the counts differ, or the values are at fault in their slot, which is the same place
-        pub maps-headless : length b - stop < 8 → stop + 2 ≡ faultOf (ma k v) b
-        unfolding inChild
-        maps-headless h =
-            let f : faultOf (li v) values ≡ 1 = list-few v values (rw (length-take, length-drop) (omega arith)) in
-            at-stop ∙ sym (on ∙ rw f (go (eqb (num (take 8 values)) (num (take 8 keys)))))
-          where
-            go : (t : Bool) → cond t (suc (suc stop)) (suc (suc stop)) ≡ suc (suc stop)
-            go true = refl
-            go false = refl
+              values-count : num (take 8 values) ≡ y
+              values-count = ap num (take-take 8 (length b - stop) (drop stop b) behind) ∙ sym (ry .is)
 
-        module _ (room-v : 8 ≤ length b - stop) {x y : ℕ} (rx : Reads b 8 8 x) (ry : Reads b stop 8 y) where
-          keys-count : num (take 8 keys) ≡ x
-          keys-count = ap num (take-take 8 (stop - 8) (drop 8 b) (long-keys k er zr)) ∙ sym (rx .is)
+              pub counts-differ : (x ≡ y → ⊥) → stop + 2 ≡ faultOf (ma key value) b
+              counts-differ ne = at-stop ∙ sym (on ∙ rw (keys-count, values-count, ne-eqb y x (λ e. ne (sym e))))
 
-          values-count : num (take 8 values) ≡ y
-          values-count = ap num (take-take 8 (length b - stop) (drop stop b) room-v) ∙ sym (ry .is)
+              -- q is the fault of the values
+              module _ (same : x ≡ y) {q : ℕ} (eq : q ≡ faultOf (li value) values) where
+                last : faultOf (ma key value) b ≡ inChild stop stop q 0
+                last = on ∙ rw (keys-count, values-count, eq-eqb y x (sym same), ← eq)
 
-          pub maps-counts : (x ≡ y → ⊥) → stop + 2 ≡ faultOf (ma k v) b
-          maps-counts ne = at-stop ∙ sym (on ∙ rw (keys-count, values-count, ne-eqb y x (λ e. ne (sym e))))
+                pub values-few : q ≤ 65536
+                values-few = omega (arith, fault-small (li value) values q eq values-short)
 
-          module _ (same : x ≡ y) {q : ℕ} (eq : q ≡ faultOf (li v) values) where
-            last : faultOf (ma k v) b ≡ inChild stop stop q 0
-            last = on ∙ rw (keys-count, values-count, eq-eqb y x (sym same), ← eq)
+                pub values-bad : {w : ℕ} → w ≡ inChild stop stop q 0 → w ≡ faultOf (ma key value) b
+                values-bad ew = ew ∙ sym last
 
-            pub maps-values : {w : ℕ} → w ≡ inChild stop stop q 0 → w ≡ faultOf (ma k v) b
-            maps-values ew = ew ∙ sym last
-
-            pub maps-done : q ≡ 0 → 0 ≡ faultOf (ma k v) b
-            maps-done e = sym (last ∙ child-sound stop stop q 0 e)
+                pub map-done : q ≡ 0 → 0 ≡ faultOf (ma key value) b
+                map-done e = sym (last ∙ child-sound stop stop q 0 e)

@@ -8,7 +8,7 @@ use native.Mathlib.Omega.{arith}
 use mir.Val.{Fits}
 use mir.Syntax.{w64}
 use lib.Dec.{eqb}
-use lib.ListN.{length, length-take, length-drop}
+use lib.ListN.{length}
 use borrow.Author.Tests.{eq-eqb, ne-eqb, eqb-true}
 use Rattle.words.specs.Bytes.{num, pad, bitmap, part, zerosAhead}
 use Rattle.words.specs.Bits.{bit}
@@ -20,7 +20,7 @@ use Rattle.layout.proofs.Tiles.{stands-next}
 use Rattle.standing.specs.Standing.{rangeAt}
 use Rattle.checking.specs.Sound.{faultOf, inChild, faultFrom}
 use Rattle.checking.specs.Room.{Unfit, Asked}
-use Rattle.checking.proofs.Tests.{passed, found-fits, no-bytes, ChildIs, child-bad, child-unpadded, child-next}
+use Rattle.checking.proofs.Tests.{passed, part-small, found-fits, no-bytes, ChildIs, child-bad, child-unpadded, child-next}
 use Rattle.checking.proofs.Containers.{Eights, child-asks}
 use Rattle.checking.proofs.Children.{good-off, good-outside}
 use Rattle.checking.proofs.Loops.{
@@ -42,9 +42,6 @@ use Rattle.checking.proofs.Loops.{
   front-is,
   slot-at,
   loop-slot,
-  loop-slot-on,
-  loop-on,
-  loop-falls,
 }
 
 -- its slot says the offset o
@@ -142,16 +139,15 @@ pad-in cur z e t r = omega arith
 
 -- they lie in the container, and end at next with their padding
 pub record Here {k : Held} {b : List ℕ} {n slots start i slot cur stop done since : ℕ}
-    (a : At k b n slots start i slot cur stop done since) (z next : ℕ) : Type 0 where
-  pub offset : ℕ
-  pub told : Told a offset
-  pub from : offset ≡ cur
+    (a : At k b n slots start i slot cur stop done since) (o z next : ℕ) : Type 0 where
+  pub told : Told a o
+  pub from : o ≡ cur
   pub size : Size b slot z
   pub end : cur + z ≤ length b
   pub to : next ≡ pad (cur + z)
 
 module _ {k : Held} {b : List ℕ} {n slots start i slot cur stop done since : ℕ}
-    {a : At k b n slots start i slot cur stop done since} {z next : ℕ} (t : Here a z next) where
+    {a : At k b n slots start i slot cur stop done since} {o z next : ℕ} (t : Here a o z next) where
   abbrev dd : Slots k b n slots start
   dd = a .fixed
 
@@ -174,15 +170,6 @@ module _ {k : Held} {b : List ℕ} {n slots start i slot cur stop done since : �
   abbrev There : ℕ → Range → Type 0
   There q r = Stands q (length b) (before k b n i) r
 
-  pub here-slot-on : Fits w64 (slot + 8)
-  here-slot-on = loop-slot-on a less
-
-  pub here-on : Fits w64 (i + 1)
-  here-on = loop-on a less
-
-  pub here-less : 2 * (n - (i + 1)) + astray b (slot + 8) next < 2 * (n - i) + astray b slot cur
-  here-less = loop-falls a less next
-
   stands : There (headOf k + bitmap n + 8 * n) (range cur (pad z))
   stands = go (ℕ-discrete done 0)
     where
@@ -204,14 +191,8 @@ module _ {k : Held} {b : List ℕ} {n slots start i slot cur stop done since : �
   pub here-pad : (8 ≤ next) × (next ≤ length b) × (cur + z < 2 ^ 40) × (next ≡ pad (cur + z))
   here-pad = (omega (arith, t .to, low, dd .data₀, less, a .within), room, omega (arith, t .to, dd .small), t .to)
 
-  pub here-part : cur ≤ cur + z
-  here-part = omega arith
-
-  pub here-end : cur + z ≤ length b
-  here-end = t .end
-
-  pub here-short : length contents ≤ 16384
-  here-short = rw length-take (omega (arith, dd .small, length-drop cur b))
+  here-short : length contents ≤ 16384
+  here-short = part-small b cur (cur + z - cur) (dd .small)
 
   -- its contents, then its padding
   child : ChildIs b slot cur (faultOf (typeIn k i) contents) (cur + z) next (faultFrom (headOf k) 8 (kidsOf k) b (i + 1) (range cur (pad z) ∷ before k b n i))
@@ -222,7 +203,8 @@ module _ {k : Held} {b : List ℕ} {n slots start i slot cur stop done since : �
       let c = good-outside (headOf k) 8 (kidsOf k) b (slots-fit dd) (dd .bytes) i (omega (arith, less, a .within, held-count k (dd .right)))
       (before k b n i) (codec (typeIn k i))
       (held-kid k (dd .right) i (omega (arith, less, a .within)) (t .told .ranged)) refl (t .told .here) _ (ex′ (t .told) (t .from) (t .size)) cur z next
-      (sym (x-offset (t .told) (t .from) (t .size))) (t .size .is) (omega (arith, t .to, eight)) (subst (λ (q : ℕ). There q (range cur (pad z))) (sym (front-is dd)) stands) in
+      (sym (x-offset (t .told) (t .from) (t .size))) (t .size .is) (omega (arith, t .to, eight))
+      (subst (λ (q : ℕ). There q (range cur (pad z))) (sym (front-is dd)) stands) in
       record { is = sym (c ∙ rw (← front-slot (t .told) (t .from) (t .size), g)) ∙ a .same }
 
   goes : faultOf (typeIn k i) contents ≡ 0 → num blank ≡ 0 → At k b n slots start (i + 1) (slot + 8) next stop done since
@@ -258,7 +240,7 @@ module _ {k : Held} {b : List ℕ} {n slots start i slot cur stop done since : �
   module _ {r : ℕ} (er : r ≡ faultOf (typeIn k i) contents) where
     pub here-asks : (r ≡ 0 → ⊥) → (1 ≤ r) × (r ≤ 65536) × (slot ≤ 65536) × (cur ≤ 65536)
     here-asks ne =
-        child-asks (typeIn k i) contents er ne here-short (omega (arith, loop-slot a less, dd .small)) (omega (arith, here-end, dd .small))
+        child-asks (typeIn k i) contents er ne here-short (omega (arith, loop-slot a less, dd .small)) (omega (arith, t .end, dd .small))
 
     pub here-bad : (r ≡ 0 → ⊥) → {y : ℕ} → y ≡ inChild slot cur r 0 → y ≡ faultIn k b
     here-bad ne ey = child-bad child er ne ey
@@ -267,7 +249,7 @@ module _ {k : Held} {b : List ℕ} {n slots start i slot cur stop done since : �
     pub here-whole : Eights (typeIn k i) → r ≡ 0 → At k b n slots start (i + 1) (slot + 8) next stop done since
     here-whole w e =
         let g : faultOf (typeIn k i) contents ≡ 0 = sym er ∙ e in
-        goes g (no-bytes b (cur + z) next (omega (arith, w contents g, length-part b cur (cur + z - cur) (omega (arith, here-end)), eight, t .to)))
+        goes g (no-bytes b (cur + z) next (omega (arith, w contents g, length-part b cur (cur + z - cur) (omega (arith, t .end)), eight, t .to)))
 
   -- a string, which has no fault itself
   module _ (g : faultOf (typeIn k i) contents ≡ 0) {v : Bool} (e : v ≡ eqb (num blank) 0) where

@@ -274,16 +274,19 @@ module _ {b : List ℕ} {i slot entry : ℕ} (r : FieldRoom b i slot entry) (hb 
         go true q = absurd (wrong (eqb-true (fieldThen f b i slot 0) 0 (sym (null-good q))))
         go false q = refl
 
-    pub field-rest : (k ≡ 0 → ⊥) → {v : ℕ} → v ≡ widthIn entry → {y : ℕ} → y ≡ slot + v + zerosAhead (part b (slot + v) (slot + 8 - (slot + v)))
-        → y + 2 ≡ fieldThen f b i slot 0
-    field-rest h {v} q {y} ey =
+    pub field-rest : {m : ℕ} → m ≡ k → (m ≡ 0 → ⊥) → {v : ℕ} → v ≡ widthIn entry
+        → {y : ℕ} → y ≡ slot + v + zerosAhead (part b (slot + v) (slot + 8 - (slot + v))) → y + 2 ≡ fieldThen f b i slot 0
+    field-rest em ne {v} q {y} ey =
         let vw : v ≡ w = q ∙ r .lined .width ∙ line-width k (r .fixed) in
         let ey′ : y ≡ slot + w + zerosAhead rest = rw vw at ey in
         let g : y + 2 ≡ suc (suc (slot + w + zerosAhead rest)) = omega arith in
-        let n = number-is present h in
+        let n = number-is present (λ z. ne (em ∙ z)) in
         g ∙ sym (n ∙ rw (ne-eqb (num rest) 0 (λ z. wrong (n ∙ rw (eq-eqb (num rest) 0 z)))))
 
-    module _ (h : k ≡ 0) where
+    module _ {m : ℕ} (em : m ≡ k) (z : m ≡ 0) where
+      h : k ≡ 0
+      h = sym em ∙ z
+
       own-is : num own ≡ getD b slot 0
       own-is = ap (λ (n : ℕ). num (part b slot n)) (bool-one k h) ∙ num-one b slot (omega (arith, r .slot-room))
 
@@ -305,14 +308,17 @@ module _ {b : List ℕ} {i slot entry : ℕ} (r : FieldRoom b i slot entry) wher
     eight = omega (arith, r .lined .width, line-width (placeIn entry) (r .fixed), width-8 (fixedAt (placeIn entry)))
 
     -- the bytes behind a field's own
-    pub rest-search : (slot + v ≤ slot + 8) × (slot + 8 ≤ length b)
-    rest-search = (omega (arith, eight), r .slot-room)
+    pub rest-search : slot + v ≤ slot + 8
+    rest-search = omega (arith, eight)
 
     pub rest-on : Fits w64 (slot + v)
     rest-on = omega (arith, eight, r .slot-room, r .small)
 
     pub rest-found : {y : ℕ} → y ≡ slot + v + zerosAhead (part b (slot + v) (slot + 8 - (slot + v))) → Fits w64 (y + 2)
-    rest-found ey = found-fits b (slot + v) (slot + 8) ey (rest-search .0) (r .slot-room) (r .small)
+    rest-found ey = found-fits b (slot + v) (slot + 8) ey rest-search (r .slot-room) (r .small)
+
+  pub slot-fits : (j : ℕ) → j ≤ 8 → Fits w64 (slot + j)
+  slot-fits j l = omega (arith, r .slot-room, r .small)
 
   -- a shift by the highest bit
   pub above-shift : {u : ℕ} → u ≡ topIn entry → u < 64

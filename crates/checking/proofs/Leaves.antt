@@ -74,8 +74,8 @@ pub record Clear (b : List ℕ) (i : ℕ) : Type 0 where
 pub clear-start : (b : List ℕ) → Clear b 0
 clear-start b = record { none = λ j h. absurd (omega arith) }
 
-pub clear-word : (b : List ℕ) (i p x : ℕ) → Bytes b → i % 64 ≡ 0 → p ≡ 8 + i / 8 → Reads b p 8 x → x ≡ 0 → Clear b i → Clear b (i + 64)
-clear-word b i p x hb e ep rx z c = record { none = λ j h. go j h (decLt j i) }
+pub clear-word : {b : List ℕ} {i p x : ℕ} → Clear b i → i % 64 ≡ 0 → p ≡ 8 + i / 8 → Reads b p 8 x → x ≡ 0 → Bytes b → Clear b (i + 64)
+clear-word {b} {i} {p} {x} c e ep rx z hb = record { none = λ j h. go j h (decLt j i) }
   where
     go : (j : ℕ) → j < i + 64 → Dec (j < i) → bit b 8 j ≡ false
     go j h (yes k) = c .none j k
@@ -85,8 +85,8 @@ clear-word b i p x hb e ep rx z c = record { none = λ j h. go j h (decLt j i) }
         let r : j % 8 ≡ q % 8 = omega arith in
         rw (a, r) (sym (bit-num p 8 q hb (omega arith)) ∙ word-clear (num (part b p 8)) q (sym (rx .is) ∙ z))
 
-pub clear-end : (b : List ℕ) (n i : ℕ) → n ≤ i → Clear b i → NoNulls b n
-clear-end b n i h c = record { none = λ j k. c .none j (omega arith) }
+pub clear-end : {b : List ℕ} {n i : ℕ} → Clear b i → n ≤ i → NoNulls b n
+clear-end c h = record { none = λ j k. c .none j (omega arith) }
 
 -- ---- numbers
 

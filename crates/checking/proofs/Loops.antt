@@ -16,7 +16,7 @@ use borrow.Author.Tests.{eq-eqb, ne-eqb, eqb-true}
 use Rattle.words.specs.Bytes.{Bytes, num, bitmap, part}
 use Rattle.words.specs.Bits.{bit}
 use Rattle.schema.specs.Types.{Ty, fix, text, li, ma, ro, Tys, field, count}
-use Rattle.layout.specs.Tiles.{Range, range, total, Stands}
+use Rattle.layout.specs.Tiles.{Range, total, Stands}
 use Rattle.layout.specs.Layout.{Kid, outside, front, codec, string, array, pair, struct, kid, kidOf, slotOf, kids}
 use Rattle.layout.proofs.Containers.{kids-count}
 use Rattle.layout.proofs.Steps.{nobody, kidAt}
@@ -265,6 +265,9 @@ module _ {k : Held} {b : List ℕ} {n slots start i slot cur stop done since : �
   -- ---- before child i
 
   module _ (l : i < stop) where
+    pub loop-less : i < n
+    loop-less = omega (arith, a .within)
+
     pub loop-bit : headOf k + i / 8 < length b
     loop-bit = omega (arith, a .within, d .map, d .data₀, d .room)
 

@@ -25,10 +25,10 @@ use Rattle.checking.specs.Sound.{faultOf}
 use Rattle.checking.specs.Room.{typesOf, Fields, FieldRoom, fieldGood}
 use Rattle.checking.proofs.Fields.{field-whole, field-above, above-shift}
 use Rattle.checking.proofs.Loops.{fields, At, loop-null, loop-plain}
-use Rattle.checking.proofs.Cursor.{Here, here-next, stop-small}
+use Rattle.checking.proofs.Cursor.{Here, here-next}
 use Rattle.checking.proofs.Values.{place-fits}
 use Rattle.checking.proofs.StructLoops.{FieldAt, fields-whole, leaves-start, field-stands, one-on}
-use Rattle.checking.proofs.StructLoops.{Reached, reached-vary, reached-text, reached-leaf, leaf-room, leaf-passes}
+use Rattle.checking.proofs.StructLoops.{reached-vary, reached-text, reached-leaf, leaf-room, leaf-passes}
 
 -- before field i, whose entry stands i places behind the first one's
 pub record PlainAt (t : List ℕ) (first d n : ℕ) (b : List ℕ) (nulls i cur : ℕ) : Type 0 where
@@ -95,9 +95,12 @@ module _ {t : List ℕ} {first d n : ℕ} {b : List ℕ} {nulls i cur : ℕ} (a 
     plain-less = omega arith
 
     -- a value's padding ends behind the bitmap, and in the struct, which is whole units
-    pub plain-pad : {s to : ℕ} → Size b (8 + 8 * i) s → cur + s ≤ length b → to ≡ pad (cur + s)
-        → (8 ≤ to) × (to ≤ length b) × (cur + s < 2 ^ 40) × (to ≡ pad (cur + s))
-    plain-pad z h e = (omega (arith, a .field .state .sum), omega (arith, a .field .state .fixed .whole), stop-small (a .field .state) z, e)
+    module _ {s to : ℕ} (size : Size b (8 + 8 * i) s) (e : to ≡ pad (cur + s)) where
+      pub plain-behind : 8 ≤ to
+      plain-behind = omega (arith, a .field .state .sum)
+
+      pub plain-within : cur + s ≤ length b → to ≤ length b
+      plain-within h = omega (arith, a .field .state .fixed .whole)
 
     -- the field's bit, as the word has it
     bit-is : bit b 0 i ≡ eqb (bitAnd (nulls / 2 ^ i) 1) 1
@@ -113,9 +116,6 @@ module _ {t : List ℕ} {first d n : ℕ} {b : List ℕ} {nulls i cur : ℕ} (a 
 
     -- the field's entry is w, and its kind k
     module _ {w k : ℕ} (ew : EntryAt t (first + i) d w) (ek : k ≡ placeIn w) where
-      reached : Reached (a .field) w k
-      reached = record { less = l; entry = ew; kind = ek }
-
       -- behind a leaf stands the next field
       next : k < 9 → {cur′ : ℕ} → At (fields (typesOf t first d n)) b n 8 (8 + 8 * n) (i + 1) (8 + 8 * i + 8) cur′ n 0 0
           → PlainAt t first d n b nulls (i + 1) cur′
@@ -128,7 +128,7 @@ module _ {t : List ℕ} {first d n : ℕ} {b : List ℕ} {nulls i cur : ℕ} (a 
             word = a .word;
             past = a .past;
             field = subst (λ (x : ℕ). FieldAt t first d n b 8 (8 + 8 * n) (first + (i + 1)) (i + 1) x cur′ n 0 0) q
-                (reached-leaf reached h (one-on first i) s);
+                (reached-leaf (a .field) l ew ek h (one-on first i) s);
           }
 
       pub plain-null : k < 9 → (bitAnd (nulls / 2 ^ i) 1 ≡ 0 → ⊥) → PlainAt t first d n b nulls (i + 1) cur
@@ -137,14 +137,14 @@ module _ {t : List ℕ} {first d n : ℕ} {b : List ℕ} {nulls i cur : ℕ} (a 
       -- a field of a fixed width: an int64 and a float64 have no bit above their highest
       module _ (h : k < 7) where
         room : FieldRoom b i (8 + 8 * i) w
-        room = leaf-room reached h
+        room = leaf-room (a .field) l ew ek h
 
         pub plain-above : {u : ℕ} → u ≡ topIn w → u < 64
         plain-above e = above-shift room e
 
         pub plain-fixed : bitAnd (nulls / 2 ^ i) 1 ≡ 0 → {x : ℕ} → Reads b (8 + 8 * i) 8 x → {u : ℕ} → u ≡ topIn w
             → not (eqb (x / 2 / 2 ^ u) 0) ≡ false → PlainAt t first d n b nulls (i + 1) cur
-        plain-fixed z {x} r {u} e q = next (omega arith) (leaf-passes reached h (good (ℕ-discrete u 63)) refl)
+        plain-fixed z {x} r {u} e q = next (omega arith) (leaf-passes (a .field) l ew ek h (good (ℕ-discrete u 63)) refl)
           where
             bytes : Bytes b
             bytes = a .field .state .fixed .bytes
@@ -157,12 +157,11 @@ module _ {t : List ℕ} {first d n : ℕ} {b : List ℕ} {nulls i cur : ℕ} (a 
       pub plain-text : 7 ≤ k → k < 9 → bitAnd (nulls / 2 ^ i) 1 ≡ 0 → {o : ℕ} → Offset b (8 + 8 * i) o → o ≡ cur
           → {s : ℕ} → Size b (8 + 8 * i) s → cur + s ≤ length b → {to : ℕ} → to ≡ pad (cur + s)
           → {v : Bool} → v ≡ eqb (num (part b (cur + s) (to - (cur + s)))) 0 → not v ≡ false → PlainAt t first d n b nulls (i + 1) to
-      plain-text lo hi z {o} offset at {s} size end {to} et e q = next hi (here-next here (reached-text reached lo hi _) e q)
+      plain-text lo hi z {o} offset at {s} size end {to} et e q = next hi (here-next here (reached-text (a .field) l ew ek lo hi _) e q)
         where
-          here : Here (a .field .state) s to
+          here : Here (a .field .state) o s to
           here = record {
-            offset = o;
-            told = record { less = l; ranged = reached-vary reached lo; here = bit-here z; says = offset };
+            told = record { less = l; ranged = reached-vary (a .field) l ew ek lo; here = bit-here z; says = offset };
             from = at;
             size = size;
             end = end;

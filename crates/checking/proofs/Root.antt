@@ -77,7 +77,7 @@ module _ {t : List ℕ} (h : Table t) where
       is : placeOf r ≡ faultAt (ro (fieldsOf s)) b
       unfolding faultOf
       is =
-          ap placeOf (struct-whole root-value refl en er
+          ap placeOf (struct-whole root-value refl en refl er
           ∙ ap (λ (x : Ty). faultOf x b) (ap (λ (q : ℕ). typeAt s q 8) (first-pos t) ∙ accepted-root s (h .accepted) .whole))
           ∙ place-code (codec (ro (fieldsOf s)) .get b)
 

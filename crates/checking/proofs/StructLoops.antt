@@ -15,7 +15,7 @@ use Rattle.schema.specs.Types.{Ty, fix, text, li, ma, Tys, ro, fixedAt, width, 
 use Rattle.schema.specs.Walk.{size, Typed, typeAt, nextAt, fieldAt}
 use Rattle.schema.proofs.Table.{width-8}
 use Rattle.schema.proofs.Laws.{size-fixed, size-text}
-use Rattle.schema.proofs.Typing.{next-is, FieldLaw, field-typed, typed-count, field-here}
+use Rattle.schema.proofs.Typing.{typed-deep, next-is, FieldLaw, field-typed, typed-count, field-here}
 use Rattle.schema.proofs.Places.{typed-place, fixed-of, text-of, holding-of}
 use Rattle.layout.specs.Tiles.{Range}
 use Rattle.layout.specs.Layout.{number, inside, kidOf, kid, codec, kids, limit, front}
@@ -34,7 +34,7 @@ use Rattle.checking.proofs.Containers.{struct-odd, struct-short, struct
 use Rattle.checking.proofs.Leaves.{text-fine}
 use Rattle.checking.proofs.Fields.{field-passes, field-hides}
 use Rattle.checking.proofs.Loops.{fields, faultIn, Slots, At, loop-start, loop-bit, loop-slot, loop-pass, loop-wrong}
-use Rattle.checking.proofs.Values.{Child, as-type}
+use Rattle.checking.proofs.Values.{as-type, place-low, next-place}
 
 -- ---- size and bitmap
 
@@ -62,8 +62,8 @@ module _ {t : List ℕ} {first n d : ℕ} {b : List ℕ} (f : Fields t first n d
     fields-short h = sym (struct-short all n b kids-n e8 (omega arith))
 
     module _ (room : slots + 8 * n ≤ length b) where
-      pub fields-map : Bytes b → MapRoom b n slots
-      fields-map hb = record { small = f .small; bytes = hb; low = omega arith; high = omega arith; few = omega (arith, f .high) }
+      pub fields-map : MapRoom b n slots
+      fields-map = record { small = f .small; low = omega arith; high = omega arith; few = omega (arith, f .high) }
 
       pub fields-from : FieldsFrom t first d n b
       fields-from = record { table = f .table; typed = f .typed; high = f .high; slots = record { small = f .small; whole = e8; room = omega arith } }
@@ -143,6 +143,16 @@ module _ {t : List ℕ} {first d n : ℕ} {b : List ℕ} {slots start c i slot c
       typed = subst (λ (x : ℕ). Typed (schemaOf t) x d) (sym (a .type)) (law .typed);
     }
 
+    pub field-deep : 1 ≤ d
+    field-deep = typed-deep (schemaOf t) (posOf t c) d (field-stands .typed)
+
+    pub field-low : c < 1024
+    field-low = place-low field-stands
+
+    -- where its own first child's would stand
+    pub field-first : Fits w64 (c + 1)
+    field-first = next-place field-stands
+
     type-is : typeOf t c d ≡ field (typesOf t first d n) i
     type-is = ap (λ (x : ℕ). typeAt (schemaOf t) x d) (a .type) ∙ law .same
 
@@ -163,14 +173,9 @@ pub one-on : (first i : ℕ) → first + (i + 1) ≡ first + i + 1
 one-on first i = omega arith
 
 -- the field's entry is w, and its kind k
-pub record Reached {t : List ℕ} {first d n : ℕ} {b : List ℕ} {slots start c i slot cur stop done since : ℕ}
-    (a : FieldAt t first d n b slots start c i slot cur stop done since) (w k : ℕ) : Type 0 where
-  pub less : i < stop
-  pub entry : EntryAt t c d w
-  pub kind : k ≡ placeIn w
-
 module _ {t : List ℕ} {first d n : ℕ} {b : List ℕ} {slots start c i slot cur stop done since : ℕ}
-    {a : FieldAt t first d n b slots start c i slot cur stop done since} {w k : ℕ} (r : Reached a w k) where
+    (a : FieldAt t first d n b slots start c i slot cur stop done since) (less : i < stop) {w : ℕ} (entry : EntryAt t c d w)
+    {k : ℕ} (kind : k ≡ placeIn w) where
   abbrev ts : Tys
   ts = typesOf t first d n
 
@@ -178,13 +183,13 @@ module _ {t : List ℕ} {first d n : ℕ} {b : List ℕ} {slots start c i slot c
   own = field ts i
 
   stands : Stands t c d
-  stands = field-stands a (r .less)
+  stands = field-stands a (less)
 
   same : typeOf t c d ≡ own
-  same = type-is a (r .less)
+  same = type-is a (less)
 
   kind-is : k ≡ place own
-  kind-is = r .kind ∙ r .entry .place ∙ typed-place (schemaOf t) (posOf t c) d (stands .typed) ∙ ap place same
+  kind-is = kind ∙ entry .place ∙ typed-place (schemaOf t) (posOf t c) d (stands .typed) ∙ ap place same
 
   pub reached-vary : 7 ≤ k → varies own ≡ true
   reached-vary lo = kind-varies own (omega (arith, kind-is))
@@ -198,9 +203,6 @@ module _ {t : List ℕ} {first d n : ℕ} {b : List ℕ} {slots start c i slot c
   module _ (lo : 9 ≤ k) where
     pub reached-eights : Eights own
     reached-eights = container-eights own k (holding-of own k kind-is lo)
-
-    pub reached-part : {m : ℕ} → d * 8 + 2 ≡ m → {p : List ℕ} → length p ≤ 16384 → Child t c d w k m p
-    reached-part rank small = record { stands = stands; entry = r .entry; kind = r .kind; holds = lo; small = small; rank = rank }
 
   pub reached-fault : (p : List ℕ) {y : ℕ} → y ≡ faultOf (typeOf t c d) p → y ≡ faultOf own p
   reached-fault p e = as-type _ _ p _ (sym same) e
@@ -218,12 +220,12 @@ module _ {t : List ℕ} {first d n : ℕ} {b : List ℕ} {slots start c i slot c
 
   pub reached-next : {c′ cur′ : ℕ} → c′ ≡ afterIn w → At (fields ts) b n slots start (i + 1) (slot + 8) cur′ stop done since
       → FieldAt t first d n b slots start c′ (i + 1) (slot + 8) cur′ stop done since
-  reached-next e s = reached-at (ap (posOf t) e ∙ r .entry .next) s
+  reached-next e s = reached-at (ap (posOf t) e ∙ entry .next) s
 
   -- behind a leaf it stands at the next place
   leaf-next : k < 9 → posOf t (c + 1) ≡ nextAt (schemaOf t) (posOf t c) d
   leaf-next h =
-      r .entry .child (λ q. omega (arith, r .kind))
+      entry .child (λ q. omega arith)
       ∙ sym (next-is (schemaOf t) (posOf t c) d ∙ ap (λ (x : Ty). posOf t c + size x) same
       ∙ ap (λ (x : ℕ). posOf t c + x) (leaf-size own (omega (arith, kind-is))))
 
@@ -239,10 +241,10 @@ module _ {t : List ℕ} {first d n : ℕ} {b : List ℕ} {slots start c i slot c
     pub leaf-room : FieldRoom b i slot w
     leaf-room = record {
       small = a .given .slots .small;
-      lined = r .entry .lined;
-      fixed = omega (arith, r .kind);
-      bit-room = loop-bit (a .state) (r .less);
-      slot-room = loop-slot (a .state) (r .less);
+      lined = entry .lined;
+      fixed = omega arith;
+      bit-room = loop-bit (a .state) (less);
+      slot-room = loop-slot (a .state) (less);
     }
 
     kids-n′ : length (kids ts) ≡ n
@@ -251,8 +253,8 @@ module _ {t : List ℕ} {first d n : ℕ} {b : List ℕ} {slots start c i slot c
     is-inside : kidAt (kids ts) i ≡ inside 8 leaf (number leaf (limit (fixedAt (placeIn w))))
     unfolding codec kidOf number
     is-inside =
-        kids-at ts i (omega (arith, kids-n′, r .less, a .state .within))
-        ∙ ap (λ (x : Ty). kid 8 (codec x)) (fixed-of own (placeIn w) (sym (r .kind) ∙ kind-is) (omega (arith, r .kind)))
+        kids-at ts i (omega (arith, kids-n′, a .state .within))
+        ∙ ap (λ (x : Ty). kid 8 (codec x)) (fixed-of own (placeIn w) (sym (kind) ∙ kind-is) (omega arith))
 
     judged : (rs : List Range) → faultFrom 0 8 (kids ts) b i rs ≡ fieldThen (fixedAt (placeIn w)) b i slot (faultFrom 0 8 (kids ts) b (i + 1) rs)
     unfolding fieldThen
@@ -267,28 +269,28 @@ module _ {t : List ℕ} {first d n : ℕ} {b : List ℕ} {slots start c i slot c
         p : 0 + bitmap (length (kids ts)) + i * 8 ≡ slot
         p = rw kids-n′ (omega (arith, z .map, a .state .slot-is))
 
-        less : i < length (kids ts)
-        less = omega (arith, kids-n′, r .less, a .state .within)
+        below : i < length (kids ts)
+        below = omega (arith, kids-n′, a .state .within)
 
         later : ℕ
         later = faultFrom 0 8 (kids ts) b (i + 1) rs
 
         go : (v : Bool) → bit b 0 i ≡ v → faultFrom 0 8 (kids ts) b i rs ≡ cond v later
             (inChild slot slot (code (number leaf (limit (fixedAt (placeIn w))) .get (part b slot leaf))) (zerosThen b (slot + leaf) (slot + 8) later))
-        go true e = good-null 0 8 (kids ts) b fits (z .bytes) i less rs e
+        go true e = good-null 0 8 (kids ts) b fits (z .bytes) i below rs e
         go false e =
-            good-inside 0 8 (kids ts) b fits (z .bytes) i less rs leaf (number leaf (limit (fixedAt (placeIn w)))) is-inside
+            good-inside 0 8 (kids ts) b fits (z .bytes) i below rs leaf (number leaf (limit (fixedAt (placeIn w)))) is-inside
             (width-8 (fixedAt (placeIn w))) e
             ∙ rw p
 
     module _ {v : Bool} (e : v ≡ fieldGood (fixedAt (placeIn w)) b i slot) where
       pub leaf-wrong : not v ≡ true → {y : ℕ} → y ≡ fieldThen (fixedAt (placeIn w)) b i slot 0 → y ≡ faultIn (fields ts) b
       leaf-wrong q ey =
-          ey ∙ loop-wrong (a .state) (r .less) (λ rs. judged rs ∙ field-hides (fixedAt (placeIn w)) b i slot _ (failed e q))
+          ey ∙ loop-wrong (a .state) (less) (λ rs. judged rs ∙ field-hides (fixedAt (placeIn w)) b i slot _ (failed e q))
 
       pub leaf-passes : not v ≡ false → At (fields ts) b n slots start (i + 1) (slot + 8) cur stop done since
       leaf-passes q =
-          loop-pass (a .state) (r .less) (λ vary _. clash vary (kind-fixed own (omega (arith, kind-is))))
+          loop-pass (a .state) (less) (λ vary _. clash vary (kind-fixed own (omega (arith, kind-is))))
           (λ rs. judged rs ∙ field-passes (fixedAt (placeIn w)) b i slot _ (passed e q))
 
       pub leaf-good : not v ≡ false → {c′ : ℕ} → c′ ≡ afterIn w

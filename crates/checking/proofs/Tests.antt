@@ -6,12 +6,13 @@ use Prim.Native.Nat.{ℕ, zero, suc, _+_, _*_, _-_, _/_, _^_, _≤_, _<_}
 use native.Mathlib.Decide.{decLe, decLt, ℕ-discrete}
 use native.Mathlib.Omega.{arith}
 use lib.Dec.{eqb, ltb}
-use lib.ListN.{length, take, drop, length-take}
+use lib.ListN.{length, getD, take, drop, length-take, length-drop}
 use borrow.Author.Tests.{eq-eqb, ne-eqb, lt-ltb, le-ltb, not-true, not-false}
 use mir.Val.{Fits}
-use mir.Syntax.{w64}
+use mir.Syntax.{w8, w64}
 use Rattle.words.specs.Bytes.{Bytes, num, pad, bitmap, part, zerosAhead, pastByte}
 use Rattle.words.proofs.FirstSet.{ahead-most, past-room, past-most}
+use Rattle.words.proofs.Numbers.{bytes-of}
 use Rattle.words.proofs.Parts.{length-part}
 use Rattle.layout.specs.Faults.{Place, slot, byte, Read, fault, got, _>>=_, _>>_, assertAt, cutAt, seenFrom, within}
 use Rattle.layout.specs.Tiles.{Range, total}
@@ -20,6 +21,10 @@ use Rattle.layout.specs.Layout.{front}
 use Rattle.layout.proofs.Faults.{assert-yes}
 use Rattle.checking.specs.Sound.{placeCode, code, inChild, zerosThen, ending}
 
+-- a slice's elements are bytes
+pub row-bytes : {b : List ℕ} → ((i : ℕ) → Fits w8 (getD b i 0)) → Bytes b
+row-bytes {b} h = bytes-of b (λ i. h i .fits)
+
 -- ---- what a test that code made says
 
 pub passed : {r t : Bool} → r ≡ t → not r ≡ false → t ≡ true
@@ -27,6 +32,9 @@ passed e q = sym e ∙ not-false _ q
 
 pub failed : {r t : Bool} → r ≡ t → not r ≡ true → t ≡ false
 failed e q = sym e ∙ not-true _ q
+
+pub seen : {r t v : Bool} → r ≡ t → r ≡ v → t ≡ v
+seen e q = sym e ∙ q
 
 pub clash : {t : Bool} → t ≡ true → t ≡ false → ⊥
 clash e q = let z : _≡_ {A = ℕ} 0 1 = cc in omega arith
@@ -138,6 +146,9 @@ module _ (h w n : ℕ) (b : List ℕ) where
 
 -- ---- a child's fault, as the code works it out
 
+pub at-fault : {r : ℕ} → (r ≡ 0 → ⊥) → 1 ≤ r
+at-fault ne = omega arith
+
 pub child-slot : (j o r : ℕ) → r ≡ 1 → j + 2 ≡ inChild j o r 0
 unfolding inChild
 child-slot j o zero h = absurd (omega arith)
@@ -164,11 +175,14 @@ pub found-fits : (b : List ℕ) (at stop : ℕ) {y : ℕ} → y ≡ at + zerosAh
     → at ≤ stop → stop ≤ length b → length b ≤ 16384 → Fits w64 (y + 2)
 found-fits b at stop {y} e h l m = omega (arith, first-most b at stop y e h)
 
+-- a part of a container is short
+pub part-small : (b : List ℕ) (at size : ℕ) → length b ≤ 16384 → length (part b at size) ≤ 16384
+part-small b at size small = rw length-take (omega (arith, length-drop at b))
+
 -- ---- a bitmap of n bits that ends at slots
 
 pub record MapRoom (b : List ℕ) (n slots : ℕ) : Type 0 where
   pub small : length b ≤ 16384
-  pub bytes : Bytes b
   pub low : bitmap n ≤ slots
   pub high : slots ≤ length b
   pub few : n < 2 ^ 32
@@ -178,9 +192,9 @@ module _ {b : List ℕ} {n slots : ℕ} (r : MapRoom b n slots) where
   map-asks = (r .low, r .high, r .few)
 
   -- a bit past n has room for one
-  pub past-asks : {p : Bool} → p ≡ ltb (num (part b (slots - bitmap n) (bitmap n))) (2 ^ n) → not p ≡ true
+  pub past-asks : Bytes b → {p : Bool} → p ≡ ltb (num (part b (slots - bitmap n) (bitmap n))) (2 ^ n) → not p ≡ true
       → (bitmap n ≤ slots) × (slots ≤ length b) × (n < 2 ^ 32) × (n / 8 < bitmap n)
-  past-asks e q = (r .low, r .high, r .few, past-room n (slots - bitmap n) (r .bytes) (omega (arith, r .low, r .high)) (failed e q))
+  past-asks hb e q = (r .low, r .high, r .few, past-room n (slots - bitmap n) hb (omega (arith, r .low, r .high)) (failed e q))
 
   pub past-fits : {y : ℕ} → y ≡ slots - bitmap n + pastByte n (part b (slots - bitmap n) (bitmap n)) → Fits w64 (y + 2)
   past-fits {y} e = omega (arith, past-within b n slots y e (r .low) (r .high), r .high, r .small)

@@ -27,15 +27,19 @@ pub as-type : (t u : Ty) (b : List ℕ) (r : ℕ) → t ≡ u → r ≡ faultOf 
 as-type t u b r e h = h ∙ ap (λ (x : Ty). faultOf x b) (sym e)
 
 -- a place of a table is small
-pub place-fits : {t : List ℕ} {c d : ℕ} → Stands t c d → Fits w64 c
-place-fits {t} {c} {d} s = omega (arith, place-room t (s .table) c d (s .typed), table-short t (s .table))
-
 pub place-low : {t : List ℕ} {c d : ℕ} → Stands t c d → c < 1024
 place-low {t} {c} {d} s = omega (arith, place-room t (s .table) c d (s .typed), table-short t (s .table))
 
+pub place-fits : {t : List ℕ} {c d : ℕ} → Stands t c d → Fits w64 c
+place-fits s = omega (arith, place-low s)
+
 -- and has a next one
 pub next-place : {t : List ℕ} {c d : ℕ} → Stands t c d → Fits w64 (c + 1)
-next-place {t} {c} {d} s = omega (arith, place-room t (s .table) c d (s .typed), table-short t (s .table))
+next-place s = omega (arith, place-low s)
+
+-- a container's kind, by its entry
+pub holds-kind : {k x : ℕ} → k ≡ x → 9 ≤ x → 9 ≤ k
+holds-kind e h = omega arith
 
 -- What a loop over children, d deep, whose call has the measure m, knows of a child's bytes b that should stand for a container: w is the
 -- entry of its type, and k its kind.
@@ -54,11 +58,8 @@ module _ {t : List ℕ} {c d w k m : ℕ} {b : List ℕ} (h : Child t c d w k m 
   abbrev p : ℕ
   p = posOf t c
 
-  pub child-deep : 1 ≤ d
+  child-deep : 1 ≤ d
   child-deep = omega (arith, typed-deep s p d (h .stands .typed))
-
-  pub child-first : Fits w64 (c + 1)
-  child-first = next-place (h .stands)
 
   -- the calls are one deeper
   falls : (j : ℕ) → j < 8 → (d - 1) * 8 + j < m
@@ -78,8 +79,8 @@ module _ {t : List ℕ} {c d w k m : ℕ} {b : List ℕ} (h : Child t c d w k m 
     pub child-list : ((d - 1) * 8 + 3 < m) × Holding t (c + 1) (d - 1) b
     child-list = (falls 3 (omega arith), record { stands = record { table = h .stands .table; typed = list-law .element }; small = h .small })
 
-    pub list-whole : {r : ℕ} → r ≡ faultOf (li (typeOf t (c + 1) (d - 1))) b → r ≡ faultOf (typeOf t c d) b
-    list-whole q = as-type _ _ b _ (list-law .whole) q
+    pub list-whole : {x r : ℕ} → r ≡ x → x ≡ faultOf (li (typeOf t (c + 1) (d - 1))) b → r ≡ faultOf (typeOf t c d) b
+    list-whole e q = as-type _ _ b _ (list-law .whole) (e ∙ q)
 
   -- a map
   module _ (x : k ≡ 11 → ⊥) (y : k ≡ 9 → ⊥) where
@@ -111,8 +112,8 @@ module _ {t : List ℕ} {c d w k m : ℕ} {b : List ℕ} (h : Child t c d w k m 
         },
       )
 
-      pub map-whole : {r : ℕ} → r ≡ faultOf (ma (typeOf t (c + 1) (d - 1)) (typeOf t a (d - 1))) b → r ≡ faultOf (typeOf t c d) b
-      map-whole q = as-type _ _ b _ (subst (λ (q : ℕ). MapAt s p d (posOf t (c + 1)) q) behind map-law .whole) q
+      pub map-whole : {x r : ℕ} → r ≡ x → x ≡ faultOf (ma (typeOf t (c + 1) (d - 1)) (typeOf t a (d - 1))) b → r ≡ faultOf (typeOf t c d) b
+      map-whole e q = as-type _ _ b _ (subst (λ (q : ℕ). MapAt s p d (posOf t (c + 1)) q) behind map-law .whole) (e ∙ q)
 
   -- a struct
   module _ (e : k ≡ 11) {n : ℕ} (en : n ≡ countIn w) where
@@ -130,8 +131,8 @@ module _ {t : List ℕ} {c d w k m : ℕ} {b : List ℕ} (h : Child t c d w k m 
     pub child-struct : ((d - 1) * 8 + 5 < m) × Fields t (c + 1) n (d - 1) b
     child-struct = (falls 5 (omega arith), struct-fields)
 
-    pub struct-whole : {r : ℕ} → r ≡ faultOf (ro (typesOf t (c + 1) (d - 1) n)) b → r ≡ faultOf (typeOf t c d) b
-    struct-whole q = as-type _ _ b _ (struct-law .whole) q
+    pub struct-whole : {x r : ℕ} → r ≡ x → x ≡ faultOf (ro (typesOf t (c + 1) (d - 1) n)) b → r ≡ faultOf (typeOf t c d) b
+    struct-whole e q = as-type _ _ b _ (struct-law .whole) (e ∙ q)
 
   -- one that is worth a look
   module _ {n : ℕ} (f : LeavesOr0 w n) (ne : n ≡ 0 → ⊥) where
@@ -143,7 +144,7 @@ module _ {t : List ℕ} {c d w k m : ℕ} {b : List ℕ} (h : Child t c d w k m 
 
     pub plain-whole : {x : Bool} → (x ≡ true → 0 ≡ faultOf (ro (typesOf t (c + 1) (d - 1) n)) b) → x ≡ true → {r : ℕ} → r ≡ 0
         → r ≡ faultOf (typeOf t c d) b
-    plain-whole g e q = struct-whole (h .kind ∙ f ne .struct) (f ne .fields) (q ∙ g e)
+    plain-whole g e q = struct-whole (h .kind ∙ f ne .struct) (f ne .fields) q (g e)
 
 -- ---- the items of a list
 
@@ -170,10 +171,6 @@ module _ {t : List ℕ} {c d w : ℕ} {b : List ℕ} {n : ℕ} (i : Items t c d 
     whole = i .whole;
     bytes = hb;
   }
-
-  -- an item's bytes, handed to a call
-  pub item-part : {k : ℕ} → k ≡ placeIn w → {m : ℕ} → d * 8 + 2 ≡ m → {q : List ℕ} → length q ≤ 16384 → Child t c d w k m q
-  item-part e r l = record { stands = i .stands; entry = i .entry; kind = e; holds = omega (arith, i .holds); small = l; rank = r }
 
   -- the positions of the loop over the items
   pub item-asks : n < 2 ^ 32

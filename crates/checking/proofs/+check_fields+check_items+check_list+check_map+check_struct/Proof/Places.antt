@@ -1,20 +1,18 @@
 -- What the cycle of `checking` knows at its places: the measure of each call, the loops' invariants, what the calls promise, and the facts that
 -- several answers need. Assumes nothing.
-use mathlib.Core.Path.{_≡_, refl, sym, _∙_}
+use mathlib.Core.Path.{_≡_}
 use mathlib.Core.Logic.{⊎-elim}
 use Prim.Native.Nat.{ℕ, _+_, _*_, _-_, _<_}
-use Rattle.words.proofs.Numbers.{bytes-of}
 use Rattle.words.specs.Bytes.{part}
 use Rattle.checking.specs.Sound.{faultOf}
 use Rattle.schema.specs.Types.{field}
 use Rattle.checking.specs.Room.{typeOf, typesOf}
-use Rattle.checking.proofs.Tests.{MapRoom}
+use Rattle.checking.proofs.Tests.{seen, part-small, MapRoom}
+use Rattle.checking.proofs.Elements.{list-map}
 use Rattle.checking.proofs.Loops.{items, At, astray}
-use Rattle.checking.proofs.Cursor.{Told, Here, here-short}
-use Rattle.checking.proofs.Elements.{Counted, Measured, Framed, Roomy, Mapped, measured-framed, list-mapped}
-use Rattle.checking.proofs.Values.{Child, plain-whole, struct-whole, list-whole, map-whole, item-part}
-use Rattle.checking.proofs.Arrays.{Sized, Parted}
-use Rattle.checking.proofs.StructLoops.{fields-map, FieldAt, Reached, reached-vary, reached-part, reached-fault}
+use Rattle.checking.proofs.Cursor.{Told, Here}
+use Rattle.checking.proofs.Values.{Child, plain-whole, struct-whole, list-whole, map-whole, holds-kind}
+use Rattle.checking.proofs.StructLoops.{fields-map, FieldAt, field-stands, reached-vary, reached-fault}
 use borrow.Fn.Kinds.{In, Out}
 use borrow.Fn.PlainCycle.{Measures, is, falls, and}
 use Rattle.checking.proofs.check_fields.Reads as check-fields
@@ -87,31 +85,31 @@ module _ (t : ℕ) where
   abbrev pub fields-at : In 2 in-fields.ps
   fields-at = and 2 in-fields.ps (is 2 in-fields.ps μ-fields t) check-fields.Pre
 
-  abbrev pub fields-below : In 2 in-fields.ps
+  abbrev fields-below : In 2 in-fields.ps
   fields-below = and 2 in-fields.ps (falls 2 in-fields.ps _<_ μ-fields t) check-fields.Pre
 
   abbrev pub items-at : In 2 in-items.ps
   items-at = and 2 in-items.ps (is 2 in-items.ps μ-items t) check-items.Pre
 
-  abbrev pub items-below : In 2 in-items.ps
+  abbrev items-below : In 2 in-items.ps
   items-below = and 2 in-items.ps (falls 2 in-items.ps _<_ μ-items t) check-items.Pre
 
   abbrev pub list-at : In 2 in-list.ps
   list-at = and 2 in-list.ps (is 2 in-list.ps μ-list t) check-list.Pre
 
-  abbrev pub list-below : In 2 in-list.ps
+  abbrev list-below : In 2 in-list.ps
   list-below = and 2 in-list.ps (falls 2 in-list.ps _<_ μ-list t) check-list.Pre
 
   abbrev pub map-at : In 2 in-map.ps
   map-at = and 2 in-map.ps (is 2 in-map.ps μ-map t) check-map.Pre
 
-  abbrev pub map-below : In 2 in-map.ps
+  abbrev map-below : In 2 in-map.ps
   map-below = and 2 in-map.ps (falls 2 in-map.ps _<_ μ-map t) check-map.Pre
 
   abbrev pub struct-at : In 2 in-struct.ps
   struct-at = and 2 in-struct.ps (is 2 in-struct.ps μ-struct t) check-struct.Pre
 
-  abbrev pub struct-below : In 2 in-struct.ps
+  abbrev struct-below : In 2 in-struct.ps
   struct-below = and 2 in-struct.ps (falls 2 in-struct.ps _<_ μ-struct t) check-struct.Pre
 
   abbrev pub fields-calls : in-fields.Claims
@@ -245,194 +243,90 @@ module _ (t : ℕ) where
   )
 
   -- a place of check_fields
-  abbrev pub InFields : (in-fields.Claims → In 2 in-fields.ps → Out 2 in-fields.ps in-fields.r
+  abbrev InFields : (in-fields.Claims → In 2 in-fields.ps → Out 2 in-fields.ps in-fields.r
       → in-fields.InvT-loop → in-fields.MeasureT-loop → Type 0) → Type 0
   InFields N = N fields-calls fields-at check-fields.Post fields-Inv fields-μ
-
-  -- the field's entry and kind
-  pub fields-reached : (c : InFields in-fields.After-place)
-      → Reached (c .before .before .before .loop .inv) (c .before .entry-at .result) (c .place .result)
-  fields-reached c = record { less = c .before .before .loop-test .taken; entry = c .before .entry-at .ensures; kind = c .place .ensures }
 
   -- what its slot says
   pub fields-told : (c : InFields in-fields.After-offset-at)
       → Told (c .before .before .before .before .before .before .before .loop .inv .state) (c .offset-at .result)
-  fields-told c = record {
-    less = c .before .before .before .before .before .before .loop-test .taken;
-    ranged = reached-vary (fields-reached (c .before .before .before .before)) (c .before .before .before .if1 .left);
-    here = sym (c .before .before .is-null .ensures) ∙ c .before .if3 .left;
-    says = c .offset-at .ensures;
-  }
+  fields-told c = search (seen, reached-vary)
 
   -- and that the cursor is there, with the value in the container
   pub fields-here : (c : InFields in-fields.After-pad-size)
       → Here (c .before .before .before .before .before .before .before .before .before .before .before .loop .inv .state)
-      (c .before .before .size-at .result) (c .pad-size .result)
-  fields-here c = record {
-    offset = c .before .before .before .before .offset-at .result;
-    told = fields-told (c .before .before .before .before);
-    from = c .before .before .before .if4 .left;
-    size = c .before .before .size-at .ensures;
-    end = c .before .if5 .left;
-    to = c .pad-size .ensures;
-  }
+      (c .before .before .before .before .offset-at .result) (c .before .before .size-at .result) (c .pad-size .result)
+  fields-here c = search fields-told
 
   -- its bytes, which should stand for a container
   pub fields-child : (c : InFields in-fields.Else6)
-      → let s = (c .before .before .before .before .before .before .before .before .before .before .before .before .before .before .before .before .args) in
-      let l = (c .before .before .before .before .before .before .before .before .before .before .before .before .loop) in
-      Child (s .t .now) (l .c) (s .depth) (c .before .before .before .before .before .before .before .before .before .before .entry-at .result)
-      (c .before .before .before .before .before .before .before .before .before .place .result) t
+      → let p = c .before .before .before .before .before .before .before .before .before in
+      let l = p .before .before .before .loop in
+      let s = p .before .before .before .before .before .before .before .args in
+      Child (s .t .now) (l .c) (s .depth) (p .before .entry-at .result) (p .place .result) t
       (part (s .b .now) (l .cur) (l .cur + c .before .before .before .size-at .result - l .cur))
-  fields-child c =
-      reached-part (fields-reached (c .before .before .before .before .before .before .before .before .before)) (c .if6 .left)
-      (c .before .before .before .before .before .before .before .before .before .before .before .before .before .before .before .before .pre .0)
-      (here-short (fields-here (c .before)))
+  fields-child c = search (field-stands, part-small)
 
   -- and the number of their fault
   pub fields-judged : (c : InFields in-fields.Joined8-2)
-      → let h = (c .before .before .before) in
-      let s = (h .before .before .before .before .before .before .before .before .before .before .before .before .before .before .before .before .args) in
-      let l = (h .before .before .before .before .before .before .before .before .before .before .before .before .loop) in
+      → let p = c .before .before .before .before .before .before .before .before .before .before .before .before .before .before .before in
+      let l = p .loop in
+      let s = p .before .before .before .before .args in
       c .if8 .r ≡ faultOf (field (typesOf (s .t .now) (s .first) (s .depth) (s .n)) (l .i)) (part (s .b .now) (l .cur)
-      (l .cur + h .before .before .before .size-at .result - l .cur))
+      (l .cur + c .before .before .before .before .before .before .size-at .result - l .cur))
   fields-judged c =
-      let h = (c .before .before .before) in
-      let v = fields-child h in
-      reached-fault (fields-reached (h .before .before .before .before .before .before .before .before .before)) _
-      (⊎-elim (λ w. plain-whole v (c .before .before .leaf-fields .ensures) (w .0 .taken) (w .1 .ensures) (w .2 .taken) (w .3))
-      (⊎-elim (λ w. struct-whole v (w .1 .taken) (w .2 .ensures) (w .4 ∙ w .3 .ensures))
-      (⊎-elim (λ w. list-whole v (w .2 .taken) (w .4 ∙ w .3 .ensures))
-      (λ w. map-whole v (w .1 .left) (w .2 .left) (w .3 .ensures) (w .4 .ensures) (w .6 ∙ w .5 .ensures))))
+      let v = fields-child (c .before .before .before) in
+      let l = c .before .before .before .before .before .before .before .before .before .before .before .before .before .before in
+      reached-fault (l .before .loop .inv) (l .loop-test .taken) (v .entry) (v .kind) _
+      (⊎-elim (λ w. search (plain-whole v (c .before .before .leaf-fields .ensures)))
+      (⊎-elim (λ w. search (struct-whole v)) (⊎-elim (λ w. search (list-whole v)) (λ w. search (map-whole v))))
       (c .if8 .came))
 
   -- a place of check_items
-  abbrev pub InItems : (in-items.Claims → In 2 in-items.ps → Out 2 in-items.ps in-items.r
+  abbrev InItems : (in-items.Claims → In 2 in-items.ps → Out 2 in-items.ps in-items.r
       → in-items.InvT-loop → in-items.MeasureT-loop → Type 0) → Type 0
   InItems N = N items-calls items-at check-items.Post items-Inv items-μ
 
   -- what the item's slot says
   pub items-told : (c : InItems in-items.After-offset-at) → Told (c .before .before .before .before .loop .inv) (c .offset-at .result)
-  items-told c = record {
-    less = c .before .before .before .loop-test .taken;
-    ranged = refl;
-    here = sym (c .before .before .is-null .ensures) ∙ c .before .if1 .left;
-    says = c .offset-at .ensures;
-  }
+  items-told c = search seen
 
   -- and that the cursor is there, with the value in the container
   pub items-here : (c : InItems in-items.After-pad-size)
-      → Here (c .before .before .before .before .before .before .before .before .loop .inv) (c .before .before .size-at .result) (c .pad-size .result)
-  items-here c = record {
-    offset = c .before .before .before .before .offset-at .result;
-    told = items-told (c .before .before .before .before);
-    from = c .before .before .before .if2 .left;
-    size = c .before .before .size-at .ensures;
-    end = c .before .if3 .left;
-    to = c .pad-size .ensures;
-  }
+      → Here (c .before .before .before .before .before .before .before .before .loop .inv) (c .before .before .before .before .offset-at .result)
+      (c .before .before .size-at .result) (c .pad-size .result)
+  items-here c = search items-told
 
   -- its bytes, which should stand for a container
   pub items-child : (c : InItems in-items.After-pad-size)
-      → let s = (c .before .before .before .before .before .before .before .before .before .before .before .before .before .before .args) in
-      let l = (c .before .before .before .before .before .before .before .before .loop) in
-      Child (s .t .now) (s .c) (s .depth) (s .w) (c .before .before .before .before .before .before .before .before .before .before .before .place .result) t
+      → let p = c .before .before .before .before .before .before .before .before in
+      let l = p .loop in
+      let s = p .before .before .before .before .before .before .args in
+      Child (s .t .now) (s .c) (s .depth) (s .w) (p .before .before .before .place .result) t
       (part (s .b .now) (l .cur) (l .cur + c .before .before .size-at .result - l .cur))
-  items-child c =
-      let s = (c .before .before .before .before .before .before .before .before .before .before .before .before .before .before .pre) in
-      item-part (s .1) (c .before .before .before .before .before .before .before .before .before .before .before .place .ensures) (s .0)
-      (here-short (items-here c))
+  items-child c = search (part-small, holds-kind)
 
   -- and the number of their fault
   pub items-judged : (c : InItems in-items.Joined4-2)
-      → let h = (c .before .before) in
-      let s = (h .before .before .before .before .before .before .before .before .before .before .before .before .before .before .args) in
-      let l = (h .before .before .before .before .before .before .before .before .loop) in
-      c .if4 .r ≡ faultOf (typeOf (s .t .now) (s .c) (s .depth)) (part (s .b .now) (l .cur) (l .cur + h .before .before .size-at .result - l .cur))
+      → let p = c .before .before .before .before .before .before .before .before .before .before in
+      let l = p .loop in
+      let s = p .before .before .before .before .before .before .args in
+      c .if4 .r ≡ faultOf (typeOf (s .t .now) (s .c) (s .depth)) (part (s .b .now) (l .cur)
+      (l .cur + c .before .before .before .before .size-at .result - l .cur))
   items-judged c =
-      let h = (c .before .before) in
-      let v = items-child h in
-      ⊎-elim (λ w. plain-whole v (h .before .before .before .before .before .before .before .before .before .before .leaf-fields .ensures) (w .0 .taken)
-      (w .1 .ensures) (w .2 .taken) (w .3))
-      (⊎-elim (λ w. struct-whole v (w .1 .taken) (w .2 .ensures) (w .4 ∙ w .3 .ensures))
-      (⊎-elim (λ w. list-whole v (w .2 .taken) (w .4 ∙ w .3 .ensures))
-      (λ w. map-whole v (w .1 .left) (w .2 .left) (w .3 .ensures) (w .4 .ensures) (w .6 ∙ w .5 .ensures))))
+      let v = items-child (c .before .before) in
+      let f = c .before .before .before .before .before .before .before .before .before .before .before .before .leaf-fields .ensures in
+      ⊎-elim (λ w. search (plain-whole v f))
+      (⊎-elim (λ w. search (struct-whole v)) (⊎-elim (λ w. search (list-whole v)) (λ w. search (map-whole v))))
       (c .if4 .came)
 
-  -- a place of check_list
-  abbrev pub InList : (in-list.Claims → In 2 in-list.ps → Out 2 in-list.ps in-list.r → Type 0) → Type 0
-  InList N = N list-calls list-at check-list.Post
+  -- a list's bitmap is there
+  pub list-mapped : (c : in-list.Else4 list-calls list-at check-list.Post)
+      → MapRoom (c .before .before .before .before .before .before .before .before .before .before .before .args .b .now)
+      (c .before .before .before .before .before .before .get8 .result) (8 + c .before .before .before .bitmap-size .result)
+  list-mapped c = search list-map
 
-  -- its count is read
-  pub list-counted : (c : InList in-list.After-get8)
-      → let a = (c .before .before .before .before .before .args) in Counted (a .t .now) (a .c) (a .depth) (a .b .now) (c .get8 .result)
-  list-counted c = record {
-    holding = c .before .before .before .before .before .pre .1;
-    bytes = bytes-of _ (λ i. c .before .before .before .shared-slice-known2 .given i .fits);
-    even = c .before .before .if1 .left;
-    head = c .before .if2 .left;
-    reads = c .get8 .ensures;
-  }
-
-  -- and the entry of its elements' type
-  pub list-measured : (c : InList in-list.After-entry-at)
-      → let a = (c .before .before .before .before .before .before .before .args) in Measured (a .t .now) (a .c) (a .depth) (a .b .now)
-      (c .before .before .get8 .result) (c .entry-at .result)
-  list-measured c = record { counted = list-counted (c .before .before); few = c .before .if3 .left; entry = c .entry-at .ensures }
-
-  -- where they start and the data starts
-  pub list-framed : (c : InList in-list.After-pad-size)
-      → let a = (c .before .before .before .before .before .before .before .before .before .before .args) in Framed (a .t .now) (a .c) (a .depth) (a .b .now)
-      (c .before .before .before .before .before .get8 .result) (c .before .before .before .entry-at .result) (c .before .element-width .result)
-      (8 + c .before .before .bitmap-size .result) (c .pad-size .result)
-  list-framed c =
-      measured-framed (list-measured (c .before .before .before)) (c .before .before .bitmap-size .ensures) (c .before .element-width .ensures)
-      (c .pad-size .ensures)
-
-  -- which is in the list
-  pub list-roomy : (c : InList in-list.Else4)
-      → let a = (c .before .before .before .before .before .before .before .before .before .before .before .args) in Roomy (a .t .now) (a .c) (a .depth)
-      (a .b .now) (c .before .before .before .before .before .before .get8 .result) (c .before .before .before .before .entry-at .result)
-      (c .before .before .element-width .result)
-      (8 + c .before .before .before .bitmap-size .result) (c .before .pad-size .result)
-  list-roomy c = record { framed = list-framed (c .before); room = c .if4 .left }
-
-  -- no bit past the count is set
-  pub list-bitmapped : (c : InList in-list.Else5)
-      → let a = (c .before .before .before .before .before .before .before .before .before .before .before .before .before .args) in Mapped (a .t .now)
-      (a .c) (a .depth) (a .b .now) (c .before .before .before .before .before .before .before .before .get8 .result)
-      (c .before .before .before .before .before .before .entry-at .result) (c .before .before .before .before .element-width .result)
-      (8 + c .before .before .before .before .before .bitmap-size .result) (c .before .before .before .pad-size .result)
-  list-bitmapped c = list-mapped (list-roomy (c .before .before)) (c .before .past-clear .ensures) (c .if5 .left)
-
-  -- a place of check_map
-  abbrev pub InMap : (in-map.Claims → In 2 in-map.ps → Out 2 in-map.ps in-map.r → Type 0) → Type 0
-  InMap N = N map-calls map-at check-map.Post
-
-  -- the size of the keys is read
-  pub map-sized : (c : InMap in-map.After-get8)
-      → Sized (c .before .before .before .before .before .args .b .now) (c .get8 .result)
-  map-sized c =
-      record {
-        small = c .before .before .before .before .before .pre .1 .small;
-        even = c .before .before .if1 .left;
-        head = c .before .if2 .left;
-        reads =
-            c .get8 .ensures;
-      }
-
-  -- and they lie in the map
-  pub map-parted : (c : InMap in-map.Else4)
-      → Parted (c .before .before .before .before .before .before .before .args .b .now) (c .before .before .get8 .result)
-  map-parted c = record { sized = map-sized (c .before .before); whole = c .before .if3 .left; room = c .if4 .left }
-
-  -- a place of check_struct
-  abbrev pub InStruct : (in-struct.Claims → In 2 in-struct.ps → Out 2 in-struct.ps in-struct.r → Type 0) → Type 0
-  InStruct N = N struct-calls struct-at check-struct.Post
-
-  -- its bitmap is there
-  pub struct-map : (c : InStruct in-struct.Else2)
-      → let a = (c .before .before .before .before .before .args) in MapRoom (a .b .now) (a .n) (c .before .before .bitmap-size .result)
-  struct-map c =
-      fields-map (c .before .before .before .before .before .pre .1) (c .before .before .bitmap-size .ensures) (c .before .if1 .left) (c .if2 .left)
-      (bytes-of _ (λ i. c .before .before .before .shared-slice-known2 .given i .fits))
+  -- and a struct's
+  pub struct-mapped : (c : in-struct.Else2 struct-calls struct-at check-struct.Post)
+      → let a = c .before .before .before .before .before .args in MapRoom (a .b .now) (a .n) (c .before .before .bitmap-size .result)
+  struct-mapped c = search fields-map
