@@ -76,8 +76,8 @@ const ROOT: u64 = STRUCT_MARK + STRUCT as u64 * KIND + DEPTH + FIRST;
 // The lines of containers are those from here on.
 const CONTAINERS: u64 = LIST as u64 * KIND;
 
-// What the entry of a leaf adds to its line: as the root's first field; more of it where the type stands behind a leaf, and where it is a
-// container's first child.
+// What a leaf's entry adds to its line as the root's first field; and by how much more it adds behind another leaf, and as a container's
+// first child.
 const FIELD: u64 = 2 * (DEPTH + FIRST + AFTER);
 
 const NEXT: u64 = FIRST + AFTER;
