@@ -6,13 +6,12 @@ use Prim.Native.Nat.{ℕ, zero, suc, _+_, _*_, _-_, _/_, _^_, _≤_, _<_}
 use native.Mathlib.Decide.{decLe, decLt, ℕ-discrete}
 use native.Mathlib.Omega.{arith}
 use lib.Dec.{eqb, ltb}
-use lib.ListN.{length, getD, take, drop, length-take, length-drop}
+use lib.ListN.{length, take, drop, length-take, length-drop}
 use borrow.Author.Tests.{eq-eqb, ne-eqb, lt-ltb, le-ltb, not-true, not-false}
 use mir.Val.{Fits}
-use mir.Syntax.{w8, w64}
+use mir.Syntax.{w64}
 use Rattle.words.specs.Bytes.{Bytes, num, pad, bitmap, part, zerosAhead, pastByte}
 use Rattle.words.proofs.FirstSet.{ahead-most, past-room, past-most}
-use Rattle.words.proofs.Numbers.{bytes-of}
 use Rattle.words.proofs.Parts.{length-part}
 use Rattle.layout.specs.Faults.{Place, slot, byte, Read, fault, got, _>>=_, _>>_, assertAt, cutAt, seenFrom, within}
 use Rattle.layout.specs.Tiles.{Range, total}
@@ -20,10 +19,6 @@ use Rattle.layout.specs.Cells.{Cell}
 use Rattle.layout.specs.Layout.{front}
 use Rattle.layout.proofs.Faults.{assert-yes}
 use Rattle.checking.specs.Sound.{placeCode, code, inChild, zerosThen, ending}
-
--- a slice's elements are bytes
-pub row-bytes : {b : List ℕ} → ((i : ℕ) → Fits w8 (getD b i 0)) → Bytes b
-row-bytes {b} h = bytes-of b (λ i. h i .fits)
 
 -- ---- what a test that code made says
 

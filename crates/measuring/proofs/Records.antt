@@ -6,20 +6,13 @@ use mathlib.Core.List.{List}
 use Prim.Native.Nat.{ℕ, _+_, _-_, _≤_, _<_}
 use native.Mathlib.Omega.{arith}
 use native.Mathlib.Decide.{decLe, decLt, ℕ-discrete}
-use lib.ListN.{length, drop, getD, length-drop}
+use lib.ListN.{length, drop, length-drop}
 use lib.Seq.{drop-drop}
-use mir.Syntax.{w8}
-use mir.Val.{Fits}
-use Rattle.words.specs.Bytes.{Bytes, num, part, zeros}
-use Rattle.words.proofs.Numbers.{bytes-of}
+use Rattle.words.specs.Bytes.{num, part, zeros}
 use Rattle.layout.specs.Reader.{assert, cut}
 use Rattle.layout.specs.Cells.{Cell, null, leaf}
 use Rattle.layout.specs.Listing.{nu, Script, numberScript, textScript, marked, nullOr, item}
 use Rattle.layout.proofs.Reader.{assert-yes}
-
--- a listing is bytes
-pub listing-bytes : {l : List ℕ} → ((i : ℕ) → Fits w8 (getD l i 0)) → Bytes l
-listing-bytes {l} h = bytes-of l (λ i. h i .fits)
 
 pub assert-no : {P : Type 0} (d : Dec P) → ¬ P → assert d ≡ none
 unfolding assert

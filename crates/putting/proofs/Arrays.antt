@@ -11,7 +11,7 @@ use mir.Syntax.{w64}
 use mir.Val.{Fits}
 use Rattle.words.specs.Bytes.{le, pad, bitmap}
 use Rattle.words.specs.Pairs.{lowIn, highIn, Paired}
-use Rattle.words.proofs.Numbers.{length-le}
+use Rattle.words.proofs.Numbers.{length-le, slice-bytes}
 use Rattle.words.proofs.Runs.{sets-then}
 use Rattle.schema.specs.Marks.{elementWidth}
 use Rattle.schema.specs.Types.{Ty, li, place, mark}
@@ -28,7 +28,7 @@ use Rattle.table.specs.Tables.{schemaOf, posOf, EntryAt}
 use Rattle.measuring.specs.Measure.{size}
 use Rattle.measuring.proofs.Totals.{replicate-more, replicate-none, array-fit, array-size}
 use Rattle.putting.specs.Put.{typeIn, PutArray, ArrayWrote, FrontCan, frontOf}
-use Rattle.putting.proofs.Slots.{Octets, octets-are}
+use Rattle.putting.proofs.Slots.{Octets}
 use Rattle.putting.proofs.Paint.{paint, body-is}
 use Rattle.putting.proofs.Paints.{size-is, cellsOf, restOf, Paints}
 use Rattle.putting.proofs.Paints.{paints-answer, paints-bit, paints-slot, paints-ready, paints-next, paints-end}
@@ -97,7 +97,7 @@ module _ {t : List ℕ} {c d : ℕ} {l : List ℕ} {from n pos len : ℕ} (p : P
   array-at : ArrayAt T w n l from pos len
   array-at =
       let r = p .ready in
-      let f = array-fit T l from n (r .thing) (r .rest) (octets-are o) (omega (arith, p .few)) (r .reads) in
+      let f = array-fit T l from n (r .thing) (r .rest) (slice-bytes o) (omega (arith, p .few)) (r .reads) in
       let z : ArrayAt T (slotOf (codec T .wide)) n l from pos len = record {
         cells = r .thing;
         rest = r .rest;
@@ -118,7 +118,7 @@ module _ {t : List ℕ} {c d : ℕ} {l : List ℕ} {from n pos len : ℕ} (p : P
       wide = omega (arith, width-is);
       most = rw width-is (slot-small T);
       ready = paints-ready (kidIn w T) (itemIn w T) (more (kidIn w T) (itemIn w T) q h);
-      octets = octets-are o;
+      octets = slice-bytes o;
       low = q .low;
       map = paints-bit q h;
       slots = paints-slot q h;

@@ -10,6 +10,7 @@ use mir.Syntax.{w64}
 use mir.Val.{Fits}
 use Rattle.words.specs.Bytes.{le, zeros, pad, padded, bitmap}
 use Rattle.words.specs.Pairs.{lowIn, highIn, Paired}
+use Rattle.words.proofs.Numbers.{slice-bytes}
 use Rattle.schema.specs.Types.{Ty, ro, Tys, _then_, count, mark}
 use Rattle.schema.specs.Walk.{Typed, typeAt, TypedAll, typesAt, nextAt, StructAt}
 use Rattle.schema.proofs.Typing.{typed-more, typed-done, typed-count}
@@ -27,7 +28,7 @@ use Rattle.measuring.specs.Measure.{size}
 use Rattle.measuring.proofs.Totals.{kids-then, scripts-then, kids-end, scripts-end, fields-fit, fields-size}
 use Rattle.putting.specs.Put.{Ready, typeIn, ClearCan, Held, PutStruct}
 use Rattle.putting.proofs.Given.{given-fields, given-two, run-first}
-use Rattle.putting.proofs.Slots.{Octets, octets-are, padded-whole}
+use Rattle.putting.proofs.Slots.{Octets, padded-whole}
 use Rattle.putting.proofs.Paint.{paint, body-is}
 use Rattle.putting.proofs.Paints.{size-is, cellsOf, restOf, Paints}
 use Rattle.putting.proofs.Paints.{paints-answer, paints-bit, paints-slot, paints-ready, paints-next, paints-end}
@@ -119,7 +120,7 @@ module _ {t : List ℕ} {c d : ℕ} {l : List ℕ} {from pos len : ℕ} (p : Put
   fields-in : FieldsIn ts n l from pos len
   fields-in =
       let r = ready in
-      let f = fields-fit ts l from (r .thing) (r .rest) (octets-are o) (r .reads) in
+      let f = fields-fit ts l from (r .thing) (r .rest) (slice-bytes o) (r .reads) in
       let m : count ts ≡ n = typed-count (schemaOf t) (posOf t (c + 1)) (d - 1) n (s .fields) in
       let z : size (ro ts) (node (r .thing)) ≡ bitmap n + 8 * n + length (tails (kids ts) (r .thing)) = rw m at (fields-size ts (r .thing) f) in
       record { cells = r .thing; rest = r .rest; reads = r .reads; fit = f; many = kids-count ts ∙ m; size-of = z; room = omega (arith, r .room, z) }
@@ -138,7 +139,7 @@ module _ {t : List ℕ} {c d : ℕ} {l : List ℕ} {from pos len : ℕ} (p : Put
           wide = slot-small T;
           most = omega arith;
           ready = paints-ready (kid 8 (codec T)) (item 8 (mark T) (script T)) (more t field (d - 1) i n all h q);
-          octets = octets-are o;
+          octets = slice-bytes o;
           low = q .low;
           map = paints-bit q h;
           slots = paints-slot q h;

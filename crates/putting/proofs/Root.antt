@@ -8,6 +8,7 @@ use lib.ListN.{length, drop}
 use lib.Seq.{sets}
 use Rattle.words.specs.Bytes.{padded}
 use Rattle.words.proofs.Runs.{sets-whole}
+use Rattle.words.proofs.Numbers.{slice-bytes}
 use Rattle.schema.specs.Types.{ro, place}
 use Rattle.schema.specs.Kinds.{placeAt}
 use Rattle.schema.specs.Walk.{typeAt, fieldsOf}
@@ -24,7 +25,7 @@ use Rattle.measuring.specs.Measure.{size}
 use Rattle.measuring.proofs.Totals.{fields-fit, fields-size}
 use Rattle.putting.specs.Put.{typeIn, Held, PutStruct, PutRow}
 use Rattle.putting.proofs.Given.{same-thing}
-use Rattle.putting.proofs.Slots.{Octets, octets-are, padded-whole}
+use Rattle.putting.proofs.Slots.{Octets, padded-whole}
 use Rattle.putting.proofs.Paints.{size-is}
 
 root-at : (t : List ℕ) → posOf t 0 ≡ 0
@@ -72,7 +73,7 @@ module _ {t l : List ℕ} {len : ℕ} (p : PutRow t l len) where
   row-eight o =
       let ts = fieldsOf s in
       let cs = p .gives .cells in
-      let f = fields-fit ts l 2 cs (p .gives .rest) (octets-are o) (p .gives .reads) in
+      let f = fields-fit ts l 2 cs (p .gives .rest) (slice-bytes o) (p .gives .reads) in
       omega (arith, size-is (ro ts) (node cs), fields-size ts cs f, tails-eight 8 (kids ts) cs (kids-lawful ts))
 
   pub row-image : Octets l → {x y : List ℕ} {next stop : ℕ} → length x ≡ len → Held (typeIn t 0 8) l 2 0 x y next stop → some y ≡ imageOf s l

@@ -15,16 +15,13 @@ use Rattle.words.specs.Pairs.{lowIn, highIn, Paired}
 use Rattle.words.specs.Reads.{Reads}
 use Rattle.words.proofs.Runs.{sets-then}
 use Rattle.words.proofs.Parts.{length-part, bytes-part, part-add}
-use Rattle.words.proofs.Numbers.{bytes-of, le-num, length-le}
+use Rattle.words.proofs.Numbers.{le-num, length-le, slice-bytes}
 use Rattle.words.proofs.NumLaws.{pow256, part-lt, num-low, le-pad, le-zero}
 use Rattle.putting.specs.Put.{PaddedCan, TextCan, TextWrote, ClearCan, FrontCan, frontOf}
 
 -- what a place of the code knows of the listing's bytes
 abbrev pub Octets : List ℕ → Type 0
 Octets l = (i : ℕ) → Fits w8 (getD l i 0)
-
-pub octets-are : {l : List ℕ} → Octets l → Bytes l
-octets-are o = bytes-of _ (λ i. o i .fits)
 
 -- fewer than 8 bytes of a word: what a shift makes of 1 is no more than the word holds
 pub short-power : (k : ℕ) → k < 8 → 1 * 2 ^ (8 * k) % 2 ^ 64 ≡ 2 ^ (8 * k)
@@ -37,7 +34,7 @@ short-some k h = rw (short-power k h) (pow-pos (8 * k))
 
 pub short-reads : {l : List ℕ} {at k x : ℕ} → Octets l → at + k ≤ length l → k < 8 → Reads l at 8 x → Reads l at k (x % (1 * 2 ^ (8 * k) % 2 ^ 64))
 short-reads {l} {at} {k} {x} o h lo r =
-    let hb = octets-are o in
+    let hb = slice-bytes o in
     let q : k + (8 - k) ≡ 8 = omega arith in
     let low = rw q at (num-low {b = l} at k (8 - k) hb h) in
     let e : x % (1 * 2 ^ (8 * k) % 2 ^ 64) ≡ num (part l at k) = rw (short-power k lo, ← pow256 k, r .is) low in
@@ -69,7 +66,7 @@ pub record PaddedGoing (l : List ℕ) (from n to : ℕ) (x₀ x : List ℕ) (i :
   pub stands : x ≡ sets x₀ to (part l from i)
 
 pub padded-starts : {l : List ℕ} {from n to : ℕ} {x₀ : List ℕ} → PaddedCan l from n to (length x₀) → Octets l → PaddedGoing l from n to x₀ x₀ 0
-padded-starts p o = record { can = p; octets = octets-are o; most = omega arith; eight = omega arith; stands = refl }
+padded-starts p o = record { can = p; octets = slice-bytes o; most = omega arith; eight = omega arith; stands = refl }
 
 module _ {l : List ℕ} {from n to : ℕ} {x₀ x : List ℕ} {i : ℕ} (g : PaddedGoing l from n to x₀ x i) where
   pub padded-long : length x ≡ length x₀

@@ -11,7 +11,7 @@ use mir.Syntax.{w64}
 use mir.Val.{Fits}
 use Rattle.words.specs.Bytes.{Bytes, le, padded}
 use Rattle.words.specs.Reads.{Reads}
-use Rattle.words.proofs.Numbers.{length-le}
+use Rattle.words.proofs.Numbers.{length-le, slice-bytes}
 use Rattle.words.proofs.Runs.{sets-then, sets-comm}
 use Rattle.schema.specs.Types.{Ty, li, ma, place}
 use Rattle.schema.specs.Kinds.{placeAt}
@@ -32,7 +32,7 @@ use Rattle.measuring.proofs.Records.{cut-at}
 use Rattle.measuring.proofs.Totals.{array-fit, array-size}
 use Rattle.putting.specs.Put.{Ready, typeIn, Held, PutValue, PutStruct, PutArray, ArrayWrote}
 use Rattle.putting.proofs.Given.{same-thing, same-rest, list-four, given-list, Pair, map-four, given-map}
-use Rattle.putting.proofs.Slots.{Octets, octets-are, padded-whole}
+use Rattle.putting.proofs.Slots.{Octets, padded-whole}
 use Rattle.putting.proofs.Paints.{size-is}
 
 map-content : (k v : Ty) (ks vs : List Cell) → content (ma k v) (node (node ks ∷ node vs ∷ []))
@@ -148,7 +148,7 @@ module _ {t : List ℕ} {c d : ℕ} {l : List ℕ} {from pos len : ℕ} (p : Put
           thing = node (w .thing);
           reads = rw (cut-at 4 l from four, ← er, w .reads);
           inside = w .inside;
-          bytes = w .bytes ∙ ap (sets x pos) (sym (padded-whole u (array-eight keyTy (from + 4) (octets-are o) (list-can .few) (w .reads))));
+          bytes = w .bytes ∙ ap (sets x pos) (sym (padded-whole u (array-eight keyTy (from + 4) (slice-bytes o) (list-can .few) (w .reads))));
           ends = w .ends;
         })
 
@@ -227,8 +227,8 @@ module _ {t : List ℕ} {c d : ℕ} {l : List ℕ} {from pos len : ℕ} (p : Put
               let even : padded all ≡ all = padded-whole all (omega (
                 arith,
                 long,
-                array-eight keyTy (from + 4) (octets-are o) few (a .reads),
-                array-eight valueTy mid (octets-are o) few (b .reads),
+                array-eight keyTy (from + 4) (slice-bytes o) few (a .reads),
+                array-eight valueTy mid (slice-bytes o) few (b .reads),
               )) in
               held-as (at-map .whole) (record {
                 thing = node (node (a .thing) ∷ node (b .thing) ∷ []);

@@ -4,6 +4,8 @@ use mathlib.Core.List.{List, [], _∷_, _++_, append-assoc}
 use Prim.Native.Nat.{ℕ, zero, suc, _+_, _-_, _*_, _/_, _%_, _^_, _≤_, _<_}
 use native.Mathlib.Nat.{pow-succ'}
 use native.Mathlib.Omega.{arith}
+use mir.Val.{Fits}
+use mir.Syntax.{w8}
 use lib.ListN.{length, getD, take, drop, length-append, length-replicate, take-append-drop}
 use Rattle.words.specs.Bytes.{Bytes, empty, byte, le, num, zeros, fill, pad, padded}
 
@@ -40,6 +42,10 @@ bytes-fill w {u} h = bytes-append h (bytes-zeros (w - length u))
 pub bytes-of : (b : List ℕ) → ((i : ℕ) → getD b i 0 < 256) → Bytes b
 bytes-of [] h = empty
 bytes-of (d ∷ ds) h = byte (h 0) (bytes-of ds (λ i. h (suc i)))
+
+-- as a place of the code knows it of a slice
+pub slice-bytes : {b : List ℕ} → ((i : ℕ) → Fits w8 (getD b i 0)) → Bytes b
+slice-bytes {b} h = bytes-of b (λ i. h i .fits)
 
 pub byte-at : {b : List ℕ} → Bytes b → (i : ℕ) → getD b i 0 < 256
 byte-at empty i = omega arith

@@ -3,7 +3,8 @@
 mod Places
 use mathlib.Core.Path.{sym}
 use borrow.Author.Needs.{needs}
-use Rattle.checking.proofs.Tests.{row-bytes, at-fault, failed, map-asks, past-asks, past-fits, falls-list, falls-map, falls-struct}
+use Rattle.words.proofs.Numbers.{slice-bytes}
+use Rattle.checking.proofs.Tests.{at-fault, failed, map-asks, past-asks, past-fits, falls-list, falls-map, falls-struct}
 use Rattle.checking.proofs.Containers.{list-odd, list-short, map-odd, map-short}
 use Rattle.checking.proofs.Loops.{loop-start, loop-since, loop-sum, loop-told, loop-unfit, loop-done, loop-over, loop-bit, loop-fault, loop-slot}
 use Rattle.checking.proofs.Loops.{loop-slot-on, loop-on, loop-falls, loop-null}
@@ -46,7 +47,7 @@ pub +check-fields+check-items+check-list+check-map+check-struct-spec : {M : Type
     (λ c κs. search fields-asks)  -- bitmap-size-requires
     (λ c. search fields-mul)  -- mul-cur
     (λ c. search fields-first)  -- add-cur
-    (λ c. search (fields-start, row-bytes))  -- loop-holds
+    (λ c. search (fields-start, slice-bytes))  -- loop-holds
     (λ c κs. search field-stands)  -- entry-at-requires
     (λ c κs. tt)  -- place-requires
     (λ c κs. search leaf-room)  -- check-field-requires
@@ -129,7 +130,7 @@ pub +check-fields+check-items+check-list+check-map+check-struct-spec : {M : Type
     (λ c. search item-map)  -- add-slots
     (λ c. search item-mul)  -- mul-cur
     (λ c. search item-start)  -- add-cur
-    (λ c. search (loop-start, items-slots, row-bytes))  -- loop-holds
+    (λ c. search (loop-start, items-slots, slice-bytes))  -- loop-holds
     (λ c κs. search (loop-bit (c .before .loop .inv)))  -- is-null-requires
     (λ c. search loop-slot-on)  -- add-slot
     (λ c. search loop-on)  -- add-i
@@ -189,14 +190,14 @@ pub +check-fields+check-items+check-list+check-map+check-struct-spec : {M : Type
     (λ c κs. search list-pad)  -- pad-size-requires
     (λ c. search list-out)  -- returns-4
     (λ c κs. map-asks (list-mapped t c))  -- past-clear-requires
-    (λ c κs. past-asks (list-mapped t (c .before .before)) (search row-bytes) (c .before .past-clear .ensures) (c .if5 .taken))  -- past-byte-requires
+    (λ c κs. past-asks (list-mapped t (c .before .before)) (search slice-bytes) (c .before .past-clear .ensures) (c .if5 .taken))  -- past-byte-requires
     (λ c. past-fits (list-mapped t (c .before .before .before)) (c .past-byte .ensures))  -- add-result
     (λ c. search list-bits)  -- returns-5
     (λ c κs. tt)  -- place-requires
     (λ c κs. search bools-room)  -- check-bools-requires
     (λ c. search list-bools)  -- returns-6
     (λ c κs. search numbers-end)  -- check-end-requires
-    (λ c. search (list-numbers, row-bytes))  -- returns-7
+    (λ c. search (list-numbers, slice-bytes))  -- returns-7
     (λ c κs. search texts-room)  -- check-texts-requires
     (λ c. search list-texts)  -- returns-8
     (λ c κs. (search falls-list, search (items-room (c .before .before .before .before .before .before .before .pad-size .ensures))))  -- check-items-requires
@@ -236,7 +237,7 @@ pub +check-fields+check-items+check-list+check-map+check-struct-spec : {M : Type
     (λ c. search struct-end)  -- add-if2
     (λ c. search fields-short)  -- returns-2
     (λ c κs. map-asks (struct-mapped t c))  -- past-clear-requires
-    (λ c κs. past-asks (struct-mapped t (c .before .before)) (search row-bytes) (c .before .past-clear .ensures) (c .if3 .taken))  -- past-byte-requires
+    (λ c κs. past-asks (struct-mapped t (c .before .before)) (search slice-bytes) (c .before .past-clear .ensures) (c .if3 .taken))  -- past-byte-requires
     (λ c. past-fits (struct-mapped t (c .before .before .before)) (c .past-byte .ensures))  -- add-result
     (λ c. search fields-bits)  -- returns-3
     (λ c κs. search (falls-struct, fields-from))  -- check-fields-requires

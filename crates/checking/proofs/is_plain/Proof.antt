@@ -2,7 +2,8 @@
 use mathlib.Core.Path.{refl}
 use mathlib.Core.Logic.{⊎-elim}
 use Prim.Native.Nat.{_-_}
-use Rattle.checking.proofs.Tests.{row-bytes, clash}
+use Rattle.words.proofs.Numbers.{slice-bytes}
+use Rattle.checking.proofs.Tests.{clash}
 use Rattle.checking.proofs.Loops.{loop-slot, loop-on}
 use Rattle.checking.proofs.Cursor.{stop-fits, stop-small}
 use Rattle.checking.proofs.StructLoops.{struct-mul, field-stands, fixed-leaf}
@@ -32,7 +33,7 @@ is-plain-spec =
     (λ c e. absurd (clash e refl))  -- returns-3
     (λ c. search struct-mul)  -- mul-cur
     (λ c. search plain-add)  -- add-cur
-    (λ c. search (plain-start, row-bytes))  -- loop-holds
+    (λ c. search (plain-start, slice-bytes))  -- loop-holds
     (λ c. search plain-place)  -- add-entry-at
     (λ c κs. search field-stands)  -- entry-at-requires
     (λ c κs. tt)  -- place-requires

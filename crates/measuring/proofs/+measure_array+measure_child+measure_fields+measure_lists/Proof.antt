@@ -6,7 +6,6 @@ use borrow.Author.Needs.{needs}
 use borrow.Fn.Kinds.{In}
 use borrow.Fn.PlainCycle.{Measures, is, falls, and}
 use Rattle.measuring.specs.Measure.{ChildTold}
-use Rattle.measuring.proofs.Records.{listing-bytes}
 use Rattle.measuring.proofs.Bodies.{child-short}
 use Rattle.measuring.proofs.Loops.{typeOf, is-fixed, is-text, is-child, leaf-came, child-came, goes-low, some-left, less-left}
 use Rattle.measuring.proofs.Loops.{ArrayGoing, array-start, array-bad, array-add, array-next, array-high, array-end}
@@ -37,6 +36,7 @@ use Rattle.words.proofs.nums.get4.Reads as get4
 use Rattle.words.proofs.pairs.high.Reads as high
 use Rattle.words.proofs.pairs.low.Reads as low
 use Rattle.words.proofs.pairs.pair.Reads as pair
+use Rattle.words.proofs.Numbers.{slice-bytes}
 use Rattle.measuring.proofs.+measure_array+measure_child+measure_fields+measure_lists.{statement}
 use Rattle.measuring.proofs.+measure_array+measure_child+measure_fields+measure_lists.Tie.{close}
 
@@ -193,7 +193,7 @@ pub +measure-array+measure-child+measure-fields+measure-lists-spec : {M : Type 1
     (λ m. array-lts.spec (array-calls m) (array-at m) array.Post array-Inv array-left
     (λ c κs. search)  -- entry-at-requires
     (λ c κs. search)  -- array-size-requires
-    (λ c. search (array-start, listing-bytes))  -- loop-holds
+    (λ c. search (array-start, slice-bytes))  -- loop-holds
     (λ c κs. tt)  -- place-requires
     (λ c κs. search (is-fixed (c .before .place .ensures)))  -- measure-fixed-requires
     (λ c κs. tt)  -- place-requires-2
@@ -222,13 +222,13 @@ pub +measure-array+measure-child+measure-fields+measure-lists-spec : {M : Type 1
     (λ c. search child-deep)  -- sub-measure-fields
     (λ c. search needs)  -- add-measure-fields-2
     (λ c κs. search (fields-fall, struct-can))  -- measure-fields-requires
-    (λ c. search (child-told, struct-body, listing-bytes))  -- returns-3
+    (λ c. search (child-told, struct-body, slice-bytes))  -- returns-3
     (λ c. search needs)  -- add-measure-lists
     (λ c κs. search (lists-rank, lists-can))  -- measure-lists-requires
-    (λ c. search (child-told, listing-bytes)))  -- returns-4
+    (λ c. search (child-told, slice-bytes)))  -- returns-4
     (λ m. fields-lts.spec (fields-calls m) (fields-at m) fields.Post fields-Inv fields-left
     (λ c κs. search)  -- struct-size-requires
-    (λ c. search (fields-start, listing-bytes))  -- loop-holds
+    (λ c. search (fields-start, slice-bytes))  -- loop-holds
     (λ c κs. search field-stands)  -- entry-at-requires
     (λ c κs. tt)  -- place-requires
     (λ c κs. search is-fixed)  -- measure-fixed-requires

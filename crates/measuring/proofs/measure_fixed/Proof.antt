@@ -1,6 +1,6 @@
 -- `measuring::measure_fixed` meets its contract: each return is one law. Assumes nothing.
 use borrow.Author.Needs.{needs}
-use Rattle.measuring.proofs.Records.{listing-bytes}
+use Rattle.words.proofs.Numbers.{slice-bytes}
 use Rattle.measuring.proofs.Bodies.{width-fits, bool-room}
 use Rattle.measuring.proofs.Chosen.{fixed-only, fixed-unmarked, number-told, bool-refused, bool-told}
 use Rattle.measuring.proofs.measure_fixed.Statement.{statement}
@@ -22,10 +22,10 @@ measure-fixed-spec =
     (λ c κs. tt)  -- place-requires
     (λ c. search needs)  -- add-pair
     (λ c κs. search needs)  -- pair-requires
-    (λ c. search (number-told, listing-bytes))  -- returns-3
+    (λ c. search (number-told, slice-bytes))  -- returns-3
     (λ c. search needs)  -- add-if4
     (λ c. search bool-room)  -- shared-slice-read-if4
-    (λ c. search (bool-refused, listing-bytes))  -- returns-4
+    (λ c. search (bool-refused, slice-bytes))  -- returns-4
     (λ c. search needs)  -- add-pair-2
     (λ c κs. search needs)  -- pair-requires-2
-    (λ c. search (bool-told, listing-bytes)))  -- returns-5
+    (λ c. search (bool-told, slice-bytes)))  -- returns-5

@@ -1,6 +1,6 @@
 -- `measuring::measure_text` meets its contract: each return is one law. Assumes nothing.
 use borrow.Author.Needs.{needs}
-use Rattle.measuring.proofs.Records.{listing-bytes}
+use Rattle.words.proofs.Numbers.{slice-bytes}
 use Rattle.measuring.proofs.Chosen.{text-only, text-unmarked, text-refused, text-told}
 use Rattle.measuring.proofs.measure_text.Statement.{statement}
 use Rattle.measuring.proofs.measure_text.Tie as tie
@@ -20,9 +20,9 @@ measure-text-spec =
     (λ c κs. search needs)  -- get4-requires
     (λ c. search)  -- sub-if3
     (λ c. search needs)  -- sub-if3-2
-    (λ c. search (text-refused, listing-bytes))  -- returns-3
+    (λ c. search (text-refused, slice-bytes))  -- returns-3
     (λ c. search needs)  -- add-pair
     (λ c. search needs)  -- add-pair-2
     (λ c κs. search needs)  -- pad-size-requires
     (λ c κs. search needs)  -- pair-requires
-    (λ c. search (text-told, listing-bytes)))  -- returns-4
+    (λ c. search (text-told, slice-bytes)))  -- returns-4

@@ -1,7 +1,7 @@
 -- `checking::lists::check_bools` meets its contract: before element i, what is left leads to the same end. Assumes nothing.
 use Prim.Native.Nat.{_-_}
 use borrow.Author.Needs.{needs}
-use Rattle.checking.proofs.Tests.{row-bytes}
+use Rattle.words.proofs.Numbers.{slice-bytes}
 use Rattle.checking.proofs.Leaves.{BoolsAt, bools-start, bools-stop, bools-behind, bools-end, bools-bit, bools-byte, bools-at, bools-told, bools-on}
 use Rattle.checking.proofs.Leaves.{bools-null, bools-wrong, bools-next}
 use Rattle.checking.proofs.lists.check_bools.Statement.{statement}
@@ -19,7 +19,7 @@ check-bools-spec =
     (tie.spec
     Inv-loop
     μ-loop
-    (λ c. search (bools-start, row-bytes))  -- loop-holds
+    (λ c. search (bools-start, slice-bytes))  -- loop-holds
     (λ c κs. search bools-bit)  -- is-null-requires
     (λ c. search bools-on)  -- add-i
     (λ c. search needs)  -- loop-less

@@ -1,8 +1,9 @@
 -- `checking::lists::check_texts` meets its contract: before element i, what is left leads to the same end. What each place of the code asks
 -- is one law, in the order of the code, with the need's name behind it. Assumes nothing.
 use Prim.Native.Nat.{_+_, _*_, _-_}
+use Rattle.words.proofs.Numbers.{slice-bytes}
 use Rattle.schema.specs.Types.{text, st}
-use Rattle.checking.proofs.Tests.{row-bytes, seen}
+use Rattle.checking.proofs.Tests.{seen}
 use Rattle.checking.proofs.Leaves.{text-sound, texts-slots, null-ask, nulls-room}
 use Rattle.checking.proofs.Loops.{items, At, astray, slots-in, loop-start, loop-since, loop-sum, loop-told, loop-unfit, loop-done}
 use Rattle.checking.proofs.Loops.{loop-over, loop-less, loop-bit, loop-fault, loop-slot, loop-slot-on, loop-on, loop-falls, loop-null}
@@ -34,7 +35,7 @@ check-texts-spec =
     Inv-loop
     μ-loop
     (λ c κs. search nulls-room)  -- no-nulls-requires
-    (λ c. search (loop-start, texts-slots, row-bytes))  -- loop-holds
+    (λ c. search (loop-start, texts-slots, slice-bytes))  -- loop-holds
     (λ c κs. null-ask _ (c .before .before .no-nulls .ensures) (search loop-less) (search (loop-bit (c .before .loop .inv))))  -- null-at-requires
     (λ c. search loop-slot-on)  -- add-slot
     (λ c. search loop-on)  -- add-i

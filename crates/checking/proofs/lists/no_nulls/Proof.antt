@@ -2,7 +2,7 @@
 use mathlib.Core.Path.{_≡_, refl}
 use Prim.Native.Nat.{_+_, _-_, _%_}
 use borrow.Author.Needs.{needs}
-use Rattle.checking.proofs.Tests.{row-bytes}
+use Rattle.words.proofs.Numbers.{slice-bytes}
 use Rattle.checking.proofs.Leaves.{Clear, clear-start, clear-word, clear-end}
 use Rattle.checking.proofs.lists.no_nulls.Statement.{statement}
 use Rattle.checking.proofs.lists.no_nulls.Tie as tie
@@ -25,5 +25,5 @@ no-nulls-spec =
     (λ c. tt)  -- returns
     (λ c. search needs)  -- add-i
     (λ c. search needs)  -- loop-less
-    (λ c. (search needs, search (clear-word, row-bytes)))  -- loop-again
+    (λ c. (search needs, search (clear-word, slice-bytes)))  -- loop-again
     (λ c. search clear-end))  -- returns-2
