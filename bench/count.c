@@ -7,6 +7,7 @@
 #include "../desk/loafcompass.h"
 static struct sample s;
 static uint8_t listing[65536], out[65536];
+static uint64_t table[LOAF_TABLE_WORDS], worked[LOAF_TABLE_WORDS];
 int main(int argc, char **argv) {
     if (argc != 5 || !make_sample(&s, argv[2], (unsigned)atoi(argv[3]))) return 2;
     uint64_t sum = 0, answer[4], plain[4];
@@ -14,10 +15,15 @@ int main(int argc, char **argv) {
     if (memcmp(answer, plain, sizeof plain)) { fprintf(stderr, "reads differ\n"); return 1; }
     const uint32_t kind = (uint32_t)answer[0];
     size_t listed = (size_t)loaf_list(s.schema, s.schema_len, s.row, s.row_len, listing, sizeof listing);
+    const uint64_t tabled = loaf_table(s.schema, s.schema_len, table, LOAF_TABLE_WORDS);
+    if (loaf_number(tabled)) return 2;
+    const size_t words = loaf_length(tabled);
     // The entry is looked up once, so that a call costs no more than a jump beside itself.
-    static const char *const names[] = {"judge", "plain_judge", "check", "plain_check", "write", "plain_write", "list", "plain_list", "read", "plain_read", "set", "plain_set"};
+    static const char *const names[] = {
+        "judge", "plain_judge", "check", "plain_check", "write", "plain_write", "list", "plain_list", "read", "plain_read", "set", "plain_set",
+        "check_by", "write_by", "list_by", "read_by", "set_by", "table"};
     unsigned entry = 0;
-    while (entry < 12 && strcmp(names[entry], argv[1])) entry++;
+    while (entry < sizeof names / sizeof *names && strcmp(names[entry], argv[1])) entry++;
     for (long i = atol(argv[4]); i > 0; i--) switch (entry) {
         case 0: sum += loaf_judge(s.schema, s.schema_len); break;
         case 1: sum += !plain_judge(s.schema, s.schema_len); break;
@@ -31,6 +37,12 @@ int main(int argc, char **argv) {
         case 9: sum += plain_read(s.schema, s.schema_len, s.row, s.row_len, s.path, s.steps, answer); break;
         case 10: sum += loaf_set(s.schema, s.schema_len, s.row, s.row_len, s.path, s.steps, kind, 7, (const uint8_t *)"TPH", 3); break;
         case 11: sum += plain_set(s.schema, s.schema_len, s.row, s.row_len, s.path, s.steps, kind, 7, (const uint8_t *)"TPH", 3); break;
+        case 12: sum += loaf_check_by(s.schema, s.schema_len, table, words, s.row, s.row_len); break;
+        case 13: sum += loaf_write_by(s.schema, s.schema_len, table, words, listing, listed, out, sizeof out) >> 32; break;
+        case 14: sum += loaf_list_by(s.schema, s.schema_len, table, words, s.row, s.row_len, out, sizeof out) >> 32; break;
+        case 15: sum += loaf_read_by(s.schema, s.schema_len, table, words, s.row, s.row_len, s.path, s.steps, answer, 4); break;
+        case 16: sum += loaf_set_by(s.schema, s.schema_len, table, words, s.row, s.row_len, s.path, s.steps, kind, 7, (const uint8_t *)"TPH", 3); break;
+        case 17: sum += loaf_table(s.schema, s.schema_len, worked, LOAF_TABLE_WORDS) >> 32; break;
         default: return 2;
     }
     if (sum) { fprintf(stderr, "refused\n"); return 1; }

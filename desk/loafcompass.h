@@ -18,10 +18,10 @@ extern "C" {
 
 enum loaf_refusal {
     LOAF_DONE = 0,
-    LOAF_SCHEMA = 1,      /* the schema breaks its rules */
+    LOAF_SCHEMA = 1,      /* the schema breaks its rules, or the table is not its own */
     LOAF_LISTING = 2,     /* the listing breaks its rules or does not fit the schema */
     LOAF_TOO_LONG = 3,    /* the row is over 16,384 bytes */
-    LOAF_ROOM = 4,        /* the output is too small; the length is the length needed */
+    LOAF_ROOM = 4,        /* the output is too small; the length is the length needed, of a table in words */
     LOAF_NO_PLACE = 5,    /* there is no such place */
     LOAF_NULL_BEFORE = 6, /* a null stands before the path's end */
     LOAF_LAYOUT = 7,      /* the row breaks the layout; the place says where */
@@ -58,6 +58,32 @@ uint64_t loaf_read(const uint8_t *schema, size_t schema_length, const uint8_t *r
  * over 1 or a float32 of more than 32 bits is refused with 8. */
 uint64_t loaf_set(const uint8_t *schema, size_t schema_length, uint8_t *row, size_t row_length, const uint32_t *path, size_t path_length, uint32_t kind, uint64_t value, const uint8_t *bytes, size_t bytes_length);
 
+/* Tables: what an entry works out of a schema before it looks at a row, kept beside the schema. A table is 64-bit words, one for each type of
+ * the schema: at most LOAF_TABLE_WORDS, and never more than half the schema's bytes. They are plain words, to be kept anywhere and copied; but
+ * they are for this library's version alone, so a program works them out and does not store them for another.
+ *
+ * Each entry below takes the schema and its table, and answers and writes as the entry of that name without _by does. A table that is not
+ * exactly the one the schema gives is refused with 1, before all else, and alters no byte; so is every table beside a schema that breaks its
+ * rules. A wrong or an old table is therefore never followed. */
+enum { LOAF_TABLE_WORDS = 512 };
+
+/* The schema's table at the start of table, and how many words it has: done, or 1, and 4 with the number of words needed. */
+uint64_t loaf_table(const uint8_t *schema, size_t schema_length, uint64_t *table, size_t table_length);
+
+/* Whether the bytes are a schema and the table is its own: done, or 1. */
+uint64_t loaf_judge_by(const uint8_t *schema, size_t schema_length, const uint64_t *table, size_t table_length);
+
+/* The entries of one row. */
+uint64_t loaf_check_by(const uint8_t *schema, size_t schema_length, const uint64_t *table, size_t table_length, const uint8_t *row, size_t row_length);
+uint64_t loaf_write_by(const uint8_t *schema, size_t schema_length, const uint64_t *table, size_t table_length,
+    const uint8_t *listing, size_t listing_length, uint8_t *out, size_t out_length);
+uint64_t loaf_list_by(const uint8_t *schema, size_t schema_length, const uint64_t *table, size_t table_length,
+    const uint8_t *row, size_t row_length, uint8_t *out, size_t out_length);
+uint64_t loaf_read_by(const uint8_t *schema, size_t schema_length, const uint64_t *table, size_t table_length,
+    const uint8_t *row, size_t row_length, const uint32_t *path, size_t path_length, uint64_t *answer, size_t answer_length);
+uint64_t loaf_set_by(const uint8_t *schema, size_t schema_length, const uint64_t *table, size_t table_length,
+    uint8_t *row, size_t row_length, const uint32_t *path, size_t path_length, uint32_t kind, uint64_t value, const uint8_t *bytes, size_t bytes_length);
+
 /* Batches: frames back to back, each a row's size as 4 bytes, big endian, and the row. Rows count from 0, and a row's range is its own bytes,
  * without its size. A batch may be of any length, so what could be over 32 bits stands in words lent beside the code, and the lower half of
  * the code is 0 but for the place of a 7, which counts from that row's own first byte, and where a line below says otherwise. */
@@ -82,6 +108,19 @@ uint64_t loaf_batch_read(const uint8_t *schema, size_t schema_length, const uint
 
 /* One leaf of row k set in the batch: 1, 10, 5, then as loaf_set of that row. No byte of another row, and no size, is written. */
 uint64_t loaf_batch_set(const uint8_t *schema, size_t schema_length, uint8_t *batch, size_t batch_length, size_t k, const uint32_t *path, size_t path_length, uint32_t kind, uint64_t value, const uint8_t *bytes, size_t bytes_length);
+
+/* The entries of a batch that take a schema, by its table. */
+uint64_t loaf_batch_fetch_by(const uint8_t *schema, size_t schema_length, const uint64_t *table, size_t table_length,
+    const uint8_t *batch, size_t batch_length, size_t k, uint64_t *answer, size_t answer_length);
+uint64_t loaf_batch_check_by(const uint8_t *schema, size_t schema_length, const uint64_t *table, size_t table_length,
+    const uint8_t *batch, size_t batch_length, uint64_t *answer, size_t answer_length);
+uint64_t loaf_batch_append_by(const uint8_t *schema, size_t schema_length, const uint64_t *table, size_t table_length,
+    uint8_t *room, size_t room_length, size_t used, const uint8_t *row, size_t row_length, uint64_t *answer, size_t answer_length);
+uint64_t loaf_batch_read_by(const uint8_t *schema, size_t schema_length, const uint64_t *table, size_t table_length,
+    const uint8_t *batch, size_t batch_length, size_t k, const uint32_t *path, size_t path_length, uint64_t *answer, size_t answer_length);
+uint64_t loaf_batch_set_by(const uint8_t *schema, size_t schema_length, const uint64_t *table, size_t table_length,
+    uint8_t *batch, size_t batch_length, size_t k, const uint32_t *path, size_t path_length, uint32_t kind, uint64_t value,
+    const uint8_t *bytes, size_t bytes_length);
 
 #ifdef __cplusplus
 }

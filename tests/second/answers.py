@@ -5,6 +5,7 @@ from collections import namedtuple
 
 import batches
 import rows
+import worked_tables
 from schemas import Refused, judge
 
 # Every op of the driver with the numbers that the document lets it refuse with,
@@ -13,54 +14,78 @@ NUMBERS = {
     'j': (1,), 'c': (1, 3, 7), 'w': (1, 2, 3, 4), 'l': (1, 3, 7, 4), 's': (1, 3, 7, 5, 6, 8, 9),
     'r': (1, 3, 5, 7, 6), 'o': (1, 3, 5, 7, 6), 't': (),
     'n': (10,), 'f': (1, 10, 5, 3, 7), 'k': (1, 10, 3, 7), 'A': (1, 10, 3, 7, 4),
-    'g': (1, 10, 5, 3, 7, 6), 'z': (1, 10, 5, 3, 7, 6, 8, 9),
+    'g': (1, 10, 5, 3, 7, 6), 'z': (1, 10, 5, 3, 7, 6, 8, 9), 'T': (1, 4),
 }
 OPS = ''.join(NUMBERS)
 
+# The ops that take a schema, which also work from a table lent beside it.
+OPS_BY_TABLE = 'jcwlszrotfkAg'
+
 # A request: `second` is the listing, the row or the batch, `third` the stand-in,
-# the setting's bytes or the row to append, `room` the length of the lent output
-# or, where the op asks for one row of a batch, that row's number.
-Request = namedtuple('Request', 'op schema second steps room third kind value')
+# the setting's bytes or the row to append, `room` the length of the lent output,
+# in words where that is a table, or, where the op asks for one row of a batch,
+# that row's number. `table` is the lent table's words, None where none is lent.
+Request = namedtuple('Request', 'op schema second steps room third kind value table')
 
 HEAD = struct.Struct('<c5IBQ')
 
+# The bit of a kind that says: by a table, which then stands behind the head.
+BY_TABLE = 0x80
+
 # What the driver takes; beyond these a request ends its run.
-SCHEMA_ROOM, SECOND_ROOM, STEPS_ROOM, OUT_ROOM, THIRD_ROOM = 2048, 70000, 64, 70000, 20000
+SCHEMA_ROOM, SECOND_ROOM, STEPS_ROOM, OUT_ROOM, THIRD_ROOM, WORDS_ROOM = 2048, 70000, 64, 70000, 20000, 1024
 
 FILL = 0xAA
+FILL_WORD = int.from_bytes(bytes([FILL]) * 8, 'little')
 
 
-def request(op, schema=b'', second=b'', steps=(), room=0, third=b'', kind=0, value=0):
-    return Request(op, schema, second, tuple(steps), room, third, kind, value)
+def request(op, schema=b'', second=b'', steps=(), room=0, third=b'', kind=0, value=0, table=None):
+    return Request(op, schema, second, tuple(steps), room, third, kind, value, table)
 
 
 def within_rooms(req):
     return (len(req.schema) <= SCHEMA_ROOM and len(req.second) <= SECOND_ROOM
-            and len(req.steps) <= STEPS_ROOM and req.room <= OUT_ROOM
-            and len(req.third) <= THIRD_ROOM)
+            and len(req.steps) <= STEPS_ROOM and req.room <= (WORDS_ROOM if req.op == 'T' else OUT_ROOM)
+            and len(req.third) <= THIRD_ROOM and len(req.table or ()) <= WORDS_ROOM)
 
 
 def encode(req):
+    assert req.kind < BY_TABLE
+    kind, table = req.kind, b''
+    if req.table is not None:
+        kind |= BY_TABLE
+        table = struct.pack('<I%dQ' % len(req.table), len(req.table), *req.table)
     head = HEAD.pack(req.op.encode(), len(req.schema), len(req.second), len(req.steps),
-                     req.room, len(req.third), req.kind, req.value)
+                     req.room, len(req.third), kind, req.value)
     steps = struct.pack('<%dI' % len(req.steps), *req.steps)
-    return b''.join((head, req.schema, req.second, steps, req.third))
+    return b''.join((head, table, req.schema, req.second, steps, req.third))
+
+
+def decode_at(data, at):
+    """The request that stands at `at`, and where it ends."""
+    def part(size):
+        nonlocal at
+        at += size
+        if at > len(data):
+            raise ValueError('%d bytes where its head announces %d' % (len(data), at))
+        return data[at - size:at]
+
+    op, schema, second, steps, room, third, kind, value = HEAD.unpack(part(HEAD.size))
+    table = None
+    if kind & BY_TABLE:
+        count, = struct.unpack('<I', part(4))
+        table = struct.unpack('<%dQ' % count, part(8 * count))
+    schema, second = part(schema), part(second)
+    steps = struct.unpack('<%dI' % steps, part(4 * steps))
+    return Request(op.decode(), schema, second, steps, room, part(third), kind % BY_TABLE, value, table), at
 
 
 def decode(data):
     """The request that `encode` made these bytes from, to repeat it by hand."""
-    if len(data) < HEAD.size:
-        raise ValueError('shorter than its head')
-    op, schema, second, steps, room, third, kind, value = HEAD.unpack_from(data)
-    at = HEAD.size
-    parts = []
-    for size in (schema, second, 4 * steps, third):
-        parts.append(data[at:at + size])
-        at += size
-    if at != len(data):
-        raise ValueError('%d bytes where its head announces %d' % (len(data), at))
-    numbers = struct.unpack('<%dI' % steps, parts[2])
-    return Request(op.decode(), parts[0], parts[1], numbers, room, parts[3], kind, value)
+    req, end = decode_at(data, 0)
+    if end != len(data):
+        raise ValueError('%d bytes where its head announces %d' % (len(data), end))
+    return req
 
 
 def setting_of(kind, value, third):
@@ -85,6 +110,10 @@ def setting_of(kind, value, third):
 
 def hex_or_dash(data):
     return data.hex() or '-'
+
+
+def hex_words(words):
+    return ''.join('%016x' % word for word in words) or '-'
 
 
 def refusal(r):
@@ -113,6 +142,16 @@ def append_line(req):
     return 'done %d %s' % (length, hex_or_dash(after))
 
 
+def table_line(req):
+    """The lent words are shown whole, with what they held before."""
+    lent = (FILL_WORD,) * req.room
+    try:
+        words = worked_tables.table(req.schema, req.room)
+    except Refused as r:
+        return '%s %s' % (refusal(r), hex_words(lent))
+    return 'done %d %s' % (len(words), hex_words(words + lent[len(words):]))
+
+
 def set_line(call, req, *where):
     """The row or the batch is shown whole after the call, a refused one as it was."""
     setting = setting_of(req.kind, req.value, req.third)
@@ -131,8 +170,24 @@ def value_line(value):
     return ' '.join(map(str, value))
 
 
+# No bytes break the schema's rules.
+NO_SCHEMA = b''
+
+
+def by_schema(req):
+    """The plain request that a request by a table is answered as: 1 where the table is not the schema's."""
+    fits = worked_tables.gives(req.schema, req.table)
+    return req._replace(schema=req.schema if fits else NO_SCHEMA, table=None)
+
+
 def answer(req):
+    if req.table is not None:
+        if req.op not in OPS_BY_TABLE:
+            raise ValueError('no op by a table: %r' % req.op)
+        req = by_schema(req)
     op, schema, second = req.op, req.schema, req.second
+    if op == 'T':
+        return table_line(req)
     if op == 'w':
         return output_line(rows.write, req)
     if op == 'l':

@@ -101,9 +101,9 @@ def settings(cases):
         done((1,), ((16, b'\xfe\xff'),), kind=2, value=(1 << 64) - 2)
         done((1,), ((0, b'\x02'), (16, ZEROS)), kind=0)
         done((2,), ((32, b'XY'),), kind=5, third=b'XY')
-        refused = ((8, (0,), 1, 2), (8, (0,), 2, 1), (8, (0,), 6, 1), (8, (0,), 255, 0), (8, (1,), 2, 1 << 15), (8, (1,), 3, 1 << 32),
+        refused = ((8, (0,), 1, 2), (8, (0,), 2, 1), (8, (0,), 6, 1), (8, (0,), 127, 0), (8, (1,), 2, 1 << 15), (8, (1,), 3, 1 << 32),
                    (8, (1,), 7, 0), (8, (2,), 2, 0), (8, (2,), 6, 0), (8, (), 0, 0), (8, (), 6, 0), (9, (2,), 0, 0), (9, (2,), 5, 0),
-                   (5, (3,), 0, 0), (5, (3,), 6, 0), (5, (0, 0), 6, 0), (5, (0,) * 17, 255, 0))
+                   (5, (3,), 0, 0), (5, (3,), 6, 0), (5, (0, 0), 6, 0), (5, (0,) * 17, 127, 0))
         for number, path, kind, value in refused:
             cases.state('set', in_row('z', schema, batch, k, path, kind=kind, value=value), 'refused %d 0 %s' % (number, batch.hex()))
         # 5 for the row's number comes before the kind that is none.
@@ -117,7 +117,7 @@ def settings(cases):
     cases.state('set', in_row('z', F_SCHEMA, batch, 0, (0, 1, 2), kind=2, value=31), 'done ' + written_over(batch, 100, b'\x1f').hex())
     cases.state('set', in_row('z', F_SCHEMA, batch, 0, (0, 1, 3), kind=6), 'refused 5 0 ' + batch.hex())
     # What a setting does in a row it does in that row of a batch, whatever the setting is.
-    for kind in (0, 1, 2, 3, 4, 5, 6, 255):
+    for kind in (0, 1, 2, 3, 4, 5, 6, 127):
         for value in (0, 1, 2, 1 << 31, 1 << 32, 1 << 63):
             for third in (b'', b'xyz'):
                 for k in range(3):

@@ -1,4 +1,4 @@
-"""The document's table A to N, its further cases, those of batches and of places, as requests with answers.
+"""The document's table A to N, its further cases, those of batches, of places and of lent tables, as requests with answers.
 
 Where the document states bytes, sizes or numbers they are written out by hand
 and not computed; the rest is answered by the second reading.  Making the cases
@@ -10,8 +10,10 @@ from answers import request
 from batch_cases import THREE, framing_cases
 from batch_orders import order_cases
 from further import further_cases
+from lent_tables import lent_table_cases
 from places import place_cases
 from table import A_ROW, A_SCHEMA, C_ROW, C_SCHEMA, ZEROS, fill, table_cases
+from worked_tables import table_of
 
 
 class Cases:
@@ -61,6 +63,7 @@ def requests_and_answers():
     framing_cases(cases)
     order_cases(cases)
     place_cases(cases)
+    lent_table_cases(cases)
     assert all(answers.within_rooms(req) for _, req, _ in cases.made)
     return cases.made
 
@@ -71,8 +74,8 @@ def runs(ops=answers.OPS):
     made = [('nothing', b'', []), ('two', good + good, ['done', 'done']),
             ('unknown op', good + b'x' + good[1:], ['done', 'end']),
             ('op zero', b'\0' + good[1:], ['end'])]
-    for req in (request('s', C_SCHEMA, C_ROW, (0,), kind=5, third=b'TPH'),
-                request('A', C_SCHEMA, THREE, room=92, third=C_ROW)):
+    setting = request('s', C_SCHEMA, C_ROW, (0,), kind=5, third=b'TPH')
+    for req in (setting, setting._replace(table=table_of(C_SCHEMA)), request('A', C_SCHEMA, THREE, room=92, third=C_ROW)):
         full = answers.encode(req)
         for n in range(1, len(full)):
             made.append(('cut of %s after %d' % (req.op, n), good + full[:n], ['done', 'end']))
@@ -96,6 +99,20 @@ def runs(ops=answers.OPS):
         made.append(('room of %s at its limit' % op, answers.encode(at_limit) + good, [answers.answer(at_limit), 'done']))
         for room in (answers.OUT_ROOM + 1, 0xFFFFFFFF):
             made.append(('room of %s over its limit' % op, good + answers.encode(at_limit._replace(room=room)), ['done', 'end']))
+    return made + table_runs(good)
+
+
+def table_runs(good):
+    """Whole inputs that end a run for what they say of a table."""
+    made = [('%s by a table' % op, good + answers.encode(request(op, A_SCHEMA, table=table_of(A_SCHEMA))), ['done', 'end']) for op in 'nTx']
+    for room in (answers.WORDS_ROOM + 1, answers.OUT_ROOM, answers.OUT_ROOM + 1, 0xFFFFFFFF):
+        made.append(('room of T over its limit', good + answers.encode(request('T', A_SCHEMA, room=room)), ['done', 'end']))
+    table = (0,) * answers.WORDS_ROOM
+    at_limit = answers.encode(request('j', A_SCHEMA, table=table)) + good
+    made.append(('table at its limit', at_limit, ['refused 1 0', 'done']))
+    for count in (answers.WORDS_ROOM + 1, 0xFFFFFFFF):
+        over = at_limit[:answers.HEAD.size] + count.to_bytes(4, 'little') + bytes(20000)
+        made.append(('table of %d words' % count, good + over, ['done', 'end']))
     return made
 
 

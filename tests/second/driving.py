@@ -32,7 +32,7 @@ def first_difference(a, b):
 
 
 def show(where, req, expected, got):
-    print('DIFFERENT: op %s, %s' % (req.op, where))
+    print('DIFFERENT: op %s%s, %s' % (req.op, '' if req.table is None else ' by a table of %d words' % len(req.table), where))
     print('expected: %s' % expected)
     print('driver:   %s' % ('(no line)' if got is None else got))
     if got is not None:
@@ -45,6 +45,10 @@ def show(where, req, expected, got):
 def compare_lines(driver, made, expected, where):
     """Whether the driver answers these requests so; the first difference is shown."""
     lines, code = run(driver, b''.join(map(answers.encode, made)))
+    return same_lines(made, expected, lines, code, where)
+
+
+def same_lines(made, expected, lines, code, where):
     for i, (req, want, got) in enumerate(itertools.zip_longest(made, expected, lines)):
         if req is None:
             print('DIFFERENT: a line too many after %s: %s' % (where(len(made) - 1), got))

@@ -119,7 +119,7 @@ def setting_for(choose, scene, path):
     if p < 0.12:
         return 0, choose.one((0, 0, 1, (1 << 64) - 1)), b''
     if p < 0.20 or t is None or t.kind in (LIST, MAP, STRUCT):
-        kind = choose.one((0, 1, 2, 3, 4, 5, 5, 6, 7, 255))
+        kind = choose.one((0, 1, 2, 3, 4, 5, 5, 6, 7, 127))
         value = choose.one((0, 1, 2, 127, 128, 255, (1 << 32) - 1, 1 << 32, (1 << 64) - 1, 1 << 63,
                             0x3F800000, choose.getrandbits(64)))
         return kind, value, choose.junk(choose.one((0, 1, 3, 8)))

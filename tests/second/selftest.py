@@ -22,6 +22,7 @@ import rows
 import schemas
 import sequences
 import table
+import table_checks
 from batch_requests import bad_frames, batch_scene
 from damage import bad_listing, bad_row
 from making import Chooser, any_order, sound_schema
@@ -227,6 +228,7 @@ def check_set(choose, scene, cells, values):
 def check_scene(choose, tally):
     schema = sound_schema(choose)
     root = schemas.judge(schema)
+    table_checks.check_table(schema)
     scene = some_scene(choose, schema, 20 + choose.below(60))
     cells = scene.cells
     if len(scene.row) > rows.ROW_LIMIT:
@@ -395,6 +397,7 @@ def main():
     args = parser.parse_args()
     print('%d cases hold' % len(cases.requests_and_answers()))
     print('%d places of single bits agree' % check_places())
+    print('%d slips with tables are found' % table_checks.check_slips())
     choose = Chooser('selftest/%d' % args.seed)
     tally = dict.fromkeys(('places', 'damaged rows', 'of them sound', 'broken reads',
                            'rows of which all orders were tried', 'settings', 'of them done',
@@ -405,9 +408,7 @@ def main():
         if number % 4 == 0:
             check_batch(choose, tally)
     for number in range(3):
-        for req in requests.portion(args.seed, number):
-            assert answers.within_rooms(req)
-            assert answers.decode(answers.encode(req)) == req
+        for req in table_checks.check_requests(args.seed, number):
             check_numbers(req)
     # Settings of the tree and of the bytes, and readings of both, many in a row.
     for number in range(30):

@@ -1,5 +1,5 @@
 #!/usr/bin/env python3
-"""The run that is kept beside the driver: each op, refusals with their bytes, a path of 17 steps, places.
+"""The run that is kept beside the driver: each op, refusals with their bytes, a path of 17 steps, places, tables.
 
     stored.py            whether crates/drive/stdin and stdout are what is made here
     stored.py --write    write them
@@ -12,6 +12,7 @@ import answers
 import places
 import table
 from answers import request
+from worked_tables import table_of
 
 DRIVE = pathlib.Path(__file__).resolve().parents[2] / 'crates' / 'drive'
 
@@ -25,6 +26,12 @@ CUT = TWO_ROWS[:-1]
 # The rest of the second row's slot is not zero, at that row's byte 12.
 BROKEN = SIX[:12] + b'\x01' + SIX[13:]
 BROKEN_ROW = ONE_ROW + bytes.fromhex('00000010') + BROKEN
+
+
+def by_their_tables(*plain):
+    """Each by its schema's table, and by one word more."""
+    return tuple(req._replace(table=table_of(req.schema) + behind) for req in plain for behind in ((), (0,)))
+
 
 REQUESTS = (
     request('j', table.F_SCHEMA),
@@ -70,6 +77,24 @@ REQUESTS = (
     request('A', SMALL, ONE_ROW, room=22, third=BROKEN),
     request('g', table.C_SCHEMA, bytes.fromhex('00000018') + table.J_ROW, (0,)),
     request('z', SMALL, BROKEN_ROW, (0,), room=1, kind=9),
+    request('T', places.STROKES, room=8),
+    request('T', places.STROKES, room=6),
+    request('T', b'x', room=1),
+    request('T', places.STROKES),
+) + by_their_tables(
+    request('j', table.F_SCHEMA),
+    request('c', table.H_SCHEMA, table.H_ROW),
+    request('w', table.A_SCHEMA, table.B_LISTING, room=len(table.B_ROW) + 4),
+    request('l', table.F_SCHEMA, table.F_ROW, room=len(table.F_LISTING)),
+    request('s', table.A_SCHEMA, table.A_ROW, (0,), kind=2, value=(1 << 64) - 3),
+    request('r', table.A_SCHEMA, table.A_ROW, (0,)),
+    request('o', table.G_SCHEMA, table.G_ROW, (0, 1)),
+    request('t', table.C_SCHEMA, table.C_ROW, (0,), third=b'none'),
+    request('f', SMALL, TWO_ROWS, room=1),
+    request('k', SMALL, BROKEN_ROW),
+    request('A', SMALL, ONE_ROW, room=len(TWO_ROWS) + 1, third=SIX),
+    request('g', SMALL, TWO_ROWS, (0,), room=1),
+    request('z', SMALL, TWO_ROWS, (0,), room=1, kind=2, value=7),
 )
 
 

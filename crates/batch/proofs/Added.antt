@@ -21,6 +21,7 @@ use Rattle.layout.specs.Entries.{Verdict, verdict, Sized, takes, refusedWith, s
 use Rattle.layout.specs.Entries as E
 use Rattle.answers.specs.declared.Refusal.{Refusal}
 use Rattle.answers.specs.declared.Refusal.the-variants as F
+use Rattle.answers.specs.declared.Length.{Length}
 use Rattle.answers.specs.declared.Length.the-variants as L
 use Rattle.answers.specs.Meaning.{refusalMeans, lengthOf}
 use Rattle.answers.proofs.Unique.{no-length}
@@ -32,6 +33,7 @@ use Rattle.layout.proofs.Reader.{cut-some, cut-none}
 use Rattle.batch.specs.Frames.{be, frame, framed}
 use Rattle.batch.specs.Entries.{rowBad, lentRows, framedAt, appendOf, appendedOf}
 use Rattle.batch.specs.Meaning.{Appends, afterSchema}
+use Rattle.batch.specs.Places.{PutsRow}
 use Rattle.batch.proofs.Sizes.{length-be}
 use Rattle.batch.proofs.Framing.{length-frame}
 
@@ -59,6 +61,27 @@ module _ (room : List ℕ) (used : ℕ) where
   pub lent-is : used ≤ length room → lentRows room used ≡ framed (take used room)
   unfolding lentRows
   lent-is h = rw (cut-some used room h)
+
+-- a row put in its frame
+module _ (room : List ℕ) (used : ℕ) (row : List ℕ) (needed : ℕ) (n : needed ≡ used + 4 + length row) where
+  whole : used + length (frame row) ≡ needed
+  whole = omega (arith, length-frame row)
+
+  pub put-short : length room < needed → PutsRow room used row (L.Refused (F.Room needed)) room
+  put-short h =
+      let z : refusedWith (N.numbered 4) needed ≡ sizedAfter none (used + length (frame row)) (length room) =
+      rw (whole, lt-leb needed (length room) h) in
+      record { answers = z; leaves = ap (λ (v : Sized). framedAt v room used row) z }
+
+  pub put-done : needed ≤ length room → {mid room′ : List ℕ} → mid ≡ sets room used (be 4 (length row))
+      → room′ ≡ sets mid (used + 4) (part row 0 (length row)) → PutsRow room used row (L.Done needed) room′
+  unfolding frame
+  put-done h {mid} {room′} u w =
+      let z : takes needed ≡ sizedAfter none (used + length (frame row)) (length room) = rw (whole, le-leb needed (length room) h) in
+      let size : used + 4 ≡ used + length (be 4 (length row)) = ap (λ (m : ℕ). used + m) (sym (length-be 4 (length row))) in
+      let t : sets mid (used + 4) (part row 0 (length row)) ≡ sets room used (frame row) =
+      rw (u, part-whole row) (sets-then room used (used + 4) (be 4 (length row)) row size) in
+      record { answers = z; leaves = w ∙ t ∙ ap (λ (v : Sized). framedAt v room used row) z }
 
 module _ (s room : List ℕ) (used : ℕ) (row : List ℕ) where
   -- what an answer leaves
@@ -101,23 +124,8 @@ module _ (s room : List ℕ) (used : ℕ) (row : List ℕ) where
         let z : refusedWith (refusalMeans r) (lengthOf r) ≡ appendOf s room used row = ap (refusedWith (refusalMeans r)) l ∙ ap sized q ∙ sym append-is in
         record { answers = z; leaves = leaves _ _ z }
 
-    module _ (q : E.done ≡ rowCheck s row) (needed : ℕ) (n : needed ≡ used + 4 + length row) where
-      whole : used + length (frame row) ≡ needed
-      whole = omega (arith, length-frame row)
-
-      pub append-short : length room < needed → Appends s room used row (L.Refused (F.Room needed)) room
-      unfolding sized
-      append-short h =
-          let z : refusedWith (N.numbered 4) needed ≡ appendOf s room used row = sym
-          (append-is ∙ ap sized (sym q) ∙ rw (whole, lt-leb needed (length room) h)) in
-          record { answers = z; leaves = leaves (N.numbered 4) needed z }
-
-      pub append-done : needed ≤ length room → {mid room′ : List ℕ} → mid ≡ sets room used (be 4 (length row))
-          → room′ ≡ sets mid (used + 4) (part row 0 (length row)) → Appends s room used row (L.Done needed) room′
-      unfolding sized frame appendedOf
-      append-done h {mid} {room′} u w =
-          let z : takes needed ≡ appendOf s room used row = sym (append-is ∙ ap sized (sym q) ∙ rw (whole, le-leb needed (length room) h)) in
-          let size : used + 4 ≡ used + length (be 4 (length row)) = ap (λ (m : ℕ). used + m) (sym (length-be 4 (length row))) in
-          let t : sets mid (used + 4) (part row 0 (length row)) ≡ sets room used (frame row) =
-          rw (u, part-whole row) (sets-then room used (used + 4) (be 4 (length row)) row size) in
-          record { answers = z; leaves = w ∙ t ∙ ap (λ (v : Sized). framedAt v room used row) z }
+    pub append-put : E.done ≡ rowCheck s row → {r : Length} {room′ : List ℕ} → PutsRow room used row r room′ → Appends s room used row r room′
+    unfolding sized appendedOf
+    append-put q p =
+        let z : sizedAfter none (used + length (frame row)) (length room) ≡ appendOf s room used row = ap sized q ∙ sym append-is in
+        record { answers = p .answers ∙ z; leaves = p .leaves ∙ ap (λ (v : Sized). framedAt v room used row) z }

@@ -8,8 +8,11 @@ use lib.ListN.{length, drop}
 use Rattle.words.specs.Bytes.{part}
 use Rattle.schema.specs.Kinds.{pick}
 use Rattle.layout.specs.Refusals.{Refusal, numbered}
-use Rattle.batch.specs.Frames.{big, framing, first, framed}
-use Rattle.batch.specs.Entries.{rowOf, startOf, Checking, refused, refusedRow}
+use Rattle.layout.specs.Entries.{sizedAfter}
+use Rattle.answers.specs.declared.Length.{Length}
+use Rattle.answers.specs.Meaning.{lengthMeans}
+use Rattle.batch.specs.Frames.{big, frame, framing, first, framed}
+use Rattle.batch.specs.Entries.{rowOf, startOf, framedAt, Checking, refused, refusedRow}
 use Rattle.batch.specs.declared.frames.Found.{Found}
 use Rattle.batch.specs.declared.frames.Found.the-variants as F
 
@@ -17,6 +20,11 @@ use Rattle.batch.specs.declared.frames.Found.the-variants as F
 pub record Says (b : List ℕ) (at r : ℕ) : Type 0 where
   pub is : r ≡ big (part b at 4)
   pub below : r < 2 ^ 32
+
+-- a row put in its frame behind the first used bytes of a room: the answer r, and what the room holds after
+pub record PutsRow (room : List ℕ) (used : ℕ) (row : List ℕ) (r : Length) (room′ : List ℕ) : Type 0 where
+  pub answers : lengthMeans r ≡ sizedAfter none (used + length (frame row)) (length room)
+  pub leaves : room′ ≡ framedAt (sizedAfter none (used + length (frame row)) (length room)) room used row
 
 -- a frame stands from at to end
 pub record Stands (b : List ℕ) (at end : ℕ) : Type 0 where

@@ -6,8 +6,9 @@ ghost use lib.Seq.{sets};
 ghost use Rattle.batch.specs.Frames.{be};
 ghost use Rattle.batch.specs.Entries.{countOf};
 ghost use Rattle.batch.specs.Meaning.{countMeans};
-ghost use Rattle.batch.specs.Places.{Says, FrameEnd, Passed, noFrame, Finds};
+ghost use Rattle.batch.specs.Places.{Says, PutsRow, FrameEnd, Passed, noFrame, Finds};
 use crate::Counted;
+use answers::Length;
 use answers::Refusal;
 use words::nums::wide;
 
@@ -32,7 +33,7 @@ fn size_at(b: &[u8], at: usize) -> usize
 }
 
 // A size as 4 bytes, the highest first.
-pub fn put_size(b: &mut [u8], at: usize, size: usize)
+fn put_size(b: &mut [u8], at: usize, size: usize)
     requires { ⌜ at + 4 ≤ length (now b) ⌝ }
     ensures { λ _. ⌜ now (b .exit) ≡ sets (now (b .entry)) at (be 4 size) ⌝ }
 {
@@ -40,6 +41,22 @@ pub fn put_size(b: &mut [u8], at: usize, size: usize)
     b[at + 1] = ((size >> 16) & 0xFF) as u8;
     b[at + 2] = ((size >> 8) & 0xFF) as u8;
     b[at + 3] = (size & 0xFF) as u8;
+}
+
+// A row in its frame behind the first `used` bytes of a room: the new length, or refused with 4. A checked row is as short as is asked here,
+// so the sum of the lengths doesn't wrap.
+pub fn put_row(room: &mut [u8], used: usize, row: &[u8]) -> Length
+    requires { ⌜ (used ≤ length (now room)) × (length (now row) ≤ 16384) ⌝ }
+    ensures { λ r. ⌜ PutsRow (now (room .entry)) used (now (row .entry)) r (now (room .exit)) ⌝ }
+{
+    let size = row.len();
+    let needed = used + 4 + size;
+    if room.len() < needed {
+        return Length::Refused(Refusal::Room { needed });
+    }
+    put_size(room, used, size);
+    words::copies::copy(room, used + 4, row, 0, size);
+    Length::Done(needed)
 }
 
 // The end of the frame at a place; 0, where no frame ends, if the bytes end inside it. No sum wraps: a slice has less than 2^63 bytes.

@@ -85,8 +85,8 @@ fn refuse_row(b: &[u8], end: usize, n: usize, r: Refusal) -> Checked
     }
 }
 
-// Frames and rows in one walk; behind a refused row the frames alone are looked at.
-fn check_rows(t: &[u64], batch: &[u8]) -> Checked
+// Frames and rows in one walk, by the table of an accepted schema; behind a refused row the frames alone are looked at.
+pub fn check_rows(t: &[u64], batch: &[u8]) -> Checked
     requires { ⌜ Table (now t) ⌝ }
     ensures { λ r. ⌜ checkMeans r ≡ checkOf (schemaOf (now (t .entry))) (now (batch .entry)) ⌝ }
 {
@@ -159,14 +159,7 @@ pub fn append(schema: &[u8], room: &mut [u8], used: usize, row: &[u8]) -> Length
             return Length::Refused(r);
         }
     }
-    let size = row.len();
-    let needed = used + 4 + size;
-    if room.len() < needed {
-        return Length::Refused(Refusal::Room { needed });
-    }
-    frames::put_size(room, used, size);
-    words::copies::copy(room, used + 4, row, 0, size);
-    Length::Done(needed)
+    frames::put_row(room, used, row)
 }
 
 // One place of row k, read by its path: the answer, or refused with 1, 10 or 5, then as `row::read` refuses. Ranges and

@@ -4,3 +4,4 @@ pub mod Steps
 pub mod Asking
 pub mod Unique
 pub mod InBatch
+pub mod Tabled

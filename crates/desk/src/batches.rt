@@ -1,14 +1,10 @@
 // The entries of `batch` under C names. A count, a place and a length may be over 32 bits, so they stand in words lent beside the code.
 ghost use mathlib.Core.Path.{_≡_};
-ghost use lib.ListN.{set};
-ghost use Rattle.layout.specs.Entries.{refusedWith};
-ghost use Rattle.answers.specs.Meaning.{refusalMeans, lengthOf};
 ghost use Rattle.answers.specs.Paths.{pathOf};
-ghost use Rattle.row.specs.Outcomes.{Low};
 ghost use Rattle.batch.specs.Entries.{countOf, fetchOf, checkOf, appendOf, appendedOf, readOf};
 ghost use Rattle.desk.specs.Asked.{askedOf, Leaves};
 ghost use Rattle.desk.specs.Batch.{countRefusal, countWords, fetchRefusal, fetchWords};
-ghost use Rattle.desk.specs.Batch.{checkCode, checkWords, appendCode, appendWords, Beside, AppendsTo, unfitIn, setAskedIn};
+ghost use Rattle.desk.specs.Batch.{checkCode, checkWords, Beside, AppendsTo, unfitIn, setAskedIn};
 ghost use Rattle.desk.specs.Codes.{refusalCode};
 ghost use Rattle.desk.specs.Words.{Told, Tells};
 use crate::Asked;
@@ -17,19 +13,9 @@ use crate::refusal_code;
 use crate::told;
 use answers::Length;
 use answers::Path;
-use answers::Refusal;
 use batch::Checked;
 use batch::Counted;
 use batch::Fetched;
-
-// A word of those lent, where it is one.
-fn put_word(answer: &mut [u64], i: usize, x: u64)
-    ensures { λ _. ⌜ now (answer .exit) ≡ set (now (answer .entry)) i x ⌝ }
-{
-    if i < answer.len() {
-        answer[i] = x;
-    }
-}
 
 #[no_mangle]
 pub extern "C" fn loaf_batch_count(batch: &[u8], answer: &mut [u64]) -> u64
@@ -65,24 +51,10 @@ pub extern "C" fn loaf_batch_check(schema: &[u8], batch: &[u8], answer: &mut [u6
         Checked::Done => 0,
         Checked::Refused(r) => refusal_code(r),
         Checked::RefusedRow { row, refusal } => {
-            put_word(answer, 0, row as u64);
+            told::put_word(answer, 0, row as u64);
             refusal_code(refusal)
         }
     }
-}
-
-// A refusal's code; with 4 the length needed beside it.
-fn tell_refusal(answer: &mut [u64], r: Refusal) -> u64
-    requires { ⌜ Low 16384 (refusalMeans r) ⌝ }
-    ensures { λ c. ⌜ Beside
-        (appendCode (refusedWith (refusalMeans r) (lengthOf r))) (appendWords (refusedWith (refusalMeans r) (lengthOf r)))
-        (now (answer .entry)) c (now (answer .exit)) ⌝ }
-{
-    if answers::refusals::number(r) != 4 {
-        return refusal_code(r);
-    }
-    put_word(answer, 0, answers::refusals::length(r) as u64);
-    refusal_code(r)
 }
 
 #[no_mangle]
@@ -100,10 +72,10 @@ pub extern "C" fn loaf_batch_append(
 {
     match batch::append(schema, room, used, row) {
         Length::Done(n) => {
-            put_word(answer, 0, n as u64);
+            told::put_word(answer, 0, n as u64);
             0
         }
-        Length::Refused(r) => tell_refusal(answer, r),
+        Length::Refused(r) => told::tell_refusal(answer, r),
     }
 }
 

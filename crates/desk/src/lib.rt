@@ -18,6 +18,7 @@ use answers::Setting;
 
 pub mod batches;
 mod kinds;
+pub mod tables;
 mod told;
 
 // What a kind and a value ask for: nothing that there is, or a setting.

@@ -1,12 +1,17 @@
-// An answer in words, where they fit: a number, two, or an answer of reading in four.
+// An answer in words, where they fit: a number, two, or an answer of reading in four; and a word beside a code.
+ghost use mathlib.Core.Path.{_≡_};
 ghost use mathlib.Core.List.{[], _∷_};
 ghost use mathlib.Core.Option.{none};
+ghost use lib.ListN.{set};
 ghost use Rattle.layout.specs.Setting.{refusalIn};
-ghost use Rattle.answers.specs.Meaning.{meaning, Numbered};
-ghost use Rattle.row.specs.Outcomes.{LowIn};
+ghost use Rattle.layout.specs.Entries.{refusedWith};
+ghost use Rattle.answers.specs.Meaning.{refusalMeans, lengthOf, meaning, Numbered};
+ghost use Rattle.row.specs.Outcomes.{Low, LowIn};
+ghost use Rattle.desk.specs.Batch.{appendCode, appendWords, Beside};
 ghost use Rattle.desk.specs.Words.{Told, Tells};
 use crate::refusal_code;
 use answers::Answer;
+use answers::Refusal;
 use answers::floats;
 
 pub fn put_one(answer: &mut [u64], a: u64) -> u64
@@ -61,4 +66,27 @@ pub fn put_answer(answer: &mut [u64], x: Answer) -> u64
         }
         Answer::Refused(r) => refusal_code(r),
     }
+}
+
+// A word of those lent, where it is one.
+pub fn put_word(answer: &mut [u64], i: usize, x: u64)
+    ensures { λ _. ⌜ now (answer .exit) ≡ set (now (answer .entry)) i x ⌝ }
+{
+    if i < answer.len() {
+        answer[i] = x;
+    }
+}
+
+// A refusal's code; with 4 the length needed beside it.
+pub fn tell_refusal(answer: &mut [u64], r: Refusal) -> u64
+    requires { ⌜ Low 16384 (refusalMeans r) ⌝ }
+    ensures { λ c. ⌜ Beside
+        (appendCode (refusedWith (refusalMeans r) (lengthOf r))) (appendWords (refusedWith (refusalMeans r) (lengthOf r)))
+        (now (answer .entry)) c (now (answer .exit)) ⌝ }
+{
+    if answers::refusals::number(r) != 4 {
+        return refusal_code(r);
+    }
+    put_word(answer, 0, answers::refusals::length(r) as u64);
+    refusal_code(r)
 }

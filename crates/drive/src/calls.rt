@@ -1,11 +1,17 @@
 // One call of the library for each op, and its line. Each answers where the line ends: 0 where there is none.
+use crate::calls_by;
 use crate::requests::Head;
 use telling::lines;
 ghost use Prim.Native.Nat.{_≤_};
 ghost use lib.ListN.{length};
 
+// So many words may be lent for a table, and what they hold before the call.
+const WORDS: usize = 1024;
+
+const FILL: u64 = 0xAAAA_AAAA_AAAA_AAAA;
+
 // The steps from their bytes, and how many there are.
-fn take_steps(bytes: &[u8], steps: &mut [u32]) -> usize
+pub fn take_steps(bytes: &[u8], steps: &mut [u32]) -> usize
     ensures { λ r. ⌜ r ≤ length (now (steps .exit)) ⌝ }
 {
     let n = bytes.len() / 4;
@@ -20,14 +26,14 @@ fn take_steps(bytes: &[u8], steps: &mut [u32]) -> usize
     i
 }
 
-fn path_of(bytes: &[u8]) -> answers::Path {
+pub fn path_of(bytes: &[u8]) -> answers::Path {
     let mut steps = [0u32; 64];
     let n = take_steps(bytes, &mut steps);
     desk::path_of(&steps[0..n])
 }
 
 // What the lent bytes hold before a call.
-fn fill(out: &mut [u8]) {
+pub fn fill(out: &mut [u8]) {
     let mut i = 0;
     while i < out.len() {
         out[i] = 0xAA;
@@ -53,14 +59,32 @@ fn at_most(n: usize, most: usize) -> usize
     if n < most { n } else { most }
 }
 
-// The batch laid over the start of a room, and the row appended there. A batch longer than the room is cut, and says how long it is.
-fn append(line: &mut [u8], schema: &[u8], bytes: &[u8], row: &[u8], out: &mut [u8]) -> usize {
+// A batch laid over the start of a room; a longer one is cut.
+pub fn lay(out: &mut [u8], bytes: &[u8]) {
     fill(out);
-    let used = bytes.len();
-    let n = at_most(used, out.len());
+    let n = at_most(bytes.len(), out.len());
     words::copies::copy(out, 0, bytes, 0, n);
-    let l = batch::append(schema, out, used, row);
+}
+
+// The row appended to the batch there, which says how long it is where it was cut, too.
+fn append(line: &mut [u8], schema: &[u8], bytes: &[u8], row: &[u8], out: &mut [u8]) -> usize {
+    lay(out, bytes);
+    let l = batch::append(schema, out, bytes.len(), row);
     telling::length(line, l, out)
+}
+
+fn work_out_in(line: &mut [u8], schema: &[u8], out: &mut [u64]) -> usize {
+    let code = desk::tables::loaf_table(schema, out);
+    telling::table(line, code, out)
+}
+
+// The field `room` counts words.
+fn work_out(line: &mut [u8], schema: &[u8], room: usize) -> usize {
+    if WORDS < room {
+        return 0;
+    }
+    let mut out = [FILL; 1024];
+    work_out_in(line, schema, &mut out[0..room])
 }
 
 fn set_row(
@@ -114,7 +138,7 @@ fn set(
 }
 
 // 0 also where the room is more than there is to lend.
-pub fn answer<'a>(
+fn answer_plain<'a>(
     h: Head,
     schema: &'a [u8],
     second: &'a [u8],
@@ -142,6 +166,25 @@ pub fn answer<'a>(
         b'k' => telling::checked(line, batch::check(schema, second)),
         b'A' => append(line, schema, second, third, &mut out[0..room]),
         b'g' => telling::answer(line, batch::read(schema, second, room, path_of(steps))),
+        b'T' => work_out(line, schema, room),
         _ => 0,
     }
+}
+
+// By the lent table where the head says so, and otherwise by the schema alone.
+pub fn answer<'a>(
+    h: Head,
+    table: &'a [u64],
+    schema: &'a [u8],
+    second: &'a [u8],
+    steps: &'a [u8],
+    third: &'a [u8],
+    out: &mut [u8],
+    line: &mut [u8],
+) -> usize {
+    let by_table = h.by_table;
+    if by_table {
+        return calls_by::answer(h, table, schema, second, steps, third, out, line);
+    }
+    answer_plain(h, schema, second, steps, third, out, line)
 }

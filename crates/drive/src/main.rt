@@ -3,6 +3,7 @@ ghost use Prim.Native.Nat.{_≤_};
 ghost use lib.ListN.{length};
 
 mod calls;
+mod calls_by;
 mod requests;
 
 // More requests than any run holds: the loop counts them, so that it ends on every input.

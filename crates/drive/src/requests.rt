@@ -1,4 +1,4 @@
-// A request: its head, and the parts that it announces.
+// A request: its head, the table behind it where one is lent, and the parts that it announces.
 ghost use Prim.Native.Nat.{_≤_};
 ghost use lib.ListN.{length};
 use crate::calls;
@@ -15,7 +15,15 @@ const STEPS: usize = 64;
 
 const THIRD: usize = 20000;
 
-// The lengths count bytes, `steps` the steps of 4 bytes each, and `room` the bytes lent for an output.
+// So many words a lent table may have; a number of words that stands for one that is longer or cut short.
+const WORDS: usize = 1024;
+
+const NO_TABLE: usize = WORDS + 1;
+
+// The bit of a kind that says: by a table.
+const BY_TABLE: u8 = 0x80;
+
+// The lengths count bytes, `steps` the steps of 4 bytes each, and `room` the bytes lent for an output, or the words for a table.
 pub struct Head {
     pub op: u8,
     pub schema: usize,
@@ -23,6 +31,7 @@ pub struct Head {
     pub steps: usize,
     pub room: usize,
     pub third: usize,
+    pub by_table: bool,
     pub kind: u8,
     pub value: u64,
 }
@@ -49,9 +58,46 @@ fn read_head() -> Start {
         steps: words::nums::get4(&bytes, 9),
         room: words::nums::get4(&bytes, 13),
         third: words::nums::get4(&bytes, 17),
-        kind: bytes[21],
+        by_table: BY_TABLE <= bytes[21],
+        kind: bytes[21] % BY_TABLE,
         value: words::nums::get8(&bytes, 22),
     })
+}
+
+// The words from their bytes, and how many there are.
+fn take_words(bytes: &[u8], table: &mut [u64]) -> usize {
+    let n = bytes.len() / 8;
+    let mut i = 0;
+    while i < n {
+        if table.len() <= i {
+            break;
+        }
+        table[i] = words::nums::get8(bytes, 8 * i);
+        i += 1;
+    }
+    i
+}
+
+// How many words the table behind the head has, which then stand at the start of the lent ones: none where the request is by its schema
+// alone. Their bytes go through the room of the parts, which are read after them.
+fn read_table(by_table: bool, body: &mut [u8], table: &mut [u64]) -> usize
+    requires { ⌜ 92304 ≤ length (now body) ⌝ }
+{
+    if !by_table {
+        return 0;
+    }
+    if io::read_full(STDIN_FILENO, &mut body[0..4]) < 4 {
+        return NO_TABLE;
+    }
+    let n = words::nums::get4(body, 0);
+    if WORDS < n {
+        return NO_TABLE;
+    }
+    let end = 8 * n;
+    if io::read_full(STDIN_FILENO, &mut body[0..end]) < end {
+        return NO_TABLE;
+    }
+    take_words(&body[0..end], table)
 }
 
 // The line of a request, written; false where it has none.
@@ -67,7 +113,7 @@ fn write_line(line: &mut [u8], end: usize) -> bool {
 }
 
 // The parts of a request and its line; false where it is beyond the limits, cut short, or of no op.
-fn serve(h: Head, body: &mut [u8], out: &mut [u8], line: &mut [u8]) -> bool
+fn serve_parts(h: Head, table: &[u64], body: &mut [u8], out: &mut [u8], line: &mut [u8]) -> bool
     requires { ⌜ 92304 ≤ length (now body) ⌝ }
 {
     let schema = h.schema;
@@ -95,6 +141,7 @@ fn serve(h: Head, body: &mut [u8], out: &mut [u8], line: &mut [u8]) -> bool
     let whole = &body[..];
     let n = calls::answer(
         h,
+        table,
         &whole[0..schema],
         &whole[schema..second_end],
         &whole[second_end..steps_end],
@@ -103,6 +150,18 @@ fn serve(h: Head, body: &mut [u8], out: &mut [u8], line: &mut [u8]) -> bool
         line,
     );
     write_line(line, n)
+}
+
+// The same, with the table behind the head.
+fn serve(h: Head, body: &mut [u8], out: &mut [u8], line: &mut [u8]) -> bool
+    requires { ⌜ 92304 ≤ length (now body) ⌝ }
+{
+    let mut table = [0u64; 1024];
+    let count = read_table(h.by_table, body, &mut table);
+    if WORDS < count {
+        return false;
+    }
+    serve_parts(h, &table[0..count], body, out, line)
 }
 
 fn end_run() -> bool {

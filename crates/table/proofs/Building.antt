@@ -77,7 +77,7 @@ pub record Opened (s T F : List ℕ) (d at i n base w k c : ℕ) : Type 0 where
   pub some : 0 < c
   pub shallow : d < 6
 
-neither : {j : Judged} → j ≡ Accepted → j ≡ Refused → ⊥
+pub neither : {j : Judged} → j ≡ Accepted → j ≡ Refused → ⊥
 neither e f = let q : _≡_ {A = Judged} Accepted Refused = sym e ∙ f in let z : _≡_ {A = ℕ} 0 1 = cc in omega arith
 
 pub built : {s : List ℕ} {r : ℕ} {T : List ℕ} → judged s ≡ Accepted → BuiltAt s r T → Built s r T
@@ -210,7 +210,7 @@ module _ {s T F : List ℕ} {d at i n base w k : ℕ} (m : Marked s T F d at i n
   unfolding word
   leaf-word = omega arith
 
-  leaf-run : k < 9 → run s F d at i n T ≡ run s F d (at + 2) (i + 1) (n - 1) (set T i (w + base))
+  pub leaf-run : k < 9 → run s F d at i n T ≡ run s F d (at + 2) (i + 1) (n - 1) (set T i (w + base))
   leaf-run h = run-on s F d at i n T (at + 2) (i + 1) (n - 1) (set T i (w + base))
       (leaf-fill h ∙ ap (λ (u : ℕ). fill s (at + 2) (i + 1) (n - 1) (7 - d) (d + 2) (set T i u)) (sym leaf-word))
 
@@ -285,7 +285,7 @@ module _ {s T F : List ℕ} {d at i n base v : ℕ} (x : Leaving s T F d at i n 
   pub pop-kept : {r : ℕ} → length T ≡ r → length (set T (getD F d 0 / 256) v) ≡ r
   pop-kept e = length-set T (getD F d 0 / 256) v ∙ e
 
-  pop-run : 0 < d → run s F d at i n T ≡ run s F (d - 1) at i (getD F d 0 % 256) (set T (getD F d 0 / 256) v)
+  pub pop-run : 0 < d → run s F d at i n T ≡ run s F (d - 1) at i (getD F d 0 % 256) (set T (getD F d 0 / 256) v)
   pop-run h = run-pop s F d at i n T (x .none) h ∙ ap (run s F (d - 1) at i (getD F d 0 % 256)) (sym is-patch)
 
   pub going-pop : (d ≡ 0 → ⊥) → Going s (set T (getD F d 0 / 256) v) F (d - 1) at i (getD F d 0 % 256) (base - 4294967296)

@@ -124,7 +124,7 @@ module _ {s T F : List ℕ} {d at i n base w k c : ℕ} (o : Opened s T F d at i
     unfolding word
     open-word = omega arith
 
-    open-run : run s F d at i n T ≡ run s (set F (d + 1) x) (d + 1) at′ (i + 1) c (set T i W)
+    pub open-run : run s F d at i n T ≡ run s (set F (d + 1) x) (d + 1) at′ (i + 1) c (set T i W)
     open-run = run-push s F d at i n T k c at′ x (o .shallow) (o .marked .looking .going .frames) (omega arith) (omega arith) open-fill
         ∙ ap (λ (u : ℕ). run s (set F (d + 1) x) (d + 1) at′ (i + 1) c (set T i u)) (sym open-word)
 

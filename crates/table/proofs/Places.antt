@@ -38,7 +38,7 @@ mutual
   many-size (ma K U) = omega (arith, size-ma K U, many-size K, many-size U)
   many-size (ro ts) = omega (arith, size-ro ts, manys-sizes ts)
 
-  manys-sizes : (ts : Tys) → 2 * manys ts ≤ sizes ts
+  pub manys-sizes : (ts : Tys) → 2 * manys ts ≤ sizes ts
   manys-sizes end = omega (arith, sizes-done)
   manys-sizes (X then ts) = omega (arith, sizes-more X ts, many-size X, manys-sizes ts)
 

@@ -58,31 +58,31 @@ pub const STRUCT: usize = 11;
 
 // One in a column of an entry: of its line the kind in bits 28 to 31, then the depth in 32 to 35, the number of children in 36 to 43, the
 // place of the first child in 44 to 53, and the place behind the last descendant in 54 to 63.
-const KIND: u64 = 0x1000_0000;
+pub const KIND: u64 = 0x1000_0000;
 
-const DEPTH: u64 = 0x1_0000_0000;
+pub const DEPTH: u64 = 0x1_0000_0000;
 
-const COUNT: u64 = 0x10_0000_0000;
+pub const COUNT: u64 = 0x10_0000_0000;
 
 const FIRST: u64 = 0x1000_0000_0000;
 
-const AFTER: u64 = 0x40_0000_0000_0000;
+pub const AFTER: u64 = 0x40_0000_0000_0000;
 
 // The mark of a struct, which a schema begins with, and the root's entry but for its fields and its end.
-const STRUCT_MARK: u64 = 0x6F72;
+pub const STRUCT_MARK: u64 = 0x6F72;
 
-const ROOT: u64 = STRUCT_MARK + STRUCT as u64 * KIND + DEPTH + FIRST;
+pub const ROOT: u64 = STRUCT_MARK + STRUCT as u64 * KIND + DEPTH + FIRST;
 
 // The lines of containers are those from here on.
 const CONTAINERS: u64 = LIST as u64 * KIND;
 
 // What a leaf's entry adds to its line as the root's first field; and by how much more it adds behind another leaf, and as a container's
 // first child.
-const FIELD: u64 = 2 * (DEPTH + FIRST + AFTER);
+pub const FIELD: u64 = 2 * (DEPTH + FIRST + AFTER);
 
-const NEXT: u64 = FIRST + AFTER;
+pub const NEXT: u64 = FIRST + AFTER;
 
-const CHILD: u64 = DEPTH + FIRST + AFTER;
+pub const CHILD: u64 = DEPTH + FIRST + AFTER;
 
 fn wide(x: u8) -> u64
     ensures { λ r. ⌜ r ≡ x ⌝ }
@@ -90,14 +90,14 @@ fn wide(x: u8) -> u64
     x as u64
 }
 
-fn widen(x: u32) -> u64
+pub fn widen(x: u32) -> u64
     ensures { λ r. ⌜ r ≡ x ⌝ }
 {
     x as u64
 }
 
 // The two bytes of a mark as a number.
-fn mark_at(s: &[u8], at: usize) -> u64
+pub fn mark_at(s: &[u8], at: usize) -> u64
     requires { ⌜ at + 2 ≤ length (now s) ⌝ }
     ensures { λ r. ⌜ MarkAt (now (s .entry)) at r ⌝ }
 {

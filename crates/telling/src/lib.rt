@@ -38,15 +38,26 @@ pub fn bytes(line: &mut [u8], code: u64, bytes: &[u8]) -> usize {
     lines::put_bytes(line, end, bytes)
 }
 
-// The same where the code of what was done is its length.
-pub fn output(line: &mut [u8], code: u64, out: &[u8]) -> usize {
+// A code that is a length where the call is done.
+fn sized(line: &mut [u8], code: u64) -> usize {
     if code >> 32 != 0 {
-        return bytes(line, code, out);
+        return verdict(line, code);
     }
     let end = lines::put_text(line, 0, b"done");
-    let end = lines::put_number(line, end, code);
+    lines::put_number(line, end, code)
+}
+
+// The same with all of the lent bytes, or of the lent words, after the call.
+pub fn output(line: &mut [u8], code: u64, out: &[u8]) -> usize {
+    let end = sized(line, code);
     let end = lines::put_byte(line, end, b' ');
     lines::put_bytes(line, end, out)
+}
+
+pub fn table(line: &mut [u8], code: u64, out: &[u64]) -> usize {
+    let end = sized(line, code);
+    let end = lines::put_byte(line, end, b' ');
+    lines::put_words(line, end, out)
 }
 
 fn range(line: &mut [u8], name: &[u8], start: usize, len: usize) -> usize {

@@ -42,12 +42,17 @@ pub fn put_signed(line: &mut [u8], at: usize, n: i64) -> usize {
     put_decimal(line, sign, 0xFFFF_FFFF_FFFF_FFFF - bits + 1)
 }
 
-// A space, and at least `width` hexadecimal digits.
-pub fn put_bits(line: &mut [u8], at: usize, n: u64, width: usize) -> usize {
-    let start = put_byte(line, at, b' ');
+// At least `width` hexadecimal digits.
+fn put_hex(line: &mut [u8], at: usize, n: u64, width: usize) -> usize {
     let mut digits = [0u8; 16];
     let k = io::hex(n, width, &mut digits);
-    put_text(line, start, &digits[0..k])
+    put_text(line, at, &digits[0..k])
+}
+
+// A space, and such digits.
+pub fn put_bits(line: &mut [u8], at: usize, n: u64, width: usize) -> usize {
+    let start = put_byte(line, at, b' ');
+    put_hex(line, start, n, width)
 }
 
 // The digit of the lower half.
@@ -67,6 +72,20 @@ pub fn put_bytes(line: &mut [u8], at: usize, bytes: &[u8]) -> usize {
         let b = bytes[i];
         end = put_byte(line, end, hex_digit(b / 16));
         end = put_byte(line, end, hex_digit(b));
+        i += 1;
+    }
+    end
+}
+
+// Sixteen digits for each word of a table, `-` for none.
+pub fn put_words(line: &mut [u8], at: usize, table: &[u64]) -> usize {
+    if table.len() == 0 {
+        return put_byte(line, at, b'-');
+    }
+    let mut end = at;
+    let mut i = 0;
+    while i < table.len() {
+        end = put_hex(line, end, table[i], 16);
         i += 1;
     }
     end

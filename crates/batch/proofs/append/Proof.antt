@@ -1,10 +1,9 @@
 -- `batch::append` meets its contract. Assumes nothing.
-use mathlib.Core.Path.{refl, sym, ap, _∙_}
-use native.Mathlib.Omega.{arith}
+use mathlib.Core.Path.{sym, ap, _∙_}
 use lib.Seq.{length-take-le}
 use Rattle.answers.specs.Meaning.{outcomeMeans}
 use Rattle.batch.proofs.Passing.{count-whole, count-none}
-use Rattle.batch.proofs.Added.{row-small, lent-none, lent-is, append-broken, append-refused, append-short, append-done}
+use Rattle.batch.proofs.Added.{row-small, lent-none, lent-is, append-broken, append-refused, append-put}
 use borrow.Author.Needs.{needs}
 use Rattle.batch.proofs.append.Statement.{statement}
 use Rattle.batch.proofs.append.Tie as tie
@@ -59,43 +58,20 @@ returns-3 c =
     let l = lent-is _ _ (c .before .before .before .before .before .before .before .before .if1 .left) ∙ w .is in
     append-refused _ _ _ _ l _ (sym (ap outcomeMeans (c .before .r .given .1)) ∙ c .before .before .before .check .ensures)
 
-add-needed : tie.Need-add-needed
-add-needed c = search needs
-
-add-needed-2 : tie.Need-add-needed-2
-add-needed-2 c =
-    let small = row-small _ _ (sym (ap outcomeMeans (c .enum-told3 .given .1)) ∙ c .before .before .check .ensures) in
-    record { fits = omega (arith, small, c .before .before .before .before .before .before .before .if1 .left) }
+put-row-requires : tie.Need-put-row-requires
+put-row-requires c κs =
+    let small = row-small _ _ (sym (ap outcomeMeans (c .before .enum-told3 .given .1)) ∙ c .before .before .before .check .ensures) in
+    (c .before .before .before .before .before .before .before .before .if1 .left, small)
 
 same-length-3 : tie.Need-same-length-3
 same-length-3 c = search needs
 
 returns-4 : tie.Need-returns-4
 returns-4 c =
-    let w = count-whole (c .before .before .before .before .enum-told .given .1) (c .before .before .before .before .before .before .count .ensures) in
-    let l = lent-is _ _ (c .before .before .before .before .before .before .before .before .if1 .left) ∙ w .is in
-    append-short _ _ _ _ l (sym (ap outcomeMeans (c .before .enum-told3 .given .1)) ∙ c .before .before .before .check .ensures) _ refl (c .if2 .taken)
-
-put-size-requires : tie.Need-put-size-requires
-put-size-requires c κs = search needs
-
-add-copy : tie.Need-add-copy
-add-copy c = search needs
-
-copy-requires : tie.Need-copy-requires
-copy-requires c κs = search needs
-
-same-length-4 : tie.Need-same-length-4
-same-length-4 c = search needs
-
-returns-5 : tie.Need-returns-5
-returns-5 c =
-    let d = c .before .before .before .before .before .before .before .before in
-    let t = d .before in
+    let t = c .before .before .before .before in
     let w = count-whole (t .before .before .before .enum-told .given .1) (t .before .before .before .before .before .count .ensures) in
     let l = lent-is _ _ (t .before .before .before .before .before .before .before .if1 .left) ∙ w .is in
-    append-done _ _ _ _ l (sym (ap outcomeMeans (t .enum-told3 .given .1)) ∙ t .before .before .check .ensures) _ refl (d .if2 .left)
-    (c .before .before .before .before .before .before .put-size .ensures) (c .before .before .copy .ensures)
+    append-put _ _ _ _ l (sym (ap outcomeMeans (t .enum-told3 .given .1)) ∙ t .before .before .check .ensures) (c .before .before .put-row .ensures)
 
 pub append-spec : {M : Type 1} → statement M
 append-spec =
@@ -116,12 +92,6 @@ append-spec =
     enum-known-r
     same-length-2
     returns-3
-    add-needed
-    add-needed-2
+    put-row-requires
     same-length-3
-    returns-4
-    put-size-requires
-    add-copy
-    copy-requires
-    same-length-4
-    returns-5)
+    returns-4)

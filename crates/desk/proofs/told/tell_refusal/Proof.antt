@@ -1,9 +1,9 @@
--- `desk::batches::tell_refusal` meets its contract. Assumes nothing.
+-- `desk::told::tell_refusal` meets its contract. Assumes nothing.
 use mathlib.Core.Path.{sym, _∙_}
 use Rattle.desk.proofs.InBatch.{refusal-alone, refusal-told}
 use borrow.Author.Needs.{needs}
-use Rattle.desk.proofs.batches.tell_refusal.Statement.{statement}
-use Rattle.desk.proofs.batches.tell_refusal.Tie as tie
+use Rattle.desk.proofs.told.tell_refusal.Statement.{statement}
+use Rattle.desk.proofs.told.tell_refusal.Tie as tie
 
 number-requires : tie.Need-number-requires
 number-requires c κs = search needs

@@ -1,9 +1,9 @@
--- `desk::batches::put_word` meets its contract. Assumes nothing.
+-- `desk::told::put_word` meets its contract. Assumes nothing.
 use mathlib.Core.Path.{sym}
 use lib.Seq.{set-out}
 use borrow.Author.Needs.{needs}
-use Rattle.desk.proofs.batches.put_word.Statement.{statement}
-use Rattle.desk.proofs.batches.put_word.Tie as tie
+use Rattle.desk.proofs.told.put_word.Statement.{statement}
+use Rattle.desk.proofs.told.put_word.Tie as tie
 
 mul-answer : tie.Need-mul-answer
 mul-answer c = search needs

@@ -1,0 +1,10 @@
+pub mod Lent
+pub mod Leaves
+pub mod Opened
+pub mod Runs
+pub mod Expected
+pub mod Root
+pub mod Columns
+pub mod Following
+pub mod Closing
+pub mod Refusing

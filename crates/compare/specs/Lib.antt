@@ -1,0 +1,3 @@
+-- What the contracts of `compare` cite.
+pub mod Lines
+pub mod Lent
