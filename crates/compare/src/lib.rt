@@ -36,7 +36,7 @@ pub const LEAVES: [u32; 16] = [
     0x0,
 ];
 
-// What a container's entry says beside its depth, its place and its end; a struct's without its fields.
+// What a container's entry says beside its depth, its place and its end, its mark (`li`, `ma`) first; a struct's without its fields.
 const LIST_ENTRY: u64 = 0x696C + LIST as u64 * KIND + COUNT;
 
 const MAP_ENTRY: u64 = 0x616D + MAP as u64 * KIND + 2 * COUNT;
@@ -107,6 +107,7 @@ pub fn gives(s: &[u8], t: &[u64]) -> bool
     let mut d: usize = 0;
     let mut base: u64 = FIELD;
     loop {
+        // The entry, less the place and the depth that are due here: a leaf's is then its line.
         let w = std::num::wrapping_sub_u64(t[i], base);
         if is_leaf(&lines, w) {
             if table::mark_at(s, 2 * i + extra) != w % 65536 {
@@ -115,6 +116,7 @@ pub fn gives(s: &[u8], t: &[u64]) -> bool
             i += 1;
             base += NEXT;
             n -= 1;
+            // Each container whose last type this was says that it ends here; that the root does, its entry said first.
             while n == 0 {
                 if d == 0 {
                     return left == 1 && extra == most;
