@@ -53,7 +53,7 @@ module _ {s t F : List ℕ} {d i x n base left : ℕ} (f : Follows s t F d i x n
   low = small f .place
 
   there : getD T p 0 ≡ getD t p 0 % 18014398509481984
-  there = opened-at (roomy t) (f .rising) in-room ∙ ap (λ (u : ℕ). u % 18014398509481984) (roomy-at t p place-in)
+  there = opened-at (roomy t) F d in-room ∙ ap (λ (u : ℕ). u % 18014398509481984) (roomy-at t p place-in)
 
   -- its entry with its end is the one that stands there
   closed : getD t p 0 / 18014398509481984 ≡ i → getD (roomy t) p 0 ≡ v
@@ -66,7 +66,7 @@ module _ {s t F : List ℕ} {d i x n base left : ℕ} (f : Follows s t F d i x n
       let l : 0 < d = omega arith in
       record {
         going = subst (λ (u : List ℕ). Going s u F (d - 1) (2 * i + x) i (getD F d 0 % 256) (base - 4294967296))
-            (opened-pop (roomy t) (f .rising) l in-room (closed e)) (going-pop leaving h);
+            (opened-pop (roomy t) (f .rising) l (closed e)) (going-pop leaving h);
         rising = rising-pop (f .rising);
         asked = omega (arith, f .asked, owed-pop F d l);
         spare = f .spare;
@@ -107,7 +107,7 @@ module _ {s t F : List ℕ} {d i x n base left : ℕ} (f : Follows s t F d i x n
         let i-all : i ≡ length t = omega (arith, f .asked, none-owed) in
         let e : getD t p 0 / 18014398509481984 ≡ i = ap (λ (u : ℕ). getD t u 0 / 18014398509481984) root-place ∙ f .whole ∙ sym i-all in
         let q : 2 * i + x ≡ length s = omega (arith, f .beyond) in
-        let k = subst (λ (u : List ℕ). Built s i u) (opened-end (roomy t) (f .rising) h in-room (closed e)) (going-done leaving h q) in
+        let k = subst (λ (u : List ℕ). Built s i u) (opened-end (roomy t) F d h (closed e)) (going-done leaving h q) in
         by k i-all (judged s) refl
       where
         by : Built s i (roomy t) → i ≡ length t → (j : Judged) → judged s ≡ j → Own s t

@@ -89,9 +89,6 @@ module _ {s t F : List ℕ} {d i x n base left : ℕ} (f : Faces s t F d i x n b
   pub based : Based d i base
   based = let r = small (f .follows) in record { made = r .made; deep = r .deep; short = r .place }
 
-  in-room : i < length (roomy t)
-  in-room = omega (arith, roomy-long t, word-in)
-
 -- ---- a leaf
 
 module _ {s t F : List ℕ} {d i x n base left w m : ℕ} (y : Takes s t F d i x n base left w) (l : isLeaf w ≡ true) (q : MarkAt s (2 * i + x) m)
@@ -117,7 +114,7 @@ module _ {s t F : List ℕ} {d i x n base left w m : ℕ} (y : Takes s t F d i x
       let g = going-leaf leaf-marked (leaf-low l) in
       let a : 2 * i + x + 2 ≡ 2 * (i + 1) + x = omega arith in
       let h = subst (λ (u : List ℕ). Going s u F d (2 * i + x + 2) (i + 1) (n - 1) (base + 18031990695526400))
-      (opened-leaf (roomy t) (f .rising) (in-room (y .faces)) leaf-entry) g in
+      (opened-leaf (roomy t) (f .rising) leaf-entry) g in
       record {
         going = subst (λ (u : ℕ). Going s T F d u (i + 1) (n - 1) (base + 18031990695526400)) a h;
         rising = rising-next (f .rising);
@@ -186,7 +183,7 @@ module _ {s t F : List ℕ} {d i x n base left w k c x′ : ℕ} (y : Opens s t 
       record {
         follows = record {
           going = subst (λ (v : List ℕ). Going s v (set F (d + 1) frame) (d + 1) (2 * (i + 1) + x′) (i + 1) c (base + 18031994990493696))
-              (opened-push (roomy t) frame (b .rising) (b .going .frames) u a open-entry) (p .going);
+              (opened-push (roomy t) F d frame (b .going .frames) u a open-entry) (p .going);
           rising = rising-push frame (b .rising) (b .going .frames) u a;
           asked = omega (arith, b .asked, o, e, g .some, y .enough);
           spare = omega (arith, y .enough);

@@ -72,15 +72,12 @@ opened-other P F (suc d) p h =
     ∙ opened-other P F d p (λ q k. h q (omega arith))
 
 -- the innermost container has no end
-pub opened-at : {F : List ℕ} {d i : ℕ} (P : List ℕ) → Rising F d i → getD F d 0 / 256 < length P
+pub opened-at : (P F : List ℕ) (d : ℕ) → getD F d 0 / 256 < length P
     → getD (opened P F d) (getD F d 0 / 256) 0 ≡ getD P (getD F d 0 / 256) 0 % 18014398509481984
 unfolding opened
-opened-at {F} {d} P h l = go d l
-  where
-    go : (d : ℕ) → getD F d 0 / 256 < length P → getD (opened P F d) (getD F d 0 / 256) 0 ≡ getD P (getD F d 0 / 256) 0 % 18014398509481984
-    go zero l = getD-set-same P (getD F 0 0 / 256) (getD P (getD F 0 0 / 256) 0 % 18014398509481984) 0 l
-    go (suc d) l =
-        getD-set-same (opened P F d) (getD F (suc d) 0 / 256) (getD P (getD F (suc d) 0 / 256) 0 % 18014398509481984) 0 (rw (opened-length P F d) l)
+opened-at P F zero l = getD-set-same P (getD F 0 0 / 256) (getD P (getD F 0 0 / 256) 0 % 18014398509481984) 0 l
+opened-at P F (suc d) l =
+    getD-set-same (opened P F d) (getD F (suc d) 0 / 256) (getD P (getD F (suc d) 0 / 256) 0 % 18014398509481984) 0 (rw (opened-length P F d) l)
 
 -- ---- stores
 
@@ -100,13 +97,13 @@ opened-above P F r x (suc d) l =
     (opened-above P F r x d (omega arith))
 
 -- a leaf's entry is whole
-pub opened-leaf : {F : List ℕ} {d i v : ℕ} (P : List ℕ) → Rising F d i → i < length P → getD P i 0 ≡ v → set (opened P F d) i v ≡ opened P F d
-opened-leaf {F} {d} {i} {v} P h l e = again P F d i v (λ q k z. absurd (omega (arith, h .below q k))) e
+pub opened-leaf : {F : List ℕ} {d i v : ℕ} (P : List ℕ) → Rising F d i → getD P i 0 ≡ v → set (opened P F d) i v ≡ opened P F d
+opened-leaf {F} {d} {i} {v} P h e = again P F d i v (λ q k z. absurd (omega (arith, h .below q k))) e
 
 -- a container's entry, without its end, opens the container
-pub opened-push : {F : List ℕ} {d i v : ℕ} (P : List ℕ) (x : ℕ) → Rising F d i → length F ≡ 8 → d + 1 < 8 → x / 256 ≡ i
+pub opened-push : {i v : ℕ} (P F : List ℕ) (d x : ℕ) → length F ≡ 8 → d + 1 < 8 → x / 256 ≡ i
     → getD P i 0 % 18014398509481984 ≡ v → set (opened P F d) i v ≡ opened P (set F (d + 1) x) (d + 1)
-opened-push {F} {d} {i} {v} P x h e l z w = rw (add-one d) back
+opened-push {i} {v} P F d x e l z w = rw (add-one d) back
   where
     frame : getD (set F (suc d) x) (suc d) 0 / 256 ≡ i
     frame = ap (λ (u : ℕ). u / 256) (getD-set-same F (suc d) x 0 (omega arith)) ∙ z
@@ -117,9 +114,9 @@ opened-push {F} {d} {i} {v} P x h e l z w = rw (add-one d) back
         ∙ rw w (ap (λ (u : List ℕ). set u i v) (opened-above P F (suc d) x d (omega arith))))
 
 -- the innermost container's whole entry closes it
-pub opened-pop : {F : List ℕ} {d i v : ℕ} (P : List ℕ) → Rising F d i → 0 < d → getD F d 0 / 256 < length P → getD P (getD F d 0 / 256) 0 ≡ v
+pub opened-pop : {F : List ℕ} {d i v : ℕ} (P : List ℕ) → Rising F d i → 0 < d → getD P (getD F d 0 / 256) 0 ≡ v
     → set (opened P F d) (getD F d 0 / 256) v ≡ opened P F (d - 1)
-opened-pop {F} {d} {i} {v} P h l b e = go d h l e
+opened-pop {F} {d} {i} {v} P h l e = go d h l e
   where
     go : (d : ℕ) → Rising F d i → 0 < d → getD P (getD F d 0 / 256) 0 ≡ v → set (opened P F d) (getD F d 0 / 256) v ≡ opened P F (d - 1)
     go zero h l e = absurd (omega arith)
@@ -130,13 +127,9 @@ opened-pop {F} {d} {i} {v} P h l b e = go d h l e
         ∙ again P F d (getD F (suc d) 0 / 256) v (λ q k z. absurd (omega (arith, h .up q (suc d) (omega arith) (omega arith)))) e)
 
 -- the outermost container closed, the table is whole
-pub opened-end : {F : List ℕ} {d i v : ℕ} (P : List ℕ) → Rising F d i → d ≡ 0 → getD F d 0 / 256 < length P → getD P (getD F d 0 / 256) 0 ≡ v
-    → set (opened P F d) (getD F d 0 / 256) v ≡ P
+pub opened-end : {v : ℕ} (P F : List ℕ) (d : ℕ) → d ≡ 0 → getD P (getD F d 0 / 256) 0 ≡ v → set (opened P F d) (getD F d 0 / 256) v ≡ P
 unfolding opened
-opened-end {F} {d} {i} {v} P h z b e = go d z e
-  where
-    go : (d : ℕ) → d ≡ 0 → getD P (getD F d 0 / 256) 0 ≡ v → set (opened P F d) (getD F d 0 / 256) v ≡ P
-    go zero z e =
-        set-set P (getD F 0 0 / 256) (getD P (getD F 0 0 / 256) 0 % 18014398509481984) v
-        ∙ ap (set P (getD F 0 0 / 256)) (sym e) ∙ set-getD P (getD F 0 0 / 256) 0
-    go (suc d) z e = absurd (omega arith)
+opened-end {v} P F zero z e =
+    set-set P (getD F 0 0 / 256) (getD P (getD F 0 0 / 256) 0 % 18014398509481984) v
+    ∙ ap (set P (getD F 0 0 / 256)) (sym e) ∙ set-getD P (getD F 0 0 / 256) 0
+opened-end P F (suc d) z e = absurd (omega arith)

@@ -4,3 +4,4 @@ pub mod Copying
 pub mod InBatch
 pub mod Twins
 pub mod Demand1
+pub mod Single

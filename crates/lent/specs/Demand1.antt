@@ -1,5 +1,5 @@
--- Demand 1 for the twins, as it is read: by any table each answers a result or one of the numbers of its entry, a place lies in the row, and a
--- refusal leaves every lent byte. Assumes nothing: these are definitions.
+-- Demand 1 for the twins and for `table`, as it is read: by any table each twin answers a result or one of the numbers of its entry, a place lies
+-- in the row, and a refusal leaves every lent byte. Assumes nothing: these are definitions.
 use mathlib.Core.Path.{_≡_}
 use mathlib.Core.List.{List, [], _∷_}
 use Prim.Native.Nat.{ℕ, _≤_}
@@ -10,6 +10,7 @@ use Rattle.layout.specs.Setting as S
 use Rattle.layout.specs.Entries as E
 use Rattle.row.specs.Demand1.{Ends, Fills, Gives, ReadGives, Sets}
 use Rattle.batch.specs.Demand1.{Finds, Checks, fetchNumbers, readNumbers, setNumbers}
+use Rattle.lent.specs.Tabulated.{tabulateOf, tabledOf}
 use Rattle.lent.specs.Twins.{Asked, judge, check, write, list, read, set, fetchIn, checkIn, appendIn, readIn, setIn, Ended, endsBy}
 
 -- what the entry that is asked may end with
@@ -30,3 +31,5 @@ Well (setIn b k p x) e = Sets setNumbers (e .0) × ((r : Refusal) → e .0 ≡ S
 
 pub record Demand1 : Type 0 where
   pub all : (s t : List ℕ) (q : Asked) → Well q (endsBy s t q)
+  pub table : (s : List ℕ) (room : ℕ) → Fills (1 ∷ []) room (tabulateOf s room)
+  pub table-leaves : (s out : List ℕ) (r : Refusal) (k : ℕ) → tabulateOf s (length out) ≡ E.refusedWith r k → tabledOf s out ≡ out

@@ -2,3 +2,4 @@
 pub mod Tabulated
 pub mod Twins
 pub mod Demand1
+pub mod Unique
