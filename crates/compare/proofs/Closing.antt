@@ -50,7 +50,7 @@ module _ {s t F : List ℕ} {d i x n base left : ℕ} (f : Follows s t F d i x n
   in-room = omega (arith, place-in, roomy-long t)
 
   low : i ≤ 512
-  low = small f .place
+  low = small f .based .short
 
   there : getD T p 0 ≡ getD t p 0 % 18014398509481984
   there = opened-at (roomy t) F d in-room ∙ ap (λ (u : ℕ). u % 18014398509481984) (roomy-at t p place-in)

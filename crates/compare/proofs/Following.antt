@@ -47,19 +47,15 @@ pub record Follows (s t F : List ℕ) (d i x n base left : ℕ) : Type 0 where
 
 -- how large the numbers of the code are
 pub record Small (d i x n base : ℕ) : Type 0 where
-  pub deep : d ≤ 6
-  pub place : i ≤ 512
+  pub based : Based d i base
   pub extra : x ≤ 1024
   pub few : n ≤ 255
-  pub made : base ≡ (d + 2) * 4294967296 + (i + 1) * 18031990695526400
 
 pub small : {s t F : List ℕ} {d i x n base left : ℕ} → Follows s t F d i x n base left → Small d i x n base
 small f = record {
-  deep = f .going .deep;
-  place = omega (arith, f .going .half, f .going .within, f .going .short);
+  based = record { made = f .going .made; deep = f .going .deep; short = omega (arith, f .going .half, f .going .within, f .going .short) };
   extra = omega (arith, f .beyond, f .going .short);
   few = f .going .few;
-  made = f .going .made;
 }
 
 -- before a type
@@ -87,7 +83,7 @@ module _ {s t F : List ℕ} {d i x n base left : ℕ} (f : Faces s t F d i x n b
   word-there = roomy-at t i word-in
 
   pub based : Based d i base
-  based = let r = small (f .follows) in record { made = r .made; deep = r .deep; short = r .place }
+  based = small (f .follows) .based
 
 -- ---- a leaf
 
