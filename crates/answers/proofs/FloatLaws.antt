@@ -1,8 +1,7 @@
 -- A float's pattern, over the format: a NaN's is known by one comparison, and every other comes back whole. Assumes nothing.
-use mathlib.Core.Path.{_≡_, refl, sym, ap, _∙_, subst}
-use mathlib.Core.Bool.{Bool, true, false, not}
+use mathlib.Core.Path.{_≡_, sym, ap, _∙_, subst}
+use mathlib.Core.Bool.{Bool, true, false, not, true≢false}
 use Prim.Native.Nat.{ℕ, _*_, _%_, _<_, _≤_}
-use native.Mathlib.Omega.{arith}
 use lib.Dec.{T}
 use borrow.Author.Tests.{lt-ltb, le-ltb}
 use lib.Ieee.{Float, nan, inf, fin, Format, ne, isNan, fits, nanBits, ofBits, toBits, top, ones, hid}
@@ -11,9 +10,6 @@ use lib.Ieee.Fits.{and-l, and-r}
 use lib.Ieee.Compare.{differs-from-itself, nan-differs}
 use Rattle.answers.specs.Meaning.{plain, float, floatMeans, nanMeans}
 
-pub no-clash : true ≡ false → ⊥
-no-clash q = let n : _≡_ {A = ℕ} 0 1 = cc in omega arith
-
 -- ---- `x != x`
 
 pub is-nan : (x : Float) → ne x x ≡ true → x ≡ nan
@@ -21,7 +17,7 @@ is-nan x e = differs-from-itself x (subst T (sym e) tt)
 
 pub not-nan : (x : Float) → ne x x ≡ false → T (not (isNan x))
 unfolding isNan
-not-nan nan e = absurd (no-clash (sym nan-differs ∙ e))
+not-nan nan e = absurd (true≢false (sym nan-differs ∙ e))
 not-nan (inf s) e = tt
 not-nan (fin s m e′) e = tt
 

@@ -1,5 +1,5 @@
 -- Laws that the proofs of more than one function, and other crates, cite.
-pub mod FloatLaws
+mod FloatLaws
 pub mod PathLaws
 pub mod Unique
 pub mod Kept

@@ -1,13 +1,11 @@
 -- One enum value is left for each meaning: every meaning leads back to its value. Assumes nothing.
 use mathlib.Core.Path.{_≡_, refl, sym, ap, _∙_}
 use mathlib.Core.Bool.{Bool, true, false, cond}
-use mathlib.Core.List.{List, []}
 use Prim.Native.Nat.{ℕ}
 use lib.Dec.{eqb}
 use lib.Ieee.{Float, Format, binary32, binary64, nanBits, ofBits, toBits}
 use Rattle.layout.specs.Refusals as N
 use Rattle.layout.specs.Reading as R
-use Rattle.layout.specs.Setting as S
 use Rattle.layout.specs.Entries as E
 use Rattle.answers.specs.declared.Refusal.{Refusal}
 use Rattle.answers.specs.declared.Refusal.the-variants as F
@@ -18,9 +16,7 @@ use Rattle.answers.specs.declared.Length.the-variants as L
 use Rattle.answers.specs.declared.Answer.{Answer}
 use Rattle.answers.specs.declared.Answer.the-variants as A
 use Rattle.answers.specs.Meaning.{numberOf, lengthOf, refusalMeans, outcomeMeans, lengthMeans, noAnswer, plain, float, floatMeans, nanMeans, meaning}
-use Rattle.answers.specs.Meaning.{Numbered, givenMeans}
-use Rattle.answers.specs.declared.Given.{Given}
-use Rattle.answers.specs.declared.Given.the-variants as G
+use Rattle.answers.specs.Meaning.{Numbered}
 use Rattle.answers.proofs.FloatLaws.{plain-back, plain-not-nan}
 
 -- ---- refusals
@@ -158,24 +154,3 @@ answer-back (A.Refused r) h =
 -- of every meaning that a reading gives there is one answer
 pub meaning-one : (a b : Answer) → meaning a ≡ meaning b → Numbered (meaning a) → a ≡ b
 meaning-one a b e h = sym (answer-back a h) ∙ ap answer e ∙ answer-back b (rw e at h)
-
--- ---- what a setter takes
-
-abbrev taken : S.Setting → Given
-taken S.null = G.Null
-taken (S.bool v) = G.Bool v
-taken (S.signed z) = G.Number z
-taken (S.float32 n) = G.Float32 n
-taken (S.float64 n) = G.Float64 n
-taken (S.bytes u) = G.Bytes
-
-taken-back : (g : Given) → taken (givenMeans g []) ≡ g
-taken-back G.Null = refl
-taken-back (G.Bool v) = refl
-taken-back (G.Number z) = refl
-taken-back (G.Float32 b) = refl
-taken-back (G.Float64 b) = refl
-taken-back G.Bytes = refl
-
-pub given-one : (g h : Given) → ((u : List ℕ) → givenMeans g u ≡ givenMeans h u) → g ≡ h
-given-one g h e = sym (taken-back g) ∙ ap taken (e []) ∙ taken-back h

@@ -5,10 +5,12 @@ use mathlib.Core.Option.{Option, none, some}
 use mathlib.Core.List.{List}
 use Prim.Native.Nat.{ℕ}
 use lib.Ieee.{Float, Format, binary32, binary64, fits, isNan, nanBits, toBits}
+use Rattle.words.specs.Bytes.{Bytes}
 use Rattle.layout.specs.Refusals as N
 use Rattle.layout.specs.Reading as R
 use Rattle.layout.specs.Setting as S
 use Rattle.layout.specs.Entries as E
+use Rattle.layout.specs.Demand3.{Proper}
 use Rattle.answers.specs.declared.Refusal.{Refusal}
 use Rattle.answers.specs.declared.Refusal.the-variants as F
 use Rattle.answers.specs.declared.Outcome.{Outcome}
@@ -140,11 +142,6 @@ settingOf (T.Float64 x) u = S.float64 (toBits binary64 x)
 settingOf (T.Float64Nan b) u = S.float64 b
 settingOf T.Bytes u = S.bytes u
 
--- a float of the format by its bits
-abbrev pub floatSet : Format → ℕ → S.Setting
-floatSet binary32 n = S.float32 n
-floatSet binary64 n = S.float64 n
-
 -- the setting that a `Given` stands for
 abbrev pub givenMeans : Given → List ℕ → S.Setting
 givenMeans G.Null u = S.null
@@ -154,7 +151,12 @@ givenMeans (G.Float32 b) u = S.float32 b
 givenMeans (G.Float64 b) u = S.float64 b
 givenMeans G.Bytes u = S.bytes u
 
--- the setting that asks for what an answer gave, where there is one
+-- what a `Given` is of a setting: it stands for the same, whatever bytes lie beside it; and every setting that can be passed is proper
+pub record GivenAs (x : Setting) (g : Given) : Type 0 where
+  pub means : (u : List ℕ) → givenMeans g u ≡ settingOf x u
+  pub proper : (u : List ℕ) → Bytes u → Proper (settingOf x u)
+
+-- the setting that asks for what an answer gave, where there is one, with the bytes of its range beside it
 abbrev pub again : Answer → Option Setting
 again A.Null = some T.Null
 again (A.Bool v) = some (T.Bool v)
@@ -166,8 +168,3 @@ again (A.Float64Nan b) = some (T.Float64Nan b)
 again (A.Bytes o n) = some T.Bytes
 again (A.Container o n k) = none
 again (A.Refused r) = none
-
--- what it sets, with the bytes u beside it
-abbrev pub setAgain : Option Setting → List ℕ → Option S.Setting
-setAgain none u = none
-setAgain (some x) u = some (settingOf x u)

@@ -1,6 +1,5 @@
 // A step of a path, copied out.
 ghost use mathlib.Core.Path.{_≡_};
-ghost use Prim.Native.Nat.{_<_};
 ghost use lib.ListN.{getD};
 ghost use Rattle.answers.specs.Paths.{Reached, pathOf};
 use crate::Path;

@@ -1,14 +1,11 @@
 // A setting as a setter takes it: each float as the bits that it writes.
-ghost use mathlib.Core.Path.{_≡_};
-ghost use mathlib.Core.List.{List};
-ghost use Prim.Native.Nat.{ℕ};
-ghost use Rattle.answers.specs.Meaning.{settingOf, givenMeans};
+ghost use Rattle.answers.specs.Meaning.{GivenAs};
 use crate::Given;
 use crate::Setting;
 use crate::floats;
 
 pub fn given(s: Setting) -> Given
-    ensures { λ r. ⌜ ((u : List ℕ) → givenMeans r u ≡ settingOf s u) ⌝ }
+    ensures { λ r. ⌜ GivenAs s r ⌝ }
 {
     match s {
         Setting::Null => Given::Null,

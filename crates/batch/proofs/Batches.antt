@@ -4,8 +4,8 @@ use mathlib.Core.List.{List, []}
 use Prim.Native.Nat.{ℕ, _<_}
 use lib.ListN.{length, getD}
 use Rattle.words.specs.Bytes.{Bytes}
-use Rattle.row.proofs.Demand2.{demand2}
-use Rattle.row.proofs.Demand3.{demand3}
+use Rattle.layout.proofs.Demand2.{demand2}
+use Rattle.layout.proofs.Demand3.{demand3}
 use Rattle.batch.specs.Entries.{rowsOf, rowOf, checkOf}
 use Rattle.batch.specs.Entries as B
 use Rattle.batch.specs.Batches.{RowDemands, Batches}
@@ -21,7 +21,8 @@ module _ (s : List ℕ) where
       let l′ : k < length (v .rows) = rw (v .is) at l in
       let bytes = row-bytes s b (v .rows) k hb (v .is) l′ in
       let checks = checked-at s k (v .checked) l′ in
-      rw (v .is) (record { bytes = bytes; checks = checks; demand2 = demand2 s (v .schema); demand3 = demand3 s (getD (v .rows) k []) bytes checks })
+      let row = getD (v .rows) k [] in
+      rw (v .is) (record { bytes = bytes; checks = checks; lists = demand2 .list-write s row bytes checks; sets = demand3 s row bytes checks })
 
   pub batches : Batches s
   batches = record {

@@ -3,9 +3,9 @@ use mathlib.Core.Path.{refl}
 use native.Mathlib.Decide.{decLe, decLt, ℕ-discrete}
 use Rattle.words.specs.Bytes.{le, num, fill, zerosAhead, highBits, pastByte}
 use Rattle.schema.specs.Marks.{types, markAt}
-use Rattle.schema.specs.Kinds.{find, placeOf, kindOf, placed as placedKind, headKind, kindAt}
+use Rattle.schema.specs.Kinds.{find, placeOf, kindOf, kindOfPlace as placedKind, headKind, kindAt}
 use Rattle.schema.specs.Types.{fixedPlace, textPlace, fixedAt, textAt, place, width, mark, count, field}
-use Rattle.schema.specs.Reading.{parseAll, parseRo, parseKind, parse as parseTy, judged}
+use Rattle.schema.specs.Reading.{parseAll, parseRo, parseKind, parseType as parseTy, judged}
 use Rattle.schema.specs.Walk.{typeAt as tyAt, fieldsOf}
 use Rattle.layout.specs.Reader.{assert, cut}
 use Rattle.layout.specs.Faults.{assertAt, cutAt, seenFrom, within, yielded, inRow, faultIn}
@@ -14,7 +14,7 @@ use Rattle.layout.specs.Cells.{fromCells, toCells, onNull, bytes, parts}
 use Rattle.layout.specs.Layout.{number, string, inside, outside, kidOf, slotOf, kidGet, flags, slots, tails, reads, bodyPut, bodyGet, struct, array}
 use Rattle.layout.specs.Layout.{pair, limit, codec}
 use Rattle.layout.specs.Walk.{must, mustStep, own, bySlot, byFlag, child, stepIn, goOn, walk}
-use Rattle.layout.specs.Reading.{typeAt, placed, valueOf, answerOf, found, readIn}
+use Rattle.layout.specs.Reading.{typeAlong, placed, valueOf, answerOf, found, readIn}
 use Rattle.layout.specs.Setting.{boolBytes, signedBytes, float32Bytes, float64Bytes, inBytes, suits, keepsText, keeps, refusalIn, judgeAt, writeFixed}
 use Rattle.layout.specs.Setting.{write, writeAt, outcome, setIn}
 use Rattle.layout.specs.Entries.{readOf as rowRead, setOf as rowSet}
@@ -29,7 +29,7 @@ unfolding le num fill zerosAhead highBits pastByte types markAt find placeOf kin
     parseAll parseRo parseKind parseTy judged tyAt fieldsOf assert cut assertAt cutAt seenFrom within yielded inRow faultIn total both? change? stands?
     fromCells toCells onNull bytes parts
     number string inside outside kidOf slotOf kidGet flags slots tails reads bodyPut bodyGet struct array pair limit codec
-    must mustStep own bySlot byFlag child stepIn goOn walk typeAt placed valueOf answerOf found readIn
+    must mustStep own bySlot byFlag child stepIn goOn walk typeAlong placed valueOf answerOf found readIn
     boolBytes signedBytes float32Bytes float64Bytes inBytes suits keepsText keeps refusalIn judgeAt writeFixed write writeAt outcome setIn
     rowRead rowSet decLe decLt ℕ-discrete
     be big frame framing first frames framesIn framed countOf fetchOf checkRows checkOf lentRows appendOf appendedOf readOf setOf

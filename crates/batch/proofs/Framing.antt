@@ -28,7 +28,7 @@ framing-one row = append-nil (frame row)
 
 -- ---- the first frame
 
-pub first-back : (row rest : List ℕ) → length row < 256 ^ 4 → first (frame row ++ rest) ≡ some (row, rest)
+first-back : (row rest : List ℕ) → length row < 256 ^ 4 → first (frame row ++ rest) ≡ some (row, rest)
 unfolding first frame
 first-back row rest h =
     let size = cut-back 4 (be 4 (length row)) (row ++ rest) (length-be 4 (length row)) in
@@ -40,7 +40,7 @@ pub record First (b : List ℕ) (p : List ℕ × List ℕ) : Type 0 where
   pub row : Bytes (p .0)
   pub rest : Bytes (p .1)
 
-pub first-forth : {b : List ℕ} → Bytes b → When (First b) (first b)
+first-forth : {b : List ℕ} → Bytes b → When (First b) (first b)
 unfolding first frame
 first-forth {b} h = when-bind (cut-forth 4 h) λ p q. when-map (cut-forth (big (p .0)) (q .rest)) λ r z.
     let low : big (p .0) < 256 ^ 4 = subst (λ (n : ℕ). big (p .0) < 256 ^ n) (q .size) (big-lt (q .front)) in
@@ -57,7 +57,7 @@ cut-less : (n : ℕ) (b : List ℕ) → When (λ p. n + length (p .1) ≤ length
 unfolding cut
 cut-less n b = when-then (when-assert (decLe n (length b))) λ _ l. yields {a = (take n b, drop n b)} (rw length-drop (omega arith))
 
-pub first-less : (b : List ℕ) → When (λ p. length (p .1) < length b) (first b)
+first-less : (b : List ℕ) → When (λ p. length (p .1) < length b) (first b)
 unfolding first
 first-less b = when-bind (cut-less 4 b) λ p q. when-map (cut-less (big (p .0)) (p .1)) λ r z. omega arith
 

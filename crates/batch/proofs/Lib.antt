@@ -1,14 +1,14 @@
 -- The laws of batches, and what the functions' proofs cite.
-pub mod Sizes
-pub mod Framing
-pub mod Ends
+mod Sizes
+mod Framing
+mod Ends
 pub mod Passing
 pub mod Taken
 pub mod Orders
 pub mod InTurn
 pub mod Added
-pub mod Accepting
-pub mod Appending
+mod Accepting
+mod Appending
 pub mod Settings
 pub mod Batches
 pub mod Numbers

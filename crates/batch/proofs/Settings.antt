@@ -14,10 +14,9 @@ use Rattle.schema.specs.Reading.{judged}
 use Rattle.schema.specs.declared.Judged.the-variants.{Accepted}
 use Rattle.layout.specs.Refusals as N
 use Rattle.layout.specs.Setting.{Setting, _or_, Outcome, refuses, becomes}
-use Rattle.layout.specs.Demand.{Proper, refusalOf}
+use Rattle.layout.specs.Demand3.{Proper, refusalOf}
 use Rattle.layout.specs.Entries.{verdict, setAfter, readOf as rowRead, setOf as rowSet}
-use Rattle.layout.specs.Entries as E
-use Rattle.row.proofs.Demand3.{demand3}
+use Rattle.layout.proofs.Demand3.{demand3}
 use Rattle.batch.specs.Frames.{be, framing, Framable, framed}
 use Rattle.batch.specs.Entries.{orNone, rowsOf, rowOf, startOf, noRow, rowBad, range, fetchOf, checkOf, readOf, within, setOf}
 use Rattle.batch.specs.Entries as B
@@ -247,7 +246,7 @@ module _ (s : List ℕ) where
       let l : k < length (v .rows) = rw same at (z .counts) in
       let row = getD (v .rows) k [] in
       let is : rowSet s row p x ≡ becomes (z .row) = ap (λ (us : List (List ℕ)). rowSet s (getD us k []) p x) (sym same) ∙ z .is in
-      let fine = demand3 s row (row-bytes b (v .rows) k hb (v .is) l) (checked-at s k (v .checked) l) .still-checks p x (z .row) w is in
+      let fine = demand3 s row (row-bytes b (v .rows) k hb (v .is) l) (checked-at s k (v .checked) l) .still p x (z .row) w is in
       let all = checked-set s k (z .row) fine (v .checked) in
       done s b′ (record {
         schema = v .schema;

@@ -18,7 +18,7 @@ bytes-turned : {a r : List ℕ} → Bytes a → Bytes r → Bytes (reverseAux a 
 bytes-turned empty k = k
 bytes-turned (byte d h) k = bytes-turned h (byte d k)
 
-pub bytes-reverse : {b : List ℕ} → Bytes b → Bytes (reverse b)
+bytes-reverse : {b : List ℕ} → Bytes b → Bytes (reverse b)
 bytes-reverse h = bytes-turned h empty
 
 pub length-be : (w x : ℕ) → length (be w x) ≡ w

@@ -33,7 +33,7 @@ pub or-none : (a b : Option N.Refusal) → (a or b) ≡ none → (a ≡ none) ×
 or-none none b e = (refl, e)
 or-none (some n) b e = let z : _≡_ {A = ℕ} 0 1 = cc in absurd (omega arith)
 
-pub unless-none : (v : Bool) (n : ℕ) → unless v n ≡ none → v ≡ true
+unless-none : (v : Bool) (n : ℕ) → unless v n ≡ none → v ≡ true
 unless-none true n e = refl
 unless-none false n e = cc
 
@@ -164,7 +164,7 @@ module _ (rows : List (List ℕ)) (k : ℕ) (u : List ℕ) where
   pub before-long : length before ≡ length (framing (take k rows)) + 4
   before-long = length-append (framing (take k rows)) (be 4 (length u)) ∙ ap (λ (m : ℕ). length (framing (take k rows)) + m) (length-be 4 (length u))
 
-  pub with-row : framing (take k rows ++ (u ∷ drop (suc k) rows)) ≡ before ++ (u ++ behind)
+  with-row : framing (take k rows ++ (u ∷ drop (suc k) rows)) ≡ before ++ (u ++ behind)
   unfolding framing frame
   with-row =
       framing-append (take k rows) (u ∷ drop (suc k) rows)

@@ -10,11 +10,10 @@ use Rattle.words.specs.Bytes.{Bytes, part}
 use Rattle.schema.specs.Reading.{judged}
 use Rattle.schema.specs.declared.Judged.the-variants.{Accepted}
 use Rattle.layout.specs.Setting.{Setting, becomes}
-use Rattle.layout.specs.Demand.{Proper, refusalOf}
 use Rattle.layout.specs.Entries.{takes}
 use Rattle.layout.specs.Entries as E
-use Rattle.row.specs.Demand2.{Demand2}
-use Rattle.row.specs.Demand3.{SetsWell}
+use Rattle.layout.specs.Demand2.{ListThenWrite}
+use Rattle.layout.specs.Demand3.{Proper, refusalOf, SetsWell}
 use Rattle.batch.specs.Frames.{framing, Framable, framed}
 use Rattle.batch.specs.Entries as B
 use Rattle.batch.specs.Entries.{range, rowsOf, rowOf, startOf, fetchOf, checkOf, appendOf, appendedOf, readOf, setOf}
@@ -64,12 +63,12 @@ pub record Meet (s b₁ b₂ : List ℕ) (j k : ℕ) (p q : List ℕ) (x y : Set
   pub j-first : setOf s b₁ k q y ≡ becomes end
   pub k-first : setOf s b₂ j p x ≡ becomes end
 
--- a row of an accepted batch is accepted, so that what demands 2 and 3 say of an accepted row is said of it
+-- a row of an accepted batch is accepted, so that all that demands 2 and 3 say of an accepted row is said of it
 pub record RowDemands (s row : List ℕ) : Type 0 where
   pub bytes : Bytes row
   pub checks : E.checkOf s row ≡ E.done
-  pub demand2 : Demand2 s
-  pub demand3 : SetsWell s row
+  pub lists : ListThenWrite s row
+  pub sets : SetsWell s row
 
 pub record Batches (s : List ℕ) : Type 0 where
   -- taken apart and framed again, and framed and taken apart again

@@ -6,9 +6,9 @@ use Prim.Native.Nat.{ℕ}
 use native.Mathlib.Decide.{decLe, decLt, ℕ-discrete}
 use Rattle.words.specs.Bytes.{le, num, fill, zeros, zerosAhead, highBits, pastByte}
 use Rattle.schema.specs.Marks.{types, markAt}
-use Rattle.schema.specs.Kinds.{find, placeOf, kindOf, placed as placedKind, headKind, kindAt}
+use Rattle.schema.specs.Kinds.{find, placeOf, kindOf, kindOfPlace as placedKind, headKind, kindAt}
 use Rattle.schema.specs.Types.{fixedPlace, textPlace, fixedAt, textAt, place, width, mark, count, field}
-use Rattle.schema.specs.Reading.{parseAll, parseRo, parseKind, parse as parseTy, judged}
+use Rattle.schema.specs.Reading.{parseAll, parseRo, parseKind, parseType as parseTy, judged}
 use Rattle.schema.specs.Walk.{typeAt as tyAt, fieldsOf}
 use Rattle.layout.specs.Reader.{assert, cut}
 use Rattle.layout.specs.Faults.{assertAt, cutAt, seenFrom, within, yielded, inRow, faultIn}
@@ -17,7 +17,7 @@ use Rattle.layout.specs.Cells.{fromCells, toCells, onNull, bytes as cellBytes, 
 use Rattle.layout.specs.Layout.{number, string, inside, outside, kidOf, slotOf, kidGet, flags, slots, tails, reads, bodyPut, bodyGet, struct, array, pair}
 use Rattle.layout.specs.Layout.{limit, codec}
 use Rattle.layout.specs.Walk.{must, mustStep, own, bySlot, byFlag, child, stepIn, goOn, walk}
-use Rattle.layout.specs.Reading.{typeAt, placed, valueOf, answerOf, found, readIn}
+use Rattle.layout.specs.Reading.{typeAlong, placed, valueOf, answerOf, found, readIn}
 use Rattle.layout.specs.Entries.{checkOf, readOf}
 use Rattle.batch.specs.Frames.{big, first, frames, framesIn, framed}
 use Rattle.batch.specs.Entries.{checkRows, checkOf as batchCheck}
@@ -50,7 +50,7 @@ unfolding le num fill types markAt find placeOf kindOf placedKind headKind kindA
     parseAll parseRo parseKind parseTy judged tyAt fieldsOf assert cut assertAt cutAt seenFrom within yielded inRow faultIn
     zerosAhead highBits pastByte total both? either? change? aparts? stands? fromCells toCells onNull cellBytes parts
     number string inside outside kidOf slotOf kidGet flags slots tails reads bodyPut bodyGet struct array pair limit codec
-    must mustStep own bySlot byFlag child stepIn goOn walk typeAt placed valueOf answerOf found readIn checkOf readOf
+    must mustStep own bySlot byFlag child stepIn goOn walk typeAlong placed valueOf answerOf found readIn checkOf readOf
     announced splitOf hex decimalIn decimal signed hexes bytes dotted path contents line numbered hasLine below markIn lineAt inOrder cardFrom cardOf
     judgedText outputOf big first frames framesIn framed checkRows batchCheck heading rowsText batchText batchOutputOf
     decLe decLt ℕ-discrete

@@ -2,16 +2,16 @@
 use mathlib.Core.Path.{_≡_, refl, sym, ap, ap₂, _∙_}
 use mathlib.Core.Bool.{Bool, true, false, cond}
 use mathlib.Core.List.{List, [], _∷_, _++_, append-nil, append-assoc}
-use Prim.Native.Nat.{ℕ, zero, suc, _+_, _*_, _-_, _/_, _≤_, _<_}
+use Prim.Native.Nat.{ℕ, suc, _+_, _*_, _-_, _/_, _≤_, _<_}
 use native.Mathlib.Numerals.{add-one}
 use native.Mathlib.Omega.{arith}
 use lib.Dec.{eqb, ltb}
-use lib.ListN.{length, take, drop, getD, set, length-take, length-append, List·getD-eq-default}
-use lib.Seq.{sets, drop-nil, drop-cons, take-append-seam, take-all, take-take, take-suc-set, set-append-seam}
+use lib.ListN.{length, take, drop, getD, set, length-take, length-append, List·getD-eq-default, drop-of-length-le}
+use lib.Seq.{sets, drop-cons, take-all, take-take, take-suc-set, set-append-seam}
 use borrow.Author.Tests.{eq-eqb, ne-eqb, ltb-true}
 use Rattle.words.specs.Bytes.{part, fill, zeros, bitmap}
 use Rattle.words.proofs.Parts.{part-snoc}
-use Rattle.words.proofs.Numbers.{length-fill}
+use Rattle.words.proofs.Numbers.{length-fill, take-filled}
 use Rattle.answers.specs.declared.Path.{Path}
 use Rattle.answers.specs.Paths.{pathOf}
 use Rattle.answers.proofs.PathLaws.{length-path}
@@ -21,12 +21,12 @@ use Rattle.chart.specs.Room.{Long, Neat, PathAt}
 
 -- ---- claims in turn
 
-pub claim-append : (xs ys : List Claim) (m : List ℕ) → claimAll (xs ++ ys) m ≡ claimAll ys (claimAll xs m)
+claim-append : (xs ys : List Claim) (m : List ℕ) → claimAll (xs ++ ys) m ≡ claimAll ys (claimAll xs m)
 unfolding claimAll
 claim-append [] ys m = refl
 claim-append (c ∷ xs) ys m = claim-append xs ys (claim c m)
 
-pub claimed-then : (xs ys : List Claim) (m₀ : List ℕ) {m m′ : List ℕ} → m ≡ claimAll xs m₀ → m′ ≡ claimAll ys m → m′ ≡ claimAll (xs ++ ys) m₀
+claimed-then : (xs ys : List Claim) (m₀ : List ℕ) {m m′ : List ℕ} → m ≡ claimAll xs m₀ → m′ ≡ claimAll ys m → m′ ≡ claimAll (xs ++ ys) m₀
 claimed-then xs ys m₀ e f = f ∙ ap (claimAll ys) e ∙ sym (claim-append xs ys m₀)
 
 pub claimed-one : (c : Claim) (m : List ℕ) {m′ : List ℕ} → m′ ≡ claim c m → m′ ≡ claimAll (c ∷ []) m
@@ -71,11 +71,6 @@ module _ (m : List ℕ) (line what : ℕ) (p : Path) where
       let two : 18 * line + 2 ≡ suc (suc (18 * line)) = omega arith in
       rw (eq-eqb (getD m (18 * line) 0) 0 h, length-path p, ← (n .rest)) (e ∙ rw (one, two))
 
-drop-past : (l : List ℕ) (k : ℕ) → length l ≤ k → drop k l ≡ []
-drop-past [] k h = drop-nil k
-drop-past (x ∷ l) zero h = absurd (omega arith)
-drop-past (x ∷ l) (suc k) h = drop-past l k (omega arith)
-
 -- the steps are stored one by one: what is left leads to the same end
 pub store-turn : (m steps : List ℕ) (at k : ℕ) → k < length steps
     → sets m (at + k) (drop k steps) ≡ sets (set m (at + k) (getD steps k 0)) (at + (k + 1)) (drop (k + 1) steps)
@@ -85,7 +80,7 @@ store-turn m steps at k h =
 
 -- none is left
 pub store-all : (m m₀ steps : List ℕ) (at k : ℕ) → length steps ≤ k → sets m (at + k) (drop k steps) ≡ sets m₀ at steps → m ≡ sets m₀ at steps
-store-all m m₀ steps at k h e = rw (drop-past steps k h) at e
+store-all m m₀ steps at k h e = rw (drop-of-length-le steps h) at e
 
 -- ---- paths
 
@@ -93,10 +88,6 @@ pub neat-long : (p : Path) → Neat p → length (p .steps) ≡ 16
 neat-long p n = ap length (n .rest) ∙ length-fill 16 (pathOf p) (rw (length-path p) (n .few))
 
 module _ (P : List ℕ) where
-  pub fill-front : (w : ℕ) → take (length P) (fill w P) ≡ P
-  unfolding fill
-  fill-front w = take-append-seam P (zeros (w - length P))
-
   fill-whole : fill (length P) P ≡ P
   unfolding fill
   fill-whole = let z : length P - length P ≡ 0 = omega arith in rw z (append-nil P)
@@ -112,13 +103,13 @@ module _ (P : List ℕ) where
   -- a path with zeros behind its steps
   pub path-is : (q : Path) → q .len ≡ length P → q .steps ≡ fill 16 P → pathOf q ≡ P
   unfolding pathOf
-  path-is q l e = rw (l, e, fill-front 16) fill-whole
+  path-is q l e = rw (l, e, take-filled 16 P) fill-whole
 
   pub neat-is : (q : Path) → length P ≤ 16 → q .len ≡ length P → q .steps ≡ fill 16 P → Neat q
   neat-is q h l e = record { few = rw l h; rest = e ∙ ap (fill 16) (sym (path-is q l e)) }
 
 pub neat-front : (p : Path) → Neat p → take (p .len) (p .steps) ≡ pathOf p
-neat-front p n = ap₂ (λ (k : ℕ) (u : List ℕ). take k u) (sym (length-path p)) (n .rest) ∙ fill-front (pathOf p) 16
+neat-front p n = ap₂ (λ (k : ℕ) (u : List ℕ). take k u) (sym (length-path p)) (n .rest) ∙ take-filled 16 (pathOf p)
 
 -- the path of child i of a place at the path p, where q has p's steps but for the one behind them
 module _ (p : Path) (n : Neat p) (h : p .len < 16) (q : Path) (i : ℕ) (l : q .len ≡ p .len + 1)

@@ -14,10 +14,10 @@ use Rattle.answers.specs.declared.Answer.{Answer as Case}
 use Rattle.answers.specs.declared.Answer.the-variants as A
 use Rattle.answers.specs.Meaning.{meaning}
 use Rattle.table.specs.Tables.{schemaOf}
-use Rattle.reading.specs.Places.{placeTy, Stands}
+use Rattle.reading.specs.Places.{placeTy, PlaceHolds}
 use Rattle.reading.specs.Finding.{Open, rootTy, Finds}
 use Rattle.reading.specs.Texts.{countOf, showOf, Reads}
-use Rattle.reading.specs.declared.Opened.{Opened}
+use Rattle.reading.specs.declared.TypeParts.{TypeParts}
 use Rattle.reading.specs.declared.Place.{Place}
 use Rattle.reading.specs.declared.Seat.{Seat}
 use Rattle.reading.specs.declared.Found.{Found}
@@ -95,11 +95,11 @@ module _ {t row : List ℕ} (p : List ℕ) (O : Open t row) {f : Found} (G : Fin
   pub label-broken : (m : List ℕ) {j : ℕ} → f ≡ Broken j → Follows (labelsAt s row p) m 0 m
   label-broken m e = none-as m (sym (refused-none _ _ p) ∙ labels-as _ (read-broken O G e))
 
-  pub label-null : (m : List ℕ) {x : Opened} {z : Seat} → f ≡ Null x z → Follows (labelsAt s row p) m 0 m
+  pub label-null : (m : List ℕ) {x : TypeParts} {z : Seat} → f ≡ Null x z → Follows (labelsAt s row p) m 0 m
   label-null m e = none-as m (sym (null-none _ p) ∙ labels-as _ (read-null O G e))
 
   module _ {y : Place} (e : f ≡ At y) where
-    pub found-stands : Stands t row y
+    pub found-stands : PlaceHolds t row y
     found-stands = rw e at (G .lands)
 
     typed : some (placeTy t y) ≡ placed p (rootTy t)

@@ -51,13 +51,13 @@ place-wide (li y) = refl
 place-wide (ma a b) = refl
 place-wide (ro ys) = refl
 
-pub element-bytes : {t : List ℕ} {c w v : ℕ} → S.Stands t c 7 → EntryAt t c 7 w → v ≡ widthIn w → v ≡ wideOf (heldTy t c)
+pub element-bytes : {t : List ℕ} {c w v : ℕ} → S.InTable t c 7 → EntryAt t c 7 w → v ≡ widthIn w → v ≡ wideOf (heldTy t c)
 element-bytes {t} {c} h e q =
     q ∙ e .lined .width ∙ ap (λ (k : ℕ). line k .width) (e .place ∙ typed-place (schemaOf t) (posOf t c) 7 (h .typed)) ∙ place-wide (heldTy t c)
 
 -- ---- nothing to claim
 
-pub draws-none : (m : List ℕ) → Draws unlabelled m 0 m
+draws-none : (m : List ℕ) → Draws unlabelled m 0 m
 unfolding claimAll
 draws-none m = record { chart = refl; below = refl; few = omega arith }
 
@@ -117,7 +117,7 @@ module _ {m t row : List ℕ} {y : Place} {path : Path} (G : PlaceRoom m t row y
     place-text f = rw (ty-text t (y .opened) l h) (record { chart = rw q at f; below = refl; few = omega arith })
 
   module _ (e : k ≡ 9) where
-    pub element-typed : S.Stands t (y .opened .first) 7
+    pub element-typed : S.InTable t (y .opened .first) 7
     element-typed = rest-list (G .stands .rests) e
 
     module _ {v : ℕ} (q : v ≡ wideOf (heldTy t (y .opened .first))) where

@@ -1,6 +1,6 @@
 -- Laws that the proofs cite.
 pub mod Claiming
-pub mod Labelling
-pub mod Finding
-pub mod Walking
+mod Labelling
+mod Finding
+mod Walking
 mod Example

@@ -7,7 +7,7 @@ use Rattle.words.specs.Bytes.{num, part, bitmap, fill}
 use Rattle.answers.specs.declared.Path.{Path}
 use Rattle.answers.specs.Paths.{pathOf}
 use Rattle.layout.specs.Layout.{front}
-use Rattle.reading.specs.Places.{slotWidth, placeTy, Stands}
+use Rattle.reading.specs.Places.{slotWidth, placeTy, PlaceHolds}
 use Rattle.table.specs.Tables.{schemaOf}
 use Rattle.reading.specs.Finding.{Open}
 use Rattle.reading.specs.Texts.{countOf}
@@ -58,7 +58,7 @@ pub record ListRoom (m row : List ℕ) (start v : ℕ) (p : Path) : Type 0 where
 
 pub record PlaceRoom (m t row : List ℕ) (y : Place) (p : Path) : Type 0 where
   pub long : Long m
-  pub stands : Stands t row y
+  pub stands : PlaceHolds t row y
   pub neat : Neat p
   pub more : p .len < 16
 

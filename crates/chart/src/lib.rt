@@ -9,8 +9,8 @@ ghost use Rattle.chart.specs.Claims.{whatAt, held};
 ghost use Rattle.chart.specs.Labels.{drawn};
 ghost use Rattle.chart.specs.Room.{Long, PathAt};
 
-pub mod lines;
-pub mod walk;
+mod lines;
+mod walk;
 
 // The claims of all places of a row, sound or broken, into a chart that the caller lends as zeros.
 pub fn draw(t: &[u64], row: &[u8], chart: &mut [u32])

@@ -8,7 +8,7 @@ ghost use Prim.Native.Nat.{_/_, _<_};
 ghost use Rattle.words.specs.Bytes.{num, part};
 ghost use Rattle.schema.specs.Types.{textAt};
 ghost use Rattle.answers.specs.Paths.{pathOf};
-ghost use Rattle.table.specs.Tables.{Stands, schemaOf};
+ghost use Rattle.table.specs.Tables.{InTable, schemaOf};
 ghost use Rattle.reading.specs.Children.{wideOf};
 ghost use Rattle.reading.specs.Opening.{heldTy};
 ghost use Rattle.chart.specs.Labels.{textWord, listed, labelsAt};
@@ -16,7 +16,7 @@ ghost use Rattle.chart.specs.Room.{ListRoom, PlaceRoom, WalkRoom, Draws,
 
 // The bytes of a list's elements, whose type stands at a place of the table, 0 where they vary.
 fn element_width(t: &[u64], c: usize) -> usize
-    requires { ⌜ Stands (now t) c 7 ⌝ }
+    requires { ⌜ InTable (now t) c 7 ⌝ }
     ensures { λ r. ⌜ r ≡ wideOf (heldTy (now (t .entry)) c) ⌝ }
 {
     table::width(table::entry_at(t, c, 7))

@@ -14,8 +14,9 @@ use lib.Seq.{take-take, take-length}
 use Rattle.words.specs.Bytes.{num, part}
 use Rattle.words.specs.Reads.{Reads}
 use Rattle.schema.specs.Types.{Ty, li, ma}
+use Rattle.table.specs.Tables.{typeOf}
 use Rattle.checking.specs.Sound.{faultOf, inChild}
-use Rattle.checking.specs.Room.{typeOf, Holding, Pair}
+use Rattle.checking.specs.Room.{Holding, Pair}
 use Rattle.checking.proofs.Tests.{child-fault, child-sound, part-small}
 use Rattle.checking.proofs.Containers.{list-odd, list-short, map-uneven, map-unfit, map-is, fault-small}
 

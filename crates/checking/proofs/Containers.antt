@@ -15,7 +15,7 @@ use Rattle.layout.specs.Faults.{Place, slot, byte, Read, fault, got, _>>=_, _>>
 use Rattle.layout.specs.Cells.{Cell, node, parts}
 use Rattle.layout.specs.Layout.{Kid, kid, slotOf, reads, front, bodyGet, struct, array, pair, list, codec, kids}
 use Rattle.layout.proofs.Faults.{when-got, assert-yes}
-use Rattle.layout.proofs.Near.{codec-near, Near, sound, faulty}
+use Rattle.layout.proofs.Near.{codec-near, Near, faulty}
 use Rattle.layout.proofs.Containers.{list-counted, codec-lawful}
 use Rattle.checking.specs.Sound.{code, faultOf, inChild, ending, faultFrom}
 use Rattle.checking.specs.Room.{elements}

@@ -20,9 +20,9 @@ use Rattle.schema.proofs.Places.{typed-place, fixed-of, text-of}
 use Rattle.layout.specs.Layout.{number, string, kidOf, slotOf, front, limit, codec}
 use Rattle.layout.proofs.Widths.{element-wide, slot-small, slot-some, limit-free}
 use Rattle.table.specs.Words.{placeIn}
-use Rattle.table.specs.Tables.{EntryAt, schemaOf, posOf}
+use Rattle.table.specs.Tables.{EntryAt, schemaOf, posOf, typeOf}
 use Rattle.checking.specs.Sound.{code, faultOf, zerosThen, faultFrom}
-use Rattle.checking.specs.Room.{typeOf, ListRoom, ListEnd, Items, Holding, bools, elements}
+use Rattle.checking.specs.Room.{ListRoom, ListEnd, Items, Holding, bools, elements}
 use Rattle.checking.proofs.Containers.{list-unfit, list-past, list-good}
 use Rattle.checking.proofs.Tests.{passed, failed, MapRoom}
 use Rattle.checking.proofs.Leaves.{number-judged, numbers-from}

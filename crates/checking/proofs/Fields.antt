@@ -9,7 +9,7 @@ use mir.Val.{Fits}
 use mir.Syntax.{w64}
 use lib.Dec.{eqb, ltb}
 use borrow.Author.Tests.{eq-eqb, ne-eqb, eqb-true, eqb-false, lt-ltb, le-ltb}
-use lib.ListN.{length, getD}
+use lib.ListN.{getD}
 use Rattle.words.specs.Bytes.{Bytes, num, part, zerosAhead}
 use Rattle.words.specs.Bits.{bit}
 use Rattle.words.specs.Reads.{Reads}
@@ -17,18 +17,14 @@ use Rattle.words.proofs.Parts.{length-part}
 use Rattle.words.proofs.NumLaws.{part-lt, num-high, num-part, num-one, pow256}
 use Rattle.schema.specs.Marks.{types, line}
 use Rattle.schema.specs.Types.{Fixed, bo, i1, i2, i4, i8, f4, f8, width, fixedPlace, fixedAt}
-use Rattle.schema.proofs.Table.{width-8, place-fixed, line-width}
+use Rattle.schema.proofs.Table.{width-8, place-fixed, line-width, bool-one}
 use Rattle.table.specs.Words.{topBit, placeIn, topIn, widthIn}
 use Rattle.layout.specs.Layout.{number, limit}
-use Rattle.layout.proofs.Widths.{limit-free}
+use Rattle.layout.proofs.Widths.{limit-free, bool-two}
 use Rattle.checking.specs.Sound.{code, inChild}
 use Rattle.checking.specs.Room.{FieldRoom, fieldThen, fieldGood}
 use Rattle.checking.proofs.Tests.{child-sound, found-fits}
 use Rattle.checking.proofs.Leaves.{number-judged, no-zeros}
-
-bool-at : (k : ℕ) → k ≡ 0 → fixedAt k ≡ bo
-unfolding fixedAt
-bool-at k e = rw e
 
 bool-wide : (f : Fixed) → width f ≡ 8 → fixedPlace f ≡ 0 → ⊥
 unfolding width types fixedPlace
@@ -81,14 +77,6 @@ top-bool k x e = rw e (go (decLt x 2))
     go : Dec (x < 2) → eqb (x / 2 / 1) 0 ≡ ltb x 2
     go (yes p) = eq-eqb (x / 2 / 1) 0 (omega arith) ∙ sym (lt-ltb x 2 p)
     go (no p) = ne-eqb (x / 2 / 1) 0 (λ e. omega arith) ∙ sym (le-ltb x 2 (omega arith))
-
-bool-one : (k : ℕ) → k ≡ 0 → width (fixedAt k) ≡ 1
-unfolding width types fixedPlace
-bool-one k e = ap width (bool-at k e)
-
-bool-two : (k : ℕ) → k ≡ 0 → limit (fixedAt k) ≡ 2
-unfolding limit
-bool-two k e = ap limit (bool-at k e)
 
 -- ---- a field that is judged, and what follows
 

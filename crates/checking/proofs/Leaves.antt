@@ -67,14 +67,10 @@ nulls-room r = (r .small, omega (arith, r .map, r .elements, r .room))
 word-clear : (m k : ℕ) → m ≡ 0 → bitOf m k ≡ false
 word-clear m k e = rw (e, zero-div (2 ^ k))
 
--- the elements before i are not null
-pub record Clear (b : List ℕ) (i : ℕ) : Type 0 where
-  pub none : (j : ℕ) → j < i → bit b 8 j ≡ false
-
-pub clear-start : (b : List ℕ) → Clear b 0
+pub clear-start : (b : List ℕ) → NoNulls b 0
 clear-start b = record { none = λ j h. absurd (omega arith) }
 
-pub clear-word : {b : List ℕ} {i p x : ℕ} → Clear b i → i % 64 ≡ 0 → p ≡ 8 + i / 8 → Reads b p 8 x → x ≡ 0 → Bytes b → Clear b (i + 64)
+pub clear-word : {b : List ℕ} {i p x : ℕ} → NoNulls b i → i % 64 ≡ 0 → p ≡ 8 + i / 8 → Reads b p 8 x → x ≡ 0 → Bytes b → NoNulls b (i + 64)
 clear-word {b} {i} {p} {x} c e ep rx z hb = record { none = λ j h. go j h (decLt j i) }
   where
     go : (j : ℕ) → j < i + 64 → Dec (j < i) → bit b 8 j ≡ false
@@ -85,7 +81,7 @@ clear-word {b} {i} {p} {x} c e ep rx z hb = record { none = λ j h. go j h (decL
         let r : j % 8 ≡ q % 8 = omega arith in
         rw (a, r) (sym (bit-num p 8 q hb (omega arith)) ∙ word-clear (num (part b p 8)) q (sym (rx .is) ∙ z))
 
-pub clear-end : {b : List ℕ} {n i : ℕ} → Clear b i → n ≤ i → NoNulls b n
+pub clear-end : {b : List ℕ} {n i : ℕ} → NoNulls b i → n ≤ i → NoNulls b n
 clear-end c h = record { none = λ j k. c .none j (omega arith) }
 
 -- ---- numbers

@@ -1,13 +1,13 @@
-pub mod Tests
-pub mod Children
+mod Tests
+mod Children
 pub mod Containers
-pub mod Loops
-pub mod Cursor
-pub mod Leaves
-pub mod Fields
-pub mod Elements
-pub mod Values
-pub mod StructLoops
-pub mod Plain
-pub mod Arrays
-pub mod Root
+mod Loops
+mod Cursor
+mod Leaves
+mod Fields
+mod Elements
+mod Values
+mod StructLoops
+mod Plain
+mod Arrays
+mod Root

@@ -146,7 +146,7 @@ module _ (k : Held) (b : List ℕ) (n i : ℕ) where
   ranges-more v f = rw (add-one i, v, f)
 
   -- or has none
-  pub ranges-same : (varyIn k i ≡ true → bit b (headOf k) i ≡ false → ⊥) → before k b n (i + 1) ≡ before k b n i
+  ranges-same : (varyIn k i ≡ true → bit b (headOf k) i ≡ false → ⊥) → before k b n (i + 1) ≡ before k b n i
   unfolding rangesTo
   ranges-same empty = rw (add-one i) (go (varyIn k i) refl (bit b (headOf k) i) refl)
     where

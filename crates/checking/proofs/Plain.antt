@@ -20,9 +20,9 @@ use Rattle.words.proofs.BitLaws.{bit-num}
 use Rattle.words.proofs.Turns.{shift-test}
 use Rattle.schema.specs.Types.{ro, fixedAt}
 use Rattle.table.specs.Words.{placeIn, topIn}
-use Rattle.table.specs.Tables.{EntryAt}
+use Rattle.table.specs.Tables.{EntryAt, typesOf}
 use Rattle.checking.specs.Sound.{faultOf}
-use Rattle.checking.specs.Room.{typesOf, Fields, FieldRoom, fieldGood}
+use Rattle.checking.specs.Room.{Fields, FieldRoom, fieldGood}
 use Rattle.checking.proofs.Fields.{field-whole, field-above, above-shift}
 use Rattle.checking.proofs.Loops.{fields, At, loop-null, loop-plain}
 use Rattle.checking.proofs.Cursor.{Here, here-next}

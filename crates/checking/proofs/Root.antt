@@ -1,21 +1,19 @@
 -- The root of a table: a struct whose fields stand from its second entry on. Assumes nothing.
-use mathlib.Core.Path.{_≡_, refl, sym, ap, _∙_, subst}
+use mathlib.Core.Path.{_≡_, refl, sym, ap, _∙_}
 use mathlib.Core.Option.{Option, none, some}
 use mathlib.Core.List.{List}
 use Prim.Native.Nat.{ℕ, zero, suc, _-_, _≤_}
 use native.Mathlib.Omega.{arith}
 use lib.ListN.{length}
-use Rattle.schema.specs.Types.{Ty, Tys, ro, place}
-use Rattle.schema.specs.Kinds.{placeAt}
-use Rattle.schema.specs.Walk.{Typed, typeAt, fieldsOf}
-use Rattle.schema.proofs.Places.{typed-place}
-use Rattle.schema.proofs.Judging.{accepted-root}
+use Rattle.schema.specs.Types.{Ty, ro, place}
+use Rattle.schema.specs.Walk.{fieldsOf}
 use Rattle.layout.specs.Faults.{slot, byte, Read, fault, got, inRow, faultIn}
 use Rattle.layout.specs.Layout.{codec, faultAt}
 use Rattle.table.specs.Words.{placeIn, countIn}
-use Rattle.table.specs.Tables.{Table, Stands, EntryAt, schemaOf, posOf}
+use Rattle.table.specs.Tables.{Table, EntryAt, schemaOf, typesOf}
+use Rattle.table.proofs.Places.{root-stands, root-whole, root-place}
 use Rattle.checking.specs.Sound.{code, faultOf}
-use Rattle.checking.specs.Room.{typesOf, Fields}
+use Rattle.checking.specs.Room.{Fields}
 use Rattle.checking.proofs.Values.{Child, child-struct, struct-whole}
 
 -- the place that a number stands for
@@ -44,30 +42,17 @@ place-byte zero h g = absurd (h refl)
 place-byte (suc zero) h g = absurd (g refl)
 place-byte (suc (suc r)) h g = let e : suc (suc r) - 2 ≡ r = omega arith in ap some e
 
--- a table's first entry stands at the schema's first byte
-first-pos : (t : List ℕ) → posOf t 0 ≡ 0
-unfolding posOf schemaOf
-first-pos t = refl
-
 module _ {t : List ℕ} (h : Table t) where
   abbrev s : List ℕ
   s = schemaOf t
 
-  pub root-stands : Stands t 0 8
-  root-stands = record { table = h; typed = subst (λ (x : ℕ). Typed s x 8) (sym (first-pos t)) (accepted-root s (h .accepted) .typed) }
-
-  ro-place : (ts : Tys) → place (ro ts) ≡ 11
-  ro-place ts = unfold place in refl
-
   -- its entry is a struct's
   eleven : {w : ℕ} → EntryAt t 0 8 w → placeIn w ≡ 11
-  eleven e =
-      e .place ∙ ap (placeAt s) (first-pos t) ∙ typed-place s 0 8 (accepted-root s (h .accepted) .typed)
-      ∙ ap place (accepted-root s (h .accepted) .whole) ∙ ro-place (fieldsOf s)
+  eleven e = e .place ∙ root-place h
 
   module _ {w : ℕ} (e : EntryAt t 0 8 w) (b : List ℕ) (l : length b ≤ 16384) {n : ℕ} (en : n ≡ countIn w) where
     root-value : Child t 0 8 w 11 66 b
-    root-value = record { stands = root-stands; entry = e; kind = sym (eleven e); holds = omega arith; small = l; rank = refl }
+    root-value = record { stands = root-stands h; entry = e; kind = sym (eleven e); holds = omega arith; small = l; rank = refl }
 
     pub root-fields : Fields t 1 n 7 b
     root-fields = child-struct root-value refl en .1
@@ -77,8 +62,7 @@ module _ {t : List ℕ} (h : Table t) where
       is : placeOf r ≡ faultAt (ro (fieldsOf s)) b
       unfolding faultOf
       is =
-          ap placeOf (struct-whole root-value refl en refl er
-          ∙ ap (λ (x : Ty). faultOf x b) (ap (λ (q : ℕ). typeAt s q 8) (first-pos t) ∙ accepted-root s (h .accepted) .whole))
+          ap placeOf (struct-whole root-value refl en refl er ∙ ap (λ (x : Ty). faultOf x b) (root-whole h))
           ∙ place-code (codec (ro (fieldsOf s)) .get b)
 
       pub root-none : r ≡ 0 → none ≡ faultAt (ro (fieldsOf s)) b

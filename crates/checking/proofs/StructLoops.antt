@@ -23,11 +23,11 @@ use Rattle.layout.proofs.Containers.{kids-count}
 use Rattle.layout.proofs.Steps.{kidAt}
 use Rattle.layout.proofs.Walked.{kids-at}
 use Rattle.table.specs.Words.{placeIn, afterIn}
-use Rattle.table.specs.Tables.{Stands, EntryAt, schemaOf, posOf}
+use Rattle.table.specs.Tables.{InTable, EntryAt, schemaOf, posOf, typeOf, typesOf}
 use Rattle.standing.specs.Standing.{varies, FieldsFrom}
 use Rattle.standing.proofs.Tabled.{kind-varies, kind-fixed, field-next}
 use Rattle.checking.specs.Sound.{code, faultOf, inChild, zerosThen, faultFrom}
-use Rattle.checking.specs.Room.{typeOf, typesOf, Fields, FieldRoom, fieldThen, fieldGood}
+use Rattle.checking.specs.Room.{Fields, FieldRoom, fieldThen, fieldGood}
 use Rattle.checking.proofs.Tests.{clash, passed, failed, MapRoom}
 use Rattle.checking.proofs.Children.{good-null, good-inside}
 use Rattle.checking.proofs.Containers.{struct-odd, struct-short, struct-past, struct-good, Eights, container-eights}
@@ -137,7 +137,7 @@ module _ {t : List ℕ} {first d n : ℕ} {b : List ℕ} {slots start c i slot c
     law = field-typed (schemaOf t) i (posOf t first) d n (a .given .typed) (omega (arith, a .state .within))
 
     -- where its entry is looked up
-    pub field-stands : Stands t c d
+    pub field-stands : InTable t c d
     field-stands = record {
       table = a .given .table;
       typed = subst (λ (x : ℕ). Typed (schemaOf t) x d) (sym (a .type)) (law .typed);
@@ -182,7 +182,7 @@ module _ {t : List ℕ} {first d n : ℕ} {b : List ℕ} {slots start c i slot c
   abbrev own : Ty
   own = field ts i
 
-  stands : Stands t c d
+  stands : InTable t c d
   stands = field-stands a (less)
 
   same : typeOf t c d ≡ own

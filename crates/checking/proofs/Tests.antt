@@ -1,6 +1,6 @@
 -- Readings as numbers: an assertion is a test, and a reading of children ends as its ranges do. Assumes nothing.
 use mathlib.Core.Path.{_≡_, refl, sym, ap, _∙_}
-use mathlib.Core.Bool.{Bool, true, false, not, cond}
+use mathlib.Core.Bool.{Bool, true, false, not, cond, true≢false}
 use mathlib.Core.List.{List, _∷_}
 use Prim.Native.Nat.{ℕ, zero, suc, _+_, _*_, _-_, _/_, _^_, _≤_, _<_}
 use native.Mathlib.Decide.{decLe, decLt, ℕ-discrete}
@@ -32,7 +32,7 @@ pub seen : {r t v : Bool} → r ≡ t → r ≡ v → t ≡ v
 seen e q = sym e ∙ q
 
 pub clash : {t : Bool} → t ≡ true → t ≡ false → ⊥
-clash e q = let z : _≡_ {A = ℕ} 0 1 = cc in omega arith
+clash e q = true≢false (sym e ∙ q)
 
 -- ---- assertions and cuts
 
@@ -157,10 +157,10 @@ child-byte j o (suc zero) l h = absurd (h refl)
 child-byte j o (suc (suc i)) l h = omega arith
 
 -- the byte that is found is within bounds
-pub first-most : (b : List ℕ) (at stop y : ℕ) → y ≡ at + zerosAhead (part b at (stop - at)) → at ≤ stop → y ≤ stop
+first-most : (b : List ℕ) (at stop y : ℕ) → y ≡ at + zerosAhead (part b at (stop - at)) → at ≤ stop → y ≤ stop
 first-most b at stop y e h = omega (arith, ahead-most (part b at (stop - at)), length-take (stop - at) (drop at b))
 
-pub past-within : (b : List ℕ) (n stop y : ℕ) → y ≡ stop - bitmap n + pastByte n (part b (stop - bitmap n) (bitmap n))
+past-within : (b : List ℕ) (n stop y : ℕ) → y ≡ stop - bitmap n + pastByte n (part b (stop - bitmap n) (bitmap n))
     → bitmap n ≤ stop → stop ≤ length b → y ≤ stop
 past-within b n stop y e l h =
     let k : length (part b (stop - bitmap n) (bitmap n)) ≡ bitmap n = length-part b (stop - bitmap n) (bitmap n) (omega arith) in

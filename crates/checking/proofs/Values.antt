@@ -11,13 +11,13 @@ use Rattle.words.specs.Bytes.{Bytes, bitmap}
 use Rattle.schema.specs.Types.{Ty, li, ma, ro, place}
 use Rattle.schema.specs.Walk.{Typed, nextAt, ListAt, MapAt, StructAt}
 use Rattle.schema.proofs.Typing.{typed-deep}
-use Rattle.schema.proofs.Places.{typed-place, place-li, place-ma, place-ro, holding-of}
+use Rattle.schema.proofs.Places.{typed-place, holding-of}
 use Rattle.table.specs.Words.{placeIn, afterIn, countIn}
-use Rattle.table.specs.Tables.{Stands, EntryAt, schemaOf, posOf}
-use Rattle.table.proofs.Places.{place-room, table-short}
+use Rattle.table.specs.Tables.{InTable, EntryAt, schemaOf, posOf, typeOf, typesOf}
+use Rattle.table.proofs.Places.{place-room, table-short, entry-list, entry-map, entry-struct}
 use Rattle.standing.proofs.Tabled.{kind-varies}
 use Rattle.checking.specs.Sound.{faultOf}
-use Rattle.checking.specs.Room.{typeOf, typesOf, Holding, Fields, LeavesOr0, Items, Pair}
+use Rattle.checking.specs.Room.{Holding, Fields, LeavesOr0, Items, Pair}
 use Rattle.checking.proofs.Containers.{Eights, container-eights}
 use Rattle.checking.proofs.Loops.{items, Slots}
 
@@ -27,14 +27,14 @@ pub as-type : (t u : Ty) (b : List ℕ) (r : ℕ) → t ≡ u → r ≡ faultOf 
 as-type t u b r e h = h ∙ ap (λ (x : Ty). faultOf x b) (sym e)
 
 -- a place of a table is small
-pub place-low : {t : List ℕ} {c d : ℕ} → Stands t c d → c < 1024
+pub place-low : {t : List ℕ} {c d : ℕ} → InTable t c d → c < 1024
 place-low {t} {c} {d} s = omega (arith, place-room t (s .table) c d (s .typed), table-short t (s .table))
 
-pub place-fits : {t : List ℕ} {c d : ℕ} → Stands t c d → Fits w64 c
+pub place-fits : {t : List ℕ} {c d : ℕ} → InTable t c d → Fits w64 c
 place-fits s = omega (arith, place-low s)
 
 -- and has a next one
-pub next-place : {t : List ℕ} {c d : ℕ} → Stands t c d → Fits w64 (c + 1)
+pub next-place : {t : List ℕ} {c d : ℕ} → InTable t c d → Fits w64 (c + 1)
 next-place s = omega (arith, place-low s)
 
 -- a container's kind, by its entry
@@ -44,7 +44,7 @@ holds-kind e h = omega arith
 -- What a loop over children, d deep, whose call has the measure m, knows of a child's bytes b that should stand for a container: w is the
 -- entry of its type, and k its kind.
 pub record Child (t : List ℕ) (c d w k m : ℕ) (b : List ℕ) : Type 0 where
-  pub stands : Stands t c d
+  pub stands : InTable t c d
   pub entry : EntryAt t c d w
   pub kind : k ≡ placeIn w
   pub holds : 9 ≤ k
@@ -65,16 +65,10 @@ module _ {t : List ℕ} {c d w k m : ℕ} {b : List ℕ} (h : Child t c d w k m 
   falls : (j : ℕ) → j < 8 → (d - 1) * 8 + j < m
   falls j l = omega (arith, child-deep, h .rank)
 
-  -- where its first child stands, if it is no struct
-  first-child : (placeIn w ≡ 11 → ⊥) → posOf t (c + 1) ≡ p + 2
-  first-child ne = h .entry .child ne
-
   -- a list
   module _ (e : k ≡ 9) where
     list-law : ListAt s p d (posOf t (c + 1))
-    list-law =
-        subst (ListAt s p d) (sym (first-child (λ q. omega (arith, h .kind))))
-        (place-li s p d (h .stands .typed) (placeIn w) (h .entry .place) (sym (h .kind) ∙ e))
+    list-law = entry-list (h .stands) (h .entry) (sym (h .kind) ∙ e)
 
     pub child-list : ((d - 1) * 8 + 3 < m) × Holding t (c + 1) (d - 1) b
     child-list = (falls 3 (omega arith), record { stands = record { table = h .stands .table; typed = list-law .element }; small = h .small })
@@ -91,11 +85,9 @@ module _ {t : List ℕ} {c d w k m : ℕ} {b : List ℕ} (h : Child t c d w k m 
         go i a b l q f = omega arith
 
     map-law : MapAt s p d (posOf t (c + 1)) (nextAt s (posOf t (c + 1)) (d - 1))
-    map-law =
-        subst (λ (q : ℕ). MapAt s p d q (nextAt s q (d - 1))) (sym (first-child (λ q. omega (arith, ten))))
-        (place-ma s p d (h .stands .typed) (placeIn w) (h .entry .place) ten)
+    map-law = entry-map (h .stands) (h .entry) ten
 
-    pub child-keys : Stands t (c + 1) (d - 1)
+    pub child-keys : InTable t (c + 1) (d - 1)
     child-keys = record { table = h .stands .table; typed = map-law .keys }
 
     module _ {u : ℕ} (eu : EntryAt t (c + 1) (d - 1) u) {a : ℕ} (ea : a ≡ afterIn u) where
@@ -121,9 +113,7 @@ module _ {t : List ℕ} {c d w k m : ℕ} {b : List ℕ} (h : Child t c d w k m 
     eleven = sym (h .kind) ∙ e
 
     struct-law : StructAt s p d (posOf t (c + 1)) n
-    struct-law =
-        subst (λ (q : ℕ). StructAt s p d q n) (sym (h .entry .first eleven))
-        (place-ro s p d (h .stands .typed) (placeIn w) (h .entry .place) eleven n (en ∙ h .entry .count eleven))
+    struct-law = entry-struct (h .stands) (h .entry) eleven en
 
     struct-fields : Fields t (c + 1) n (d - 1) b
     struct-fields = record { table = h .stands .table; typed = struct-law .fields; high = struct-law .high; small = h .small }

@@ -7,20 +7,14 @@ use lib.Dec.{eqb}
 use lib.ListN.{length, replicate}
 use Rattle.words.specs.Bytes.{pad, bitmap, part}
 use Rattle.words.specs.Bits.{bit}
+use Rattle.schema.specs.Marks.{STRING, LIST, STRUCT}
 use Rattle.schema.specs.Types.{Fixed, width, Ty, Tys, field}
-use Rattle.schema.specs.Walk.{TypedAll, typeAt, typesAt}
+use Rattle.schema.specs.Walk.{TypedAll}
 use Rattle.layout.specs.Layout.{Kid, inside, number, limit, kid, slotOf, codec}
 use Rattle.table.specs.Words.{Lined, placeIn, countIn}
-use Rattle.table.specs.Tables.{Table, Stands, EntryAt, schemaOf, posOf}
+use Rattle.table.specs.Tables.{Table, InTable, EntryAt, schemaOf, posOf}
 use Rattle.standing.specs.Standing.{FirstUnfit, varies}
 use Rattle.checking.specs.Sound.{code, inChild, zerosThen}
-
--- the type at a place of a table, and the n types that stand from a place on
-abbrev pub typeOf : List ℕ → ℕ → ℕ → Ty
-typeOf t c d = typeAt (schemaOf t) (posOf t c) d
-
-abbrev pub typesOf : List ℕ → ℕ → ℕ → ℕ → Tys
-typesOf t c d n = typesAt (schemaOf t) (posOf t c) d n
 
 -- ---- lists of leaves
 
@@ -71,7 +65,7 @@ fieldGood f b i slot = eqb (fieldThen f b i slot 0) 0
 pub record FieldRoom (b : List ℕ) (i slot w : ℕ) : Type 0 where
   pub small : length b ≤ 16384
   pub lined : Lined w
-  pub fixed : placeIn w < 7
+  pub fixed : placeIn w < STRING
   pub bit-room : 0 + i / 8 < length b
   pub slot-room : slot + 8 ≤ length b
 
@@ -79,7 +73,7 @@ pub record FieldRoom (b : List ℕ) (i slot w : ℕ) : Type 0 where
 
 -- a type stands at a place, and b is short enough for a row
 pub record Holding (t : List ℕ) (c d : ℕ) (b : List ℕ) : Type 0 where
-  pub stands : Stands t c d
+  pub stands : InTable t c d
   pub small : length b ≤ 16384
 
 -- the types of a struct's n fields stand from a place on
@@ -91,7 +85,7 @@ pub record Fields (t : List ℕ) (first n d : ℕ) (b : List ℕ) : Type 0 where
 
 -- n is the number of fields, fewer than 64, of a struct by its entry w; 0 says nothing
 pub record LeafFields (w n : ℕ) : Type 0 where
-  pub struct : placeIn w ≡ 11
+  pub struct : placeIn w ≡ STRUCT
   pub fields : n ≡ countIn w
   pub few : n < 64
 
@@ -100,17 +94,17 @@ LeavesOr0 w n = (n ≡ 0 → ⊥) → LeafFields w n
 
 -- the type is a container, w its entry, and the slots of a list of n such elements lie in b, which is whole units
 pub record Items (t : List ℕ) (c d w : ℕ) (b : List ℕ) (n : ℕ) : Type 0 where
-  pub stands : Stands t c d
+  pub stands : InTable t c d
   pub entry : EntryAt t c d w
-  pub holds : 9 ≤ placeIn w
+  pub holds : LIST ≤ placeIn w
   pub small : length b ≤ 16384
   pub whole : length b % 8 ≡ 0
   pub room : 8 + bitmap n + 8 * n ≤ length b
 
 -- the types of a map's keys and values
 pub record Pair (t : List ℕ) (k v d : ℕ) (b : List ℕ) : Type 0 where
-  pub keys : Stands t k d
-  pub values : Stands t v d
+  pub keys : InTable t k d
+  pub values : InTable t v d
   pub small : length b ≤ 16384
 
 -- the elements of a list of n of the type, in their slots

@@ -15,13 +15,13 @@ ghost use Rattle.schema.specs.Types.{ro, li, ma, fixedAt};
 ghost use Rattle.schema.specs.Walk.{fieldsOf};
 ghost use Rattle.layout.specs.Layout.{kids, faultAt};
 ghost use Rattle.table.specs.Words.{placeIn};
-ghost use Rattle.table.specs.Tables.{Table, schemaOf};
+ghost use Rattle.table.specs.Tables.{Table, schemaOf, typeOf, typesOf};
 ghost use Rattle.standing.specs.Standing.{FieldsFrom};
 ghost use Rattle.checking.specs.Sound.{faultOf, inChild, faultFrom, checkedMeans};
 ghost use Rattle.checking.specs.Room.{FieldRoom, fieldGood, fieldThen, Holding, Fields, LeavesOr0, Items, Pair};
-ghost use Rattle.checking.specs.Room.{typeOf, typesOf, elements, Asked, Unfit, variesIn};
+ghost use Rattle.checking.specs.Room.{elements, Asked, Unfit, variesIn};
 
-pub mod lists;
+mod lists;
 
 // What checking a row comes to: the place of the first fault counts from the row's first byte.
 pub enum Checked {

@@ -16,7 +16,7 @@ use Rattle.table.specs.Words.{MarkAt}
 use Rattle.table.specs.Tables.{Built}
 use Rattle.table.proofs.Lines.{held-is}
 use Rattle.table.proofs.Filling.{Filled, nothing, filled}
-use Rattle.table.proofs.Running.{run, run-end}
+use Rattle.table.proofs.Running.{run-end}
 use Rattle.table.proofs.Building.{Going, Leaving, going-pop, going-done, pop-run}
 use Rattle.table.proofs.Rooting.{Headed, Rooted, start-other, start-looking}
 use Rattle.compare.specs.Lent.{Own, Gives}
@@ -102,7 +102,7 @@ module _ {s t F : List ℕ} {d i x n base left : ℕ} (f : Follows s t F d i x n
     none-owed = rw h
 
     -- nothing is left of the table and of the schema
-    pub is-own : left ≡ 1 → x ≡ length s - 2 * length t → Own s t
+    is-own : left ≡ 1 → x ≡ length s - 2 * length t → Own s t
     is-own a b =
         let i-all : i ≡ length t = omega (arith, f .asked, none-owed) in
         let e : getD t p 0 / 18014398509481984 ≡ i = ap (λ (u : ℕ). getD t u 0 / 18014398509481984) root-place ∙ f .whole ∙ sym i-all in
@@ -126,7 +126,7 @@ module _ {s t F : List ℕ} {d i x n base left : ℕ} (f : Follows s t F d i x n
         place (filled a j U) = j
 
     -- of a schema's own table nothing is
-    pub own-all : Own s t → (left ≡ 1) × (x ≡ length s - 2 * length t)
+    own-all : Own s t → (left ≡ 1) × (x ≡ length s - 2 * length t)
     own-all o =
         let y = lands o (f .going .ends) in
         let e = ends (sym (run-end s F d (2 * i + x) i n T z h) ∙ y .is) in

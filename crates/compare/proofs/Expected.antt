@@ -12,7 +12,8 @@ use Rattle.table.specs.Tables.{Built, BuiltAt}
 use Rattle.table.proofs.Lines.{held-small}
 use Rattle.table.proofs.Filling.{Filled, nothing, filled}
 use Rattle.table.proofs.Running.{run}
-use Rattle.table.proofs.Building.{neither, Ends, Looking, Scanned, Marked, Opened, is-marked, unmarked, is-opened, going-deep, going-shut, leaf-run, place-in}
+use Rattle.table.proofs.Building.{neither, Ends, Looking, Scanned, Marked, OpenHolder, is-marked, unmarked, is-opened, going-deep}
+use Rattle.table.proofs.Building.{going-shut, leaf-run, place-in}
 use Rattle.table.proofs.Opening.{open-run}
 use Rattle.compare.specs.Lent.{Own}
 use Rattle.compare.proofs.Runs.{owed, owed-push, run-bounds, run-low, run-same}
@@ -95,7 +96,7 @@ module _ {s t F T : List ℕ} {d at i n base : ℕ} (o : Own s t) (g : Rising F 
         is = v ∙ u ∙ ap (λ (z : ℕ). z + base) (M .line .is);
       }
 
-  holder-says : {w k c m : ℕ} → Opened s T F d at i n base w k c → w % 65536 ≡ m → HolderSays s t F d at i n base m
+  holder-says : {w k c m : ℕ} → OpenHolder s T F d at i n base w k c → w % 65536 ≡ m → HolderSays s t F d at i n base m
   holder-says {w} {k} {c} {m} O e =
       let M = O .marked in
       let y = lands o (M .looking .going .ends) in

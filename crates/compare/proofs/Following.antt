@@ -2,7 +2,7 @@
 -- are open; and a law for each way on. Assumes nothing.
 use mathlib.Core.Path.{_≡_, refl, ap, sym, _∙_, subst}
 use mathlib.Core.Bool.{true}
-use mathlib.Core.List.{List, [], _∷_, _++_}
+use mathlib.Core.List.{List, _++_}
 use Prim.Native.Nat.{ℕ, _+_, _*_, _-_, _/_, _%_, _<_, _≤_}
 use native.Mathlib.Omega.{arith}
 use lib.ListN.{length, take, getD, set, replicate, length-append, length-replicate}
@@ -11,7 +11,7 @@ use mir.Val.{Fits}
 use mir.Syntax.{w64}
 use Rattle.table.specs.Words.{lineWord, MarkAt, lineFor, heldAt, behindAt}
 use Rattle.table.proofs.Lines.{held-small}
-use Rattle.table.proofs.Building.{Going, Looking, Line, Marked, Opened, line-some, going-leaf, leaf-fits}
+use Rattle.table.proofs.Building.{Going, Looking, Line, Marked, OpenHolder, line-some, going-leaf, leaf-fits}
 use Rattle.table.proofs.Opening.{going-push}
 use Rattle.compare.specs.Lines.{isLeaf}
 use Rattle.compare.proofs.Leaves.{leaf-low, leaf-line, line-own, line-kind}
@@ -156,7 +156,7 @@ module _ {s t F : List ℕ} {d i x n base left w k c x′ : ℕ} (y : Opens s t 
     line = subst (Line s (2 * i + x) (lineWord k)) (line-kind k (y .high)) (line-some (mark-in g) (y .mark) (sym own-line) refl);
   }
 
-  is-open : Opened s R F d (2 * i + x) i n base (lineWord k) k c
+  is-open : OpenHolder s R F d (2 * i + x) i n base (lineWord k) k c
   is-open = record { marked = open-marked; holds = y .low; held = y .held; some = y .some; shallow = y .shallow }
 
   few : c ≤ 128

@@ -6,7 +6,7 @@ use Prim.Native.Nat.{ℕ}
 use lib.Dec.{eqb, T}
 use borrow.Author.Tests.{eq-eqb, eqb-true}
 use Rattle.schema.specs.Kinds.{headKind}
-use Rattle.schema.specs.Reading.{judged, parse, parseKind}
+use Rattle.schema.specs.Reading.{judged, parseType, parseKind}
 use Rattle.schema.specs.declared.Judged.{Judged}
 use Rattle.schema.specs.declared.Judged.the-variants.{Accepted, Refused}
 use Rattle.table.specs.Tables.{Table, tableOf, schemaOf}
@@ -59,7 +59,7 @@ by-other s t n = go (same t (tableOf s)) refl
     go true e = absurd (n (same-eq t (tableOf s) (subst T (sym e) tt)))
 
 pub none-refused : judged [] ≡ Refused
-unfolding judged parse parseKind headKind
+unfolding judged parseType parseKind headKind
 none-refused = refl
 
 pub other-refused : {s t : List ℕ} → (Own s t → ⊥) → judged (schemaBy s t) ≡ Refused

@@ -1,10 +1,10 @@
 pub mod Lent
-pub mod Leaves
+mod Leaves
 pub mod Opened
-pub mod Runs
-pub mod Expected
-pub mod Root
-pub mod Columns
-pub mod Following
-pub mod Closing
-pub mod Refusing
+mod Runs
+mod Expected
+mod Root
+mod Columns
+mod Following
+mod Closing
+mod Refusing

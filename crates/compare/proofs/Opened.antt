@@ -62,7 +62,7 @@ opened-length P F zero = length-set P (getD F 0 0 / 256) (getD P (getD F 0 0 / 2
 opened-length P F (suc d) =
     length-set (opened P F d) (getD F (suc d) 0 / 256) (getD P (getD F (suc d) 0 / 256) 0 % 18014398509481984) ∙ opened-length P F d
 
-pub opened-other : (P F : List ℕ) (d p : ℕ) → ((q : ℕ) → q ≤ d → getD F q 0 / 256 ≡ p → ⊥) → getD (opened P F d) p 0 ≡ getD P p 0
+opened-other : (P F : List ℕ) (d p : ℕ) → ((q : ℕ) → q ≤ d → getD F q 0 / 256 ≡ p → ⊥) → getD (opened P F d) p 0 ≡ getD P p 0
 unfolding opened
 opened-other P F zero p h =
     getD-set-other P (getD F 0 0 / 256) p (getD P (getD F 0 0 / 256) 0 % 18014398509481984) 0 (λ e. h 0 (omega arith) (sym e))

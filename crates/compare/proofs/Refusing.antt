@@ -1,6 +1,6 @@
 -- Comparing, where it stops: of a schema's own table every test holds; and a container whose tests hold is opened. Assumes nothing.
 use mathlib.Core.Path.{_≡_, refl, ap, sym, _∙_, subst}
-use mathlib.Core.Bool.{Bool, true, false, cond}
+use mathlib.Core.Bool.{Bool, true, false, cond, true≢false}
 use mathlib.Core.Logic.{_⊎_, inl, inr}
 use mathlib.Core.List.{List}
 use Prim.Native.Nat.{ℕ, _+_, _*_, _-_, _%_, _<_, _≤_}
@@ -20,9 +20,6 @@ use Rattle.compare.proofs.Columns.{less-of, mark-of}
 use Rattle.compare.proofs.Runs.{owed}
 use Rattle.compare.proofs.Expected.{LeafSays, HolderSays, says}
 use Rattle.compare.proofs.Following.{Follows, Faces, Takes, Opens, looking, mark-in, based, follow-open}
-
-neither : {b : Bool} → b ≡ true → b ≡ false → ⊥
-neither e f = let q : _≡_ {A = Bool} true false = sym e ∙ f in let z : _≡_ {A = ℕ} 0 1 = cc in omega arith
 
 -- ---- the lines of containers
 
@@ -119,7 +116,7 @@ module _ {s t F : List ℕ} {d i x n base left w m : ℕ} (y : Takes s t F d i x
   own-holder e = go said
     where
       go : LeafSays t i base m ⊎ HolderSays s t F d (2 * i + x) i n base m → HolderIs s t F d i x n w m
-      go (inl h) = absurd (neither (ap isLeaf (leaf-w h) ∙ leaf-is (h .kind) (h .small)) e)
+      go (inl h) = absurd (true≢false (sym (ap isLeaf (leaf-w h) ∙ leaf-is (h .kind) (h .small)) ∙ e))
       go (inr h) = holder-is h
 
 -- and not too deep

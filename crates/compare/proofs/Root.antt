@@ -11,7 +11,7 @@ use Rattle.schema.specs.Walk.{size, sizes, fieldsOf}
 use Rattle.schema.proofs.Laws.{size-ro}
 use Rattle.schema.proofs.Judging.{accepted-root}
 use Rattle.table.specs.Words.{word, lineWord, lower}
-use Rattle.table.specs.Tables.{many, manys, entries, tableOf}
+use Rattle.table.specs.Tables.{many, manys, tableOf}
 use Rattle.table.proofs.Spots.{entries-many}
 use Rattle.table.proofs.Places.{manys-sizes}
 use Rattle.table.proofs.Filling.{ro-many, ro-entries}

@@ -1,15 +1,16 @@
 -- What a run leads to, said of its end alone: how many entries and bytes it takes at least, and what it leaves of the entries before it.
 -- Assumes nothing.
 use mathlib.Core.Path.{_≡_, refl, ap, sym, _∙_, subst}
-use mathlib.Core.List.{List, [], _∷_}
+use mathlib.Core.List.{List}
 use Prim.Native.Nat.{ℕ, zero, suc, _+_, _*_, _-_, _/_, _%_, _<_, _≤_}
 use native.Mathlib.Decide.{ℕ-discrete, decLt}
 use native.Mathlib.Omega.{arith}
 use native.Mathlib.Numerals.{add-one}
 use lib.ListN.{length, drop, getD, set}
 use lib.Seq.{sets, set-out, getD-set-same, getD-set-other}
+use Rattle.words.proofs.Runs.{sets-low}
 use Rattle.schema.specs.Types.{Tys, end, _then_, count}
-use Rattle.schema.specs.Reading.{ParsedAll, nones, somes, afters, parse, parseAll}
+use Rattle.schema.specs.Reading.{ParsedAll, nones, somes, afters, parseType, parseAll}
 use Rattle.schema.specs.Walk.{sizes}
 use Rattle.schema.proofs.Parse.{SoundAll, sound, all-sound}
 use Rattle.table.specs.Tables.{manys, entriesAll}
@@ -74,14 +75,9 @@ unfolding manys count
 manys-count end = omega arith
 manys-count (X then ts) = omega (arith, many-one X, manys-count ts)
 
--- stores behind a place, in the table or past its end
-sets-low : (L : List ℕ) (q : ℕ) (vs : List ℕ) (p : ℕ) → p < q → getD (sets L q vs) p 0 ≡ getD L p 0
-sets-low L q [] p h = refl
-sets-low L q (v ∷ vs) p h = sets-low (set L q v) (suc q) vs p (omega arith) ∙ getD-set-other L q p v 0 (λ e. absurd (omega arith))
-
 fill-laid : (s : List ℕ) (at i n D e : ℕ) (T : List ℕ) → Ended (Laid at i n T) (fill s at i n D e T)
 unfolding fill
-fill-laid s at i n D e T = go (parseAll (parse D) n (drop at s)) (all-sound D (parse D) (sound D) n (drop at s))
+fill-laid s at i n D e T = go (parseAll (parseType D) n (drop at s)) (all-sound D (parseType D) (sound D) n (drop at s))
   where
     go : (x : ParsedAll) → SoundAll D n (drop at s) x
         → Ended (Laid at i n T) (afters x nothing (λ ts r. filled (at + sizes ts) (i + manys ts) (sets T i (entriesAll e i ts))))

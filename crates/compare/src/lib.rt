@@ -17,7 +17,7 @@ use table::STRUCT;
 use table::STRUCT_MARK;
 
 // The lines of `table::TYPES` that are leaves', each at its kind; 0 at every other.
-pub const LEAVES: [u32; 16] = [
+const LEAVES: [u32; 16] = [
     0x406F62,
     0x10473169,
     0x208F3269,

@@ -1,7 +1,1 @@
-pub mod Codes
-pub mod Words
-pub mod Steps
-pub mod Asking
-pub mod Unique
-pub mod InBatch
 pub mod Tabled

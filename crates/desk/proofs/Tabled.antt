@@ -16,8 +16,8 @@ use Rattle.table.proofs.Places.{table-of, table-short}
 use Rattle.row.specs.Outcomes.{lengthIn, LowSized}
 use Rattle.row.proofs.Low.{low-unless, sized-low}
 use Rattle.lent.specs.Tabulated.{tabulateOf}
-use Rattle.desk.specs.Codes.{Halved}
-use Rattle.desk.proofs.Codes.{halved}
+use Rattle.codes.specs.Codes.{Halved}
+use Rattle.codes.proofs.Codes.{halved}
 
 sized-below : (n : ℕ) → n ≤ 512 → (b : Bool) → lengthIn (cond b (takes n) (refusedWith (numbered 4) n)) ≤ 49152
 sized-below n h true = omega arith

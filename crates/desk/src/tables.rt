@@ -3,25 +3,14 @@
 ghost use mathlib.Core.Path.{_≡_};
 ghost use lib.ListN.{length};
 ghost use Rattle.layout.specs.Entries.{judgeOf, checkOf, writeOf, writtenOf, listOf, listedOf, readOf};
-ghost use Rattle.answers.specs.Paths.{pathOf};
 ghost use Rattle.compare.specs.Lent.{schemaBy};
 ghost use Rattle.batch.specs.Entries as B;
 ghost use Rattle.lent.specs.Tabulated.{tabulateOf, tabledOf};
-ghost use Rattle.desk.specs.Asked.{askedOf, unfitOf, setAsked, Leaves};
-ghost use Rattle.desk.specs.Batch.{fetchRefusal, fetchWords, checkCode, checkWords, Beside, AppendsTo, unfitIn, setAskedIn};
-ghost use Rattle.desk.specs.Codes.{refusalCode, verdictCode, Fills};
-ghost use Rattle.desk.specs.Words.{Told, Tells};
-use crate::Asked;
-use crate::kinds;
-use crate::length_code;
-use crate::outcome_code;
-use crate::path_of;
-use crate::refusal_code;
-use crate::told;
-use answers::Length;
-use answers::Path;
-use batch::Checked;
-use batch::Fetched;
+ghost use Rattle.codes.specs.Asked.{askedOf, setAsked, Leaves};
+ghost use Rattle.codes.specs.Batch.{fetchRefusal, fetchWords, checkCode, checkWords, Beside, AppendsTo, setAskedIn};
+ghost use Rattle.codes.specs.Codes.{verdictCode, Fills};
+ghost use Rattle.codes.specs.Words.{Told, Tells};
+use codes::told;
 use lent::batches;
 
 #[no_mangle]
@@ -30,21 +19,21 @@ pub extern "C" fn loaf_table(schema: &[u8], out: &mut [u64]) -> u64
         (tabulateOf (now (schema .entry)) (length (now (out .entry)))) (tabledOf (now (schema .entry)) (now (out .entry)))
         r (now (out .exit)) ⌝ }
 {
-    length_code(lent::table(schema, out))
+    codes::length_code(lent::table(schema, out))
 }
 
 #[no_mangle]
 pub extern "C" fn loaf_judge_by(schema: &[u8], table: &[u64]) -> u64
     ensures { λ r. ⌜ r ≡ verdictCode (judgeOf (schemaBy (now (schema .entry)) (now (table .entry)))) ⌝ }
 {
-    outcome_code(lent::judge_by(schema, table))
+    codes::outcome_code(lent::judge_by(schema, table))
 }
 
 #[no_mangle]
 pub extern "C" fn loaf_check_by(schema: &[u8], table: &[u64], row: &[u8]) -> u64
     ensures { λ r. ⌜ r ≡ verdictCode (checkOf (schemaBy (now (schema .entry)) (now (table .entry))) (now (row .entry))) ⌝ }
 {
-    outcome_code(lent::check_by(schema, table, row))
+    codes::outcome_code(lent::check_by(schema, table, row))
 }
 
 #[no_mangle]
@@ -54,7 +43,7 @@ pub extern "C" fn loaf_write_by(schema: &[u8], table: &[u64], listing: &[u8], ou
         (writtenOf (schemaBy (now (schema .entry)) (now (table .entry))) (now (listing .entry)) (now (out .entry)))
         r (now (out .exit)) ⌝ }
 {
-    length_code(lent::write_by(schema, table, listing, out))
+    codes::length_code(lent::write_by(schema, table, listing, out))
 }
 
 #[no_mangle]
@@ -64,7 +53,7 @@ pub extern "C" fn loaf_list_by(schema: &[u8], table: &[u64], row: &[u8], out: &m
         (listedOf (schemaBy (now (schema .entry)) (now (table .entry))) (now (row .entry)) (now (out .entry)))
         r (now (out .exit)) ⌝ }
 {
-    length_code(lent::list_by(schema, table, row, out))
+    codes::length_code(lent::list_by(schema, table, row, out))
 }
 
 #[no_mangle]
@@ -79,23 +68,10 @@ pub extern "C" fn loaf_read_by(
         (readOf (schemaBy (now (schema .entry)) (now (table .entry))) (now (row .entry)) (now (path .entry)))
         (now (answer .entry)) r (now (answer .exit)) ⌝ }
 {
-    told::put_answer(answer, lent::read_by(schema, table, row, path_of(path)))
-}
-
-// A setting that is none is refused with 8, after the refusals of the table, of the row and of the place.
-fn refuse_by(schema: &[u8], table: &[u64], row: &[u8], path: Path) -> u64
-    ensures { λ r. ⌜ r ≡ refusalCode (unfitOf (schemaBy (now (schema .entry)) (now (table .entry))) (now (row .entry)) (pathOf path)) ⌝ }
-{
-    let judged = outcome_code(lent::check_by(schema, table, row));
-    if judged != 0 {
-        return judged;
-    }
-    let mut answer = [0u64; 4];
-    let found = told::put_answer(&mut answer, lent::read_by(schema, table, row, path));
-    if found != 0 {
-        return found;
-    }
-    0x8_0000_0000
+    told::put_answer(
+        answer,
+        lent::read_by(schema, table, row, codes::path_of(path)),
+    )
 }
 
 #[no_mangle]
@@ -113,11 +89,7 @@ pub extern "C" fn loaf_set_by(
         (now (row .entry)) (now (path .entry)) (askedOf kind value (now (bytes .entry))))
         (now (row .entry)) r (now (row .exit)) ⌝ }
 {
-    let p = path_of(path);
-    match kinds::of_kind(kind, value) {
-        Asked::Nothing => refuse_by(schema, table, row, p),
-        Asked::Of(x) => outcome_code(lent::set_by(schema, table, row, p, x, bytes)),
-    }
+    asking::set_by(schema, table, row, path, kind, value, bytes)
 }
 
 #[no_mangle]
@@ -133,10 +105,7 @@ pub extern "C" fn loaf_batch_fetch_by(
         (fetchWords (B.fetchOf (schemaBy (now (schema .entry)) (now (table .entry))) (now (batch .entry)) k))
         (now (answer .entry)) r (now (answer .exit)) ⌝ }
 {
-    match batches::fetch_by(schema, table, batch, k) {
-        Fetched::Row { start, len } => told::put_two(answer, start as u64, len as u64),
-        Fetched::Refused(r) => refusal_code(r),
-    }
+    told::fetched(answer, batches::fetch_by(schema, table, batch, k))
 }
 
 #[no_mangle]
@@ -151,14 +120,7 @@ pub extern "C" fn loaf_batch_check_by(
         (checkWords (B.checkOf (schemaBy (now (schema .entry)) (now (table .entry))) (now (batch .entry))))
         (now (answer .entry)) r (now (answer .exit)) ⌝ }
 {
-    match batches::check_by(schema, table, batch) {
-        Checked::Done => 0,
-        Checked::Refused(r) => refusal_code(r),
-        Checked::RefusedRow { row, refusal } => {
-            told::put_word(answer, 0, row as u64);
-            refusal_code(refusal)
-        }
-    }
+    told::checked(answer, batches::check_by(schema, table, batch))
 }
 
 #[no_mangle]
@@ -175,13 +137,7 @@ pub extern "C" fn loaf_batch_append_by(
         (B.appendedOf (schemaBy (now (schema .entry)) (now (table .entry))) (now (room .entry)) used (now (row .entry)))
         (now (answer .entry)) r (now (room .exit)) (now (answer .exit)) ⌝ }
 {
-    match batches::append_by(schema, table, room, used, row) {
-        Length::Done(n) => {
-            told::put_word(answer, 0, n as u64);
-            0
-        }
-        Length::Refused(r) => told::tell_refusal(answer, r),
-    }
+    told::appended(answer, batches::append_by(schema, table, room, used, row))
 }
 
 #[no_mangle]
@@ -199,22 +155,8 @@ pub extern "C" fn loaf_batch_read_by(
 {
     told::put_answer(
         answer,
-        batches::read_by(schema, table, batch, k, path_of(path)),
+        batches::read_by(schema, table, batch, k, codes::path_of(path)),
     )
-}
-
-// A setting that is none is refused with 8, after the refusals of the table, of the batch, of the row and of the place.
-fn refuse_in_by(schema: &[u8], table: &[u64], batch: &[u8], k: usize, path: Path) -> u64
-    ensures { λ r. ⌜ r ≡ refusalCode
-        (unfitIn (schemaBy (now (schema .entry)) (now (table .entry))) (now (batch .entry)) k (pathOf path)) ⌝ }
-{
-    match batches::fetch_by(schema, table, batch, k) {
-        Fetched::Row { start, len } => {
-            let end = start + len;
-            refuse_by(schema, table, &batch[start..end], path)
-        }
-        Fetched::Refused(r) => refusal_code(r),
-    }
 }
 
 #[no_mangle]
@@ -233,9 +175,5 @@ pub extern "C" fn loaf_batch_set_by(
         (now (batch .entry)) k (now (path .entry)) (askedOf kind value (now (bytes .entry))))
         (now (batch .entry)) r (now (batch .exit)) ⌝ }
 {
-    let p = path_of(path);
-    match kinds::of_kind(kind, value) {
-        Asked::Nothing => refuse_in_by(schema, table, batch, k, p),
-        Asked::Of(x) => outcome_code(batches::set_by(schema, table, batch, k, p, x, bytes)),
-    }
+    asking::set_in_by(schema, table, batch, k, path, kind, value, bytes)
 }

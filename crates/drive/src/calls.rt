@@ -1,13 +1,13 @@
 // One call of the library for each op, and its line. Each answers where the line ends: 0 where there is none.
 use crate::calls_by;
 use crate::requests::Head;
-use telling::lines;
 ghost use Prim.Native.Nat.{_≤_};
 ghost use lib.ListN.{length};
 
-// So many words may be lent for a table, and what they hold before the call.
-const WORDS: usize = 1024;
+// So many words a table may have, lent by the request or for the answer.
+pub const WORDS: usize = 1024;
 
+// What the words lent for the answer hold before the call.
 const FILL: u64 = 0xAAAA_AAAA_AAAA_AAAA;
 
 // The steps from their bytes, and how many there are.
@@ -29,7 +29,7 @@ pub fn take_steps(bytes: &[u8], steps: &mut [u32]) -> usize
 pub fn path_of(bytes: &[u8]) -> answers::Path {
     let mut steps = [0u32; 64];
     let n = take_steps(bytes, &mut steps);
-    desk::path_of(&steps[0..n])
+    codes::path_of(&steps[0..n])
 }
 
 // What the lent bytes hold before a call.
@@ -160,7 +160,7 @@ fn answer_plain<'a>(
         b's' | b'z' => set(h, schema, second, steps, third, out, line),
         b'r' => telling::answer(line, row::read(schema, second, path_of(steps))),
         b'o' => telling::answer(line, row::ask_once(schema, second, path_of(steps))),
-        b't' => lines::put_bytes(line, 0, row::text_or(schema, second, path_of(steps), third)),
+        b't' => telling::text(line, row::text_or(schema, second, path_of(steps), third)),
         b'n' => telling::count(line, batch::count(second)),
         b'f' => telling::fetched(line, batch::fetch(schema, second, room)),
         b'k' => telling::checked(line, batch::check(schema, second)),

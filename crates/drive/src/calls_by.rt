@@ -1,7 +1,6 @@
 // The calls by a lent table, one for each op that takes a schema; lines and ends as in `calls`.
 use crate::calls;
 use crate::requests::Head;
-use telling::lines;
 
 fn write(line: &mut [u8], schema: &[u8], table: &[u64], listing: &[u8], out: &mut [u8]) -> usize {
     calls::fill(out);
@@ -117,9 +116,8 @@ pub fn answer<'a>(
             line,
             lent::ask_once_by(schema, table, second, calls::path_of(steps)),
         ),
-        b't' => lines::put_bytes(
+        b't' => telling::text(
             line,
-            0,
             lent::text_or_by(schema, table, second, calls::path_of(steps), third),
         ),
         b'f' => telling::fetched(line, lent::batches::fetch_by(schema, table, second, room)),

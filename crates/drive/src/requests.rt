@@ -2,9 +2,9 @@
 ghost use Prim.Native.Nat.{_≤_};
 ghost use lib.ListN.{length};
 use crate::calls;
+use crate::calls::WORDS;
 use libc::STDIN_FILENO;
 use libc::STDOUT_FILENO;
-use telling::lines;
 
 // The longest parts that a request may have; what it may ask to be lent, `calls` says.
 const SCHEMA: usize = 2048;
@@ -15,9 +15,7 @@ const STEPS: usize = 64;
 
 const THIRD: usize = 20000;
 
-// So many words a lent table may have; a number of words that stands for one that is longer or cut short.
-const WORDS: usize = 1024;
-
+// A number of words that stands for a table that is longer or cut short.
 const NO_TABLE: usize = WORDS + 1;
 
 // The bit of a kind that says: by a table.
@@ -36,7 +34,7 @@ pub struct Head {
     pub value: u64,
 }
 
-pub enum Start {
+enum Start {
     Nothing,
     Cut,
     Request(Head),
@@ -105,7 +103,7 @@ fn write_line(line: &mut [u8], end: usize) -> bool {
     if end == 0 {
         return false;
     }
-    let n = lines::put_byte(line, end, b'\n');
+    let n = telling::end(line, end);
     if n <= line.len() {
         io::write_all(STDOUT_FILENO, &line[0..n]);
     }

@@ -1,5 +1,5 @@
 -- The laws that the proofs of `engine` cite.
-pub mod Orders
-pub mod Checked
-pub mod Listings
-pub mod Refusing
+mod Orders
+mod Checked
+mod Listings
+mod Refusing

@@ -4,7 +4,7 @@ use mathlib.Core.Logic.{_≢_}
 use mathlib.Core.Bool.{Bool, true, false}
 use mathlib.Core.Option.{Option, none, some, Option·none-ne-some}
 use mathlib.Core.List.{List, [], _∷_}
-use Prim.Native.Nat.{ℕ, _<_, _^_}
+use Prim.Native.Nat.{ℕ, _≤_, _<_, _^_}
 use native.Mathlib.Omega.{arith}
 use lib.ListN.{length}
 use Rattle.words.specs.Bytes.{Bytes, empty}
@@ -14,15 +14,15 @@ use Rattle.words.proofs.Runs.{bytes-sets}
 use Rattle.words.proofs.BitLaws.{bytes-put}
 use Rattle.schema.specs.Types.{Fixed, Ty, fix, text, li, ma, ro, Tys}
 use Rattle.layout.specs.Cells.{Cell, bytes}
-use Rattle.layout.specs.Layout.{codec, Lays, faultAt}
+use Rattle.layout.specs.Layout.{codec, Lays, decode, faultAt}
 use Rattle.layout.specs.Refusals.{Refusal}
 use Rattle.layout.specs.Walk.{Seat, Seen, bad, nullAt, seen, rootSeat, walk}
 use Rattle.layout.specs.Places.{starts}
-use Rattle.layout.specs.Reading.{Answer, typeAt, placed, answerOf, found, readIn}
+use Rattle.layout.specs.Reading.{Answer, typeAlong, placed, answerOf, found, readIn}
 use Rattle.layout.specs.Setting as S
 use Rattle.layout.specs.Setting.{Setting, isNull, inBytes, orEmpty, textOf, writeFixed, suits, keeps, unless, _or_, refusalIn, judgeAt, write}
 use Rattle.layout.specs.Setting.{refuses, becomes, writeAt, outcome, setIn}
-use Rattle.layout.specs.Demand.{Proper, Accepted}
+use Rattle.layout.specs.Demand3.{Proper}
 use Rattle.layout.proofs.Containers.{decode-lays, lays-decode}
 use Rattle.layout.proofs.Cells.{leaf-bytes}
 use Rattle.layout.proofs.Seen.{Like}
@@ -36,7 +36,7 @@ use Rattle.layout.proofs.Judged.{fine-leaf, Granted, granted-by, slotAt
 
 -- ---- outcomes
 
-pub outcome-done : (r : Option Refusal) (row row′ : List ℕ) → outcome none r row ≡ becomes row′ → (r ≡ none) × (row ≡ row′)
+outcome-done : (r : Option Refusal) (row row′ : List ℕ) → outcome none r row ≡ becomes row′ → (r ≡ none) × (row ≡ row′)
 unfolding outcome
 outcome-done none row row′ e = (refl, cc)
 outcome-done (some n) row row′ e = let z : _≡_ {A = ℕ} 0 1 = cc in absurd (omega arith)
@@ -77,7 +77,7 @@ pub record Found (m : Option Ty) (w : Seen) (x : Setting) : Type 0 where
   pub place : m ≡ some type
   pub judged : Judged type (answerOf type w) x
 
-pub found-by : (m : Option Ty) (w : Seen) (x : Setting) → judgeAt m (found m w) x ≡ none → Found m w x
+found-by : (m : Option Ty) (w : Seen) (x : Setting) → judgeAt m (found m w) x ≡ none → Found m w x
 unfolding found judgeAt
 found-by none w x e = absurd (some-none e)
 found-by (some t) w x e = record { type = t; place = refl; judged = judged t (answerOf t w) x e }
@@ -92,7 +92,7 @@ written-by m T x w row e = rw e
 abbrev pub after : Tys → List ℕ → Ty → Setting → Cell → Cell
 after ts p T x c = update p (cellOf (slotAt 0 p (ro ts)) T x) c
 
-changed-at : (ts : Tys) (x : Setting) (T : Ty) (p : List ℕ) (c : Cell) (b : List ℕ) → typeAt p (ro ts) ≡ some T → Lays (ro ts) c b → length b < 2 ^ 32
+changed-at : (ts : Tys) (x : Setting) (T : Ty) (p : List ℕ) (c : Cell) (b : List ℕ) → typeAlong p (ro ts) ≡ some T → Lays (ro ts) c b → length b < 2 ^ 32
     → Granted x T p c
     → Changed x T p (ro ts) c b (write T x (walk p (ro ts) rootSeat 0 b) b)
 changed-at ts x T [] c b e y lim g = absurd (subst Leafy (sym (type-end (ro ts) T e)) (fine-leaf (g .fine)))
@@ -135,7 +135,7 @@ pub record Made (ts : Tys) (p : List ℕ) (x : Setting) (T : Ty) (c : Cell) (row
   pub lays : Lays (ro ts) (after ts p T x c) row′
   pub size : length row′ ≡ length row
   pub bytes : Bytes row′
-  pub others : (q : List ℕ) (U : Ty) → typeAt q (ro ts) ≡ some U → p ≢ q → Like U (walk q (ro ts) rootSeat 0 row′) (walk q (ro ts) rootSeat 0 row)
+  pub others : (q : List ℕ) (U : Ty) → typeAlong q (ro ts) ≡ some U → p ≢ q → Like U (walk q (ro ts) rootSeat 0 row′) (walk q (ro ts) rootSeat 0 row)
   pub there : starts T (walk p (ro ts) rootSeat 0 row′) ≡ starts T (walk p (ro ts) rootSeat 0 row)
 
 pub record Done (ts : Tys) (p : List ℕ) (x : Setting) (c : Cell) (row row′ : List ℕ) : Type 0 where
@@ -143,6 +143,13 @@ pub record Done (ts : Tys) (p : List ℕ) (x : Setting) (c : Cell) (row row′ :
   pub place : placed p (ro ts) ≡ some type
   pub judged : judgeAt (some type) (answerOf type (walk p (ro ts) rootSeat 0 row)) x ≡ none
   pub made : Made ts p x type c row row′
+
+-- a row that check accepts, and its contents
+pub record Accepted (ts : Tys) (row : List ℕ) : Type 0 where
+  pub bytes : Bytes row
+  pub size : length row ≤ 16384
+  pub tree : Cell
+  pub reads : decode (ro ts) row ≡ some tree
 
 module _ (ts : Tys) (row : List ℕ) (a : Accepted ts row) where
   pub row-lays : Lays (ro ts) (a .tree) row
@@ -152,7 +159,7 @@ module _ (ts : Tys) (row : List ℕ) (a : Accepted ts row) where
   pub row-sound : faultAt (ro ts) row ≡ none
   row-sound = no-fault (codec (ro ts) .get row) (a .reads)
 
-  pub row-short : length row < 2 ^ 32
+  row-short : length row < 2 ^ 32
   row-short = omega (arith, a .size)
 
   pub row-lands : (p : List ℕ) (T : Ty) → placed p (ro ts) ≡ some T → Landing row T p (a .tree) (walk p (ro ts) rootSeat 0 row)

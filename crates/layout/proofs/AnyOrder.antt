@@ -3,14 +3,14 @@
 use mathlib.Core.Path.{_≡_, refl, sym, ap, _∙_, subst}
 use mathlib.Core.Logic.{_↔_}
 use mathlib.Core.Option.{Option, none, some}
-use mathlib.Core.List.{List, [], _∷_, _++_, map}
+use mathlib.Core.List.{List, [], _∷_, _++_}
 use Prim.Native.Nat.{ℕ, zero, suc, _+_, _*_, _-_, _%_, _^_}
 use native.Mathlib.Omega.{arith}
 use lib.ListN.{length, replicate}
 use Rattle.words.specs.Bytes.{le, padded, bitmap}
 use Rattle.schema.specs.Types.{Ty, fix, text, li, ma, ro, Tys, end, _then_}
 use Rattle.layout.specs.Tiles.{Range, total}
-use Rattle.layout.specs.Cells.{Cell, null, leaf, nodes, onNull, parts, part}
+use Rattle.layout.specs.Cells.{Cell, null, leaf, nodes, onNull, parts, partOf}
 use Rattle.layout.specs.Layout.{Codec, Kid, inside, outside, kidOf, kid, slotOf, kidLays, flags, AllLay, front, BodyLays, struct, array, pair}
 use Rattle.layout.specs.Layout.{number, string, list, codec, kids, Lays}
 use Rattle.layout.specs.Orders.{Order, which, Value, owns, OneAfterAnother, joined, Child, childOf, PresentSlot, Slot, Slots, BodyInOrder, ListInOrder}
@@ -209,8 +209,8 @@ mutual
   any-order (text k) c b = (λ y. y, λ y. y)
   any-order (li t) c b = list-alike (codec t) (InOrder t) (λ x u. any-order t x u) c b
   any-order (ma k v) c b =
-      let p = list-alike (codec k) (InOrder k) (λ x u. any-order k x u) (part 0 c) in
-      let q = list-alike (codec v) (InOrder v) (λ x u. any-order v x u) (part 1 c) in (
+      let p = list-alike (codec k) (InOrder k) (λ x u. any-order k x u) (partOf 0 c) in
+      let q = list-alike (codec v) (InOrder v) (λ x u. any-order v x u) (partOf 1 c) in (
         λ y. record {
           keysArray = y .keysArray;
           valuesArray = y .valuesArray;

@@ -2,10 +2,10 @@
 use mathlib.Core.Path.{_≡_, refl, sym, ap, _∙_}
 use mathlib.Core.Bool.{Bool}
 use mathlib.Core.List.{List, [], _∷_, _++_, append-assoc}
-use Prim.Native.Nat.{ℕ, zero, suc, _+_, _*_, _-_, _/_, _%_, _^_, _≤_, _<_}
+use Prim.Native.Nat.{ℕ, suc, _+_, _*_, _-_, _/_, _%_, _^_, _≤_, _<_}
 use native.Mathlib.Nat.{mul-le-mul-right, add-suc, add-zero}
 use native.Mathlib.Omega.{arith}
-use lib.ListN.{length, getD, set, take, drop, length-append, length-drop, List·getD-append}
+use lib.ListN.{length, getD, set, drop, length-append, length-drop, List·getD-append}
 use lib.Seq.{sets, length-sets, take-at, take-append-le, drop-append-le, drop-append-add, drop-set-add, getD-append-add}
 use Rattle.words.specs.Bytes.{le, num, zeros, fill, pad, padded, bitmap, part}
 use Rattle.words.specs.Bits.{withBit, putBit}
@@ -24,7 +24,7 @@ use Rattle.layout.proofs.Spot.{Safe, added, Spot, spot, kept-apart, amo
 
 -- ---- runs in joined lists
 
-pub put-ahead : (xs ys : List ℕ) (i : ℕ) (v : Bool) → i / 8 < length xs → putBit (xs ++ ys) 0 i v ≡ putBit xs 0 i v ++ ys
+put-ahead : (xs ys : List ℕ) (i : ℕ) (v : Bool) → i / 8 < length xs → putBit (xs ++ ys) 0 i v ≡ putBit xs 0 i v ++ ys
 put-ahead xs ys i v h =
     let z : 0 + i / 8 ≡ i / 8 = omega arith in
     rw (z, List·getD-append xs ys 0 (i / 8) h) (sets-ahead xs ys (i / 8) (withBit (getD xs (i / 8) 0) (i % 8) v ∷ []) (omega arith))
@@ -109,7 +109,7 @@ module _ (h w : ℕ) (ks : List Kid) (cs : List Cell) (r : List ℕ) (l : AllLaw
   slots-in : length (y .slots) ≡ length ks * w
   slots-in = body-take h w ks l cs r y .slots
 
-  pub padded-in : length (padded (y .slots)) ≡ pad (length ks * w)
+  padded-in : length (padded (y .slots)) ≡ pad (length ks * w)
   padded-in = length-padded (y .slots) ∙ ap pad slots-in
 
   pub fit-in : i * w + w ≤ length ks * w

@@ -19,9 +19,9 @@ use Rattle.layout.specs.Layout.{array, pair, limit, codec, content, deco
 use Rattle.layout.specs.Listing.{numberScript, textScript, marked, nullOr, item, runPut, runGet, structScript, listScript, mapScript, script}
 use Rattle.layout.specs.Listing.{listing, parse}
 use Rattle.layout.specs.Refusals.{numbered, brokenAt}
-use Rattle.layout.specs.Walk.{must, mustStep, own, bySlot, byFlag, child, stepIn, goOn, walk}
+use Rattle.layout.specs.Walk.{rootSeat, nullAt, must, mustStep, own, bySlot, byFlag, child, stepIn, goOn, walk}
 use Rattle.layout.specs.Reading as R
-use Rattle.layout.specs.Reading.{typeAt, placed, valueOf, answerOf, found, readIn}
+use Rattle.layout.specs.Reading.{typeAlong, placed, valueOf, answerOf, found, readIn}
 use Rattle.layout.specs.Setting as S
 use Rattle.layout.specs.Setting.{boolBytes, signedBytes, float32Bytes, float64Bytes, inBytes, suits, keepsText, keeps, refusalIn, judgeAt}
 use Rattle.layout.specs.Setting.{writeFixed, write, writeAt, refuses, becomes, outcome, setIn}
@@ -32,7 +32,7 @@ unfolding le num fill types markAt fixedPlace textPlace place width mark count f
     zerosAhead highBits pastByte total both? either? change? aparts? stands? fromCells toCells onNull bytes parts clean
     number string inside outside kidOf slotOf kidGet flags slots tails reads bodyPut bodyGet struct array pair limit codec
     numberScript textScript marked nullOr item runPut runGet structScript listScript mapScript script listing parse
-    must mustStep own bySlot byFlag child stepIn goOn walk typeAt placed valueOf answerOf found readIn
+    must mustStep own bySlot byFlag child stepIn goOn walk typeAlong placed valueOf answerOf found readIn
     boolBytes signedBytes float32Bytes float64Bytes inBytes suits keepsText keeps refusalIn judgeAt writeFixed write writeAt outcome setIn
     decLe decLt ℕ-discrete
 computes = tt
@@ -186,6 +186,9 @@ pub record Cases : Type 0 where
       × (readIn two [] (replicate 17 0) ≡ R.refused (numbered 5)) × (readIn one C (0 ∷ 0 ∷ []) ≡ R.refused (numbered 5))
   -- a null before the path's end is 6
   under : readIn inner (set (content (ro inner) (node (null (zeros 8) ∷ []))) 8 1) (0 ∷ 1 ∷ []) ≡ R.refused (numbered 6)
+  -- bytes 16 to 23 of B lie under a null, and of the values of a list with a null int8 its one byte
+  under-null : (walk (1 ∷ []) (ro two) rootSeat 0 B ≡ nullAt (record { bits = 0; number = 1; slot = 16; wide = 8 }))
+      × (walk (0 ∷ 2 ∷ []) (ro lists) rootSeat 0 (set E 24 4) ≡ nullAt (record { bits = 24; number = 2; slot = 34; wide = 1 }))
   -- set: 7 before 5; 5 before 8; 8 before 9, also at a null string; a container is 8; what fits another type is 8
   judged : (setIn one J (1 ∷ []) S.null ≡ refuses (brokenAt 8)) × (setIn one C (1 ∷ []) S.null ≡ refuses (numbered 5))
       × (setIn one C (0 ∷ []) (S.signed (pos 1)) ≡ refuses (numbered 8))
@@ -250,6 +253,7 @@ cases = record {
   empties = (refl, refl, refl, refl, refl);
   order = (refl, refl, refl, refl);
   under = refl;
+  under-null = (refl, refl);
   judged = (refl, refl, refl, refl, refl, refl, refl, refl, refl);
   places = (refl, refl, refl, refl, refl, refl);
   places-list = (refl, refl, refl, refl, refl);

@@ -5,7 +5,7 @@ use Prim.Native.Nat.{ℕ, _<_}
 use native.Mathlib.Omega.{arith}
 use lib.ListN.{length, length-map, length-replicate, List·getD-map}
 use Rattle.words.specs.Bytes.{zeros}
-use Rattle.layout.specs.Cells.{Cell, null, leaf, nodes, Cells, nil, cons, fromCells, toCells, node, onNull, flag, bytes, parts, part, clean, cleans}
+use Rattle.layout.specs.Cells.{Cell, null, leaf, nodes, Cells, nil, cons, fromCells, toCells, node, onNull, flag, bytes, parts, partOf, clean, cleans}
 
 from-to : (cs : List Cell) → fromCells (toCells cs) ≡ cs
 unfolding fromCells toCells
@@ -15,6 +15,10 @@ from-to (c ∷ cs) = ap (λ (t : List Cell). c ∷ t) (from-to cs)
 pub parts-node : (cs : List Cell) → parts (node cs) ≡ cs
 unfolding parts
 parts-node cs = from-to cs
+
+pub leaf-parts : (c : Cell) (u : List ℕ) → c ≡ leaf u → length (parts c) ≡ 0
+unfolding parts
+leaf-parts c u e = rw e
 
 -- ---- nulls
 
@@ -82,7 +86,7 @@ clean-node cs = ap nodes (clean-to cs)
 pub node-clean : (x : Cell) → x ≡ node (parts x) → clean x ≡ node (parts (clean x))
 node-clean x e = ap clean e ∙ clean-node (parts x) ∙ ap node (sym (parts-clean x))
 
-pub part-clean : (i : ℕ) (x : Cell) → part i (clean x) ≡ clean (part i x)
+pub part-clean : (i : ℕ) (x : Cell) → partOf i (clean x) ≡ clean (partOf i x)
 unfolding clean
 part-clean i x = rw parts-clean (List·getD-map clean (parts x) i (leaf []))
 

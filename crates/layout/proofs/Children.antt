@@ -4,10 +4,11 @@ use mathlib.Core.List.{List, [], _∷_, _++_, append-assoc, append-nil, map}
 use Prim.Native.Nat.{ℕ, zero, suc, _+_, _*_, _-_, _/_, _%_, _^_, _≤_, _<_}
 use native.Mathlib.Omega.{arith}
 use native.Mathlib.Nat.{pow-succ'}
-use lib.Pow.{pow-mono, pow-add}
+use lib.Pow.{pow-mono}
 use lib.ListN.{length, length-append, length-replicate}
 use Rattle.words.specs.Bytes.{Bytes, empty, bitmap}
 use Rattle.words.proofs.Numbers.{bytes-append, bytes-zeros}
+use Rattle.words.proofs.NumLaws.{pow256}
 use Rattle.layout.specs.Faults.{byte, got, cutAt}
 use Rattle.layout.specs.Tiles.{Range, total}
 use Rattle.layout.specs.Cells.{Cell, null, leaf, nodes, onNull, flag, clean}
@@ -51,7 +52,7 @@ module _ (w : ℕ) (k : Kid) (l : LawfulKid w k) where
   kid-cleaned (leaf u) f = let a = l .cleaned (leaf u) f in record { fits = a .fits; size = a .size }
   kid-cleaned (nodes u) f = let a = l .cleaned (nodes u) f in record { fits = a .fits; size = a .size }
 
-  pub kid-fits : (at : ℕ) (d : List ℕ) (rs : List Range) (c : Cell) (s : List ℕ) (rs′ : List Range) → kidLays w k at d rs c s rs′ → kidFits w k c
+  kid-fits : (at : ℕ) (d : List ℕ) (rs : List Range) (c : Cell) (s : List ℕ) (rs′ : List Range) → kidLays w k at d rs c s rs′ → kidFits w k c
   unfolding onNull
   kid-fits at d rs (null u) s rs′ y = y .fits
   kid-fits at d rs (leaf u) s rs′ y = l .fits at d rs (leaf u) s rs′ y
@@ -249,15 +250,9 @@ unfolding flags
 flags-lt [] = omega arith
 flags-lt (c ∷ cs) = rw (pow-succ' 2 (length cs)) (omega (arith, flag-bit c, flags-lt cs))
 
-pow-256 : (k : ℕ) → 256 ^ k ≡ 2 ^ (8 * k)
-pow-256 zero = refl
-pow-256 (suc k) =
-    let e : 8 * suc k ≡ 8 * k + 8 = omega arith in
-    rw (e, pow-add 2 (8 * k) 8, ← pow-256 k) (omega arith)
-
 -- the bitmap holds the flags
 pub flags-fit : (cs : List Cell) → flags cs < 256 ^ bitmap (length cs)
 flags-fit cs =
     let n = length cs in
     let p : 2 ^ n ≤ 2 ^ (8 * bitmap n) = pow-mono {i = n} {j = 8 * bitmap n} (omega arith) in
-    rw (pow-256 (bitmap n)) (omega (arith, flags-lt cs))
+    rw (pow256 (bitmap n)) (omega (arith, flags-lt cs))

@@ -11,10 +11,10 @@ use Rattle.words.specs.Bytes.{Bytes, le, num, zeros, fill, pad, padded, bitmap,
 use Rattle.words.proofs.Numbers.{bytes-append, bytes-le, bytes-fill, length-le, num-le, le-num, num-zeros, length-padded, fill-is}
 use Rattle.schema.specs.Types.{width, Ty, fix, text, li, ma, ro, Tys, end, _then_, count}
 use Rattle.schema.proofs.Table.{width-8}
-use Rattle.layout.specs.Faults.{Place, slot, byte, got, cutAt, within}
+use Rattle.layout.specs.Faults.{Place, slot, byte, got, cutAt}
 use Rattle.layout.specs.Tiles.{total}
-use Rattle.layout.specs.Cells.{Cell, node, parts, part, clean}
-use Rattle.layout.specs.Layout.{Codec, Kid, kid, slotOf, AllFit, flags, slots, tails, reads, front, bodyPut, BodyLays, bodyGet, struct, array, pair}
+use Rattle.layout.specs.Cells.{Cell, node, parts, partOf, clean}
+use Rattle.layout.specs.Layout.{Codec, Kid, kid, slotOf, AllFit, flags, slots, tails, front, bodyPut, BodyLays, bodyGet, struct, array, pair}
 use Rattle.layout.specs.Layout.{limit, list, codec, kids, Fits, content, Lays, decode}
 use Rattle.layout.proofs.Cells.{parts-node, node-here, parts-clean, clean-node, node-clean, part-clean, count-clean}
 use Rattle.layout.proofs.Faults.{When, yields, when-bind, when-any, when-then, when-both, when-within, within-got, when-got, when-some, got-some}
@@ -36,7 +36,7 @@ module _ (h w : ℕ) (ks : List Kid) (l : AllLawful w ks) where
   pub body-take : (cs : List Cell) (b : List ℕ) (y : BodyLays h w ks cs b) → AllTake w ks cs (y .slots) [] (y .ranges)
   body-take cs b y = all-take w (front h w (length ks)) (y .variable) ks cs (y .slots) [] (y .ranges) l (y .children)
 
-  -- its data is what there is behind the fixed part
+  -- its data is what there is behind the fixed partOf
   pub body-total : (cs : List Cell) (b : List ℕ) (y : BodyLays h w ks cs b) → h + length b ≡ front h w (length ks) + length (y .variable)
   body-total cs b y = rw (← (y .whole), length-append, length-append, length-le, length-padded (y .slots), body-take cs b y .slots) (omega arith)
 
@@ -228,11 +228,12 @@ unfolding pair
 pair-lawful k v lk lv ck cv = record {
   here = λ x f. node-here x _ (f .plain);
   sized = tt;
-  proper = λ x f. bytes-append (bytes-le 8 (length (k .put (part 0 x)))) (bytes-append (lk .proper (part 0 x) (f .keys)) (lv .proper (part 1 x) (f .values)));
+  proper = λ x f. bytes-append (bytes-le 8 (length (k .put (partOf 0 x))))
+      (bytes-append (lk .proper (partOf 0 x) (f .keys)) (lv .proper (partOf 1 x) (f .values)));
   cleaned = λ x f.
-      let a = lk .cleaned (part 0 x) (f .keys) in
-      let b = lv .cleaned (part 1 x) (f .values) in
-      let e : clean x ≡ node (clean (part 0 x) ∷ clean (part 1 x) ∷ []) = ap clean (f .plain) ∙ clean-node (part 0 x ∷ part 1 x ∷ []) in
+      let a = lk .cleaned (partOf 0 x) (f .keys) in
+      let b = lv .cleaned (partOf 1 x) (f .values) in
+      let e : clean x ≡ node (clean (partOf 0 x) ∷ clean (partOf 1 x) ∷ []) = ap clean (f .plain) ∙ clean-node (partOf 0 x ∷ partOf 1 x ∷ []) in
       record {
         fits = record {
           plain = simp part-clean e;
@@ -245,22 +246,22 @@ pair-lawful k v lk lv ck cv = record {
       };
   fits = λ x b y. record {
     plain = y .plain;
-    keys = lk .fits (part 0 x) (y .keysArray) (y .keys);
-    values = lv .fits (part 1 x) (y .valuesArray)
+    keys = lk .fits (partOf 0 x) (y .keysArray) (y .keys);
+    values = lv .fits (partOf 1 x) (y .valuesArray)
         (y .values);
     counts = y .counts;
   };
   size = λ x b y.
-      let a = lk .size (part 0 x) (y .keysArray) (y .keys) in
-      let c = lv .size (part 1 x) (y .valuesArray) (y .values) in
+      let a = lk .size (partOf 0 x) (y .keysArray) (y .keys) in
+      let c = lv .size (partOf 1 x) (y .valuesArray) (y .values) in
       rw (← (y .whole)) (simp (length-append, length-le) (omega arith));
   laid = λ x f. record {
-    keysArray = k .put (part 0 x);
-    valuesArray = v .put (part 1 x);
+    keysArray = k .put (partOf 0 x);
+    valuesArray = v .put (partOf 1 x);
     plain = f .plain;
     whole = refl;
-    keys = lk .laid (part 0 x) (f .keys);
-    values = lv .laid (part 1 x) (f .values);
+    keys = lk .laid (partOf 0 x) (f .keys);
+    values = lv .laid (partOf 1 x) (f .values);
     counts = f .counts;
   };
   back = λ x b y m.
@@ -268,21 +269,21 @@ pair-lawful k v lk lv ck cv = record {
       let q = y .valuesArray in
       let n : length p + length q < 2 ^ 32 = omega (arith, length-append (le 8 (length p)) (p ++ q), length-append p q, ap length (y .whole)) in
       let e : length (le 8 (length p) ++ (p ++ q)) % 8 ≡ 0 = simp (length-append, length-le)
-      (omega (arith, ck .eight (part 0 x) p (y .keys), cv .eight (part 1 x) q (y .values))) in
-      let g = lv .back (part 1 x) q (y .values) (omega arith) in
-      let i : num (take 8 q) ≡ length (parts (part 0 x)) = when-got (rw g at (cv .count q)) ∙ sym (y .counts) in
+      (omega (arith, ck .eight (partOf 0 x) p (y .keys), cv .eight (partOf 1 x) q (y .values))) in
+      let g = lv .back (partOf 1 x) q (y .values) (omega arith) in
+      let i : num (take 8 q) ≡ length (parts (partOf 0 x)) = when-got (rw g at (cv .count q)) ∙ sym (y .counts) in
       rw (
         ← (y .whole),
         assert-yes slot (ℕ-discrete (length (le 8 (length p) ++ (p ++ q)) % 8) 0) e,
         cut-back slot 8 (le 8 (length p)) _ (length-le 8 (length p)),
         num-le 8 (length p) (omega arith),
-        assert-yes (byte 0) (ℕ-discrete (length p % 8) 0) (ck .eight (part 0 x) p (y .keys)),
+        assert-yes (byte 0) (ℕ-discrete (length p % 8) 0) (ck .eight (partOf 0 x) p (y .keys)),
         cut-back (byte 0) (length p) p q refl,
-        lk .back (part 0 x) p (y .keys) (omega arith),
-        within-got 8 8 (part 0 x),
-        assert-yes (byte (8 + length p)) (ℕ-discrete (num (take 8 q)) (length (parts (part 0 x)))) i,
+        lk .back (partOf 0 x) p (y .keys) (omega arith),
+        within-got 8 8 (partOf 0 x),
+        assert-yes (byte (8 + length p)) (ℕ-discrete (num (take 8 q)) (length (parts (partOf 0 x)))) i,
         g,
-        within-got (8 + length p) (8 + length p) (part 1 x),
+        within-got (8 + length p) (8 + length p) (partOf 1 x),
       ) (ap got (sym (y .plain)));
   forth = λ b hb.
       when-then (when-assert slot (ℕ-discrete (length b % 8) 0)) λ _ _.
@@ -364,6 +365,3 @@ lays-size t c b y = codec-lawful t .size c b y
 -- with zeros under the nulls the contents fit, in as many bytes, and are read back
 pub clean-fits : (t : Ty) (c : Cell) → Fits t c → Cleaned (Fits t) (content t) c
 clean-fits t c f = codec-lawful t .cleaned c f
-
-pub decode-clean : (t : Ty) (c : Cell) → Fits t c → length (content t c) < 2 ^ 32 → decode t (content t (clean c)) ≡ some (clean c)
-decode-clean t c f h = let a = clean-fits t c f in decode-content t (clean c) (a .fits) (omega (arith, a .size))

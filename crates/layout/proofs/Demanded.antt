@@ -1,4 +1,4 @@
--- Demand 3 holds. Assumes nothing.
+-- What setting one leaf of an accepted row does, and what it leaves. Assumes nothing.
 use mathlib.Core.Path.{_≡_, refl, sym, ap, _∙_}
 use mathlib.Core.Logic.{_≢_}
 use mathlib.Core.Option.{Option, none, some, Option·none-ne-some, Option·some-injective}
@@ -12,23 +12,22 @@ use Rattle.layout.specs.Cells.{Cell}
 use Rattle.layout.specs.Refusals.{Refusal}
 use Rattle.layout.specs.Walk.{Seen, rootSeat, walk}
 use Rattle.layout.specs.Places.{startOf, starts}
-use Rattle.layout.specs.Reading.{Answer, typeAt, placed, answerOf, found, readIn, held, Alike}
+use Rattle.layout.specs.Reading.{Answer, typeAlong, placed, answerOf, found, readIn, held, Alike}
 use Rattle.layout.specs.Setting as S
 use Rattle.layout.specs.Setting.{Setting, suits, keeps, judgeAt, write, becomes, outcome, setIn}
-use Rattle.layout.specs.Demand.{told, Proper, Accepted, refusalOf, Meet, Demand3}
+use Rattle.layout.specs.Demand3.{told, Proper, refusalOf}
 use Rattle.layout.proofs.Tree.{look, update, Valid, Parted, look-update, update-last}
 use Rattle.layout.proofs.Landed.{placed-type, two-leaves}
 use Rattle.layout.proofs.Judged.{fine-leaf, slotAt, cellOf, valid-update}
-use Rattle.layout.proofs.After.{Judged, judged, judged-fine, after, Made, Done, row-lays, row-lands, read-at, turned-down, allowed, written, done}
-use Rattle.layout.proofs.After.{accepted-as, row-sound}
+use Rattle.layout.proofs.After.{Accepted, Judged, judged, judged-fine, after, Made, Done, row-lays, row-lands, read-at}
+use Rattle.layout.proofs.After.{turned-down, allowed, written, done, accepted-as, row-sound}
 use Rattle.layout.proofs.Told.{told-set, told-same}
 use Rattle.layout.proofs.Twice.{update-look, update-comm, same-bytes, judge-again}
 use Rattle.layout.proofs.Seen.{Like, held-shown}
 use Rattle.layout.proofs.Single.{Starting}
-use Rattle.layout.proofs.Refused.{refused-only, refused-there}
 
 -- a path that the schema hasn't reads alike in any two rows
-nowhere-alike : (ts : Tys) (row row′ q : List ℕ) → placed q (ro ts) ≡ none → Alike ts row row′ q
+nowhere-alike : (ts : Tys) (row row′ q : List ℕ) → placed q (ro ts) ≡ none → Alike row (readIn ts row q) row′ (readIn ts row′ q)
 unfolding readIn found held
 nowhere-alike ts row row′ q e = record { same = rw e; bytes = rw e }
 
@@ -49,15 +48,21 @@ path? (i ∷ p) (j ∷ q) = go (ℕ-discrete i j) (path? p q)
     go (no n) e = no λ m. n cc
 
 -- after a setting every value starts where it did
-made-starts : {ts : Tys} {p : List ℕ} {x : Setting} {T : Ty} {c : Cell} {row row′ : List ℕ} → typeAt p (ro ts) ≡ some T → Made ts p x T c row row′
+made-starts : {ts : Tys} {p : List ℕ} {x : Setting} {T : Ty} {c : Cell} {row row′ : List ℕ} → typeAlong p (ro ts) ≡ some T → Made ts p x T c row row′
     → Starting (ro ts) rootSeat 0 row′ row
 made-starts {ts = ts} {p = p} {T = T} {row = row} {row′ = row′} e m q U h = go (path? p q)
   where
     go : Dec (p ≡ q) → starts U (walk q (ro ts) rootSeat 0 row′) ≡ starts U (walk q (ro ts) rootSeat 0 row)
     go (no n) = ap startOf (m .others q U h n .answers)
     go (yes z) =
-        let t : T ≡ U = Option·some-injective _ _ (sym e ∙ ap (λ (p : List ℕ). typeAt p (ro ts)) z ∙ h) in
+        let t : T ≡ U = Option·some-injective _ _ (sym e ∙ ap (λ (p : List ℕ). typeAlong p (ro ts)) z ∙ h) in
         rw (← t, ← z) (m .there)
+
+-- two settings, each made where the other was made first, leave the same bytes
+pub record Meeting (ts : Tys) (row₁ row₂ p q : List ℕ) (x y : Setting) : Type 0 where
+  pub end : List ℕ
+  pub p-first : setIn ts row₁ q y ≡ becomes end
+  pub q-first : setIn ts row₂ p x ≡ becomes end
 
 module _ (ts : Tys) (row : List ℕ) (a : Accepted ts row) where
   abbrev seenAt : List ℕ → Seen
@@ -72,7 +77,7 @@ module _ (ts : Tys) (row : List ℕ) (a : Accepted ts row) where
     abbrev c′ : Cell
     c′ = after ts p (d .type) x (a .tree)
 
-    abbrev still : Accepted ts row′
+    abbrev pub still : Accepted ts row′
     still = accepted-as ts row a c′ row′ (d .made .bytes) (d .made .lays) (d .made .size)
 
     valid′ : Valid p c′
@@ -81,7 +86,7 @@ module _ (ts : Tys) (row : List ℕ) (a : Accepted ts row) where
     look′ : look p c′ ≡ cellOf (slotAt 0 p (ro ts)) (d .type) x
     look′ = look-update p _ (a .tree) (d .made .granted .valid)
 
-    reads-as-set : told row′ (readIn ts row′ p) ≡ some x
+    pub reads-as-set : told row′ (readIn ts row′ p) ≡ some x
     reads-as-set =
         ap (told row′) (read-at ts row′ still p (d .type) (d .place))
         ∙ told-set row′ (d .type) p c′ (walk p (ro ts) rootSeat 0 row′) x _ (look p (a .tree)) b (d .made .granted .fine)
@@ -116,7 +121,7 @@ module _ (ts : Tys) (row : List ℕ) (a : Accepted ts row) where
             → judgeAt (placed p (ro ts)) (readIn ts row p) y ≡ some n
         down row a j = rw (read-at ts row a p (d .type) (d .place), d .place) j
 
-    last-alone : (y : Setting) → Proper y → setIn ts row′ p y ≡ setIn ts row p y
+    pub last-alone : (y : Setting) → Proper y → setIn ts row′ p y ≡ setIn ts row p y
     last-alone y by = last-by y by _ refl
 
     -- ---- elsewhere
@@ -124,7 +129,7 @@ module _ (ts : Tys) (row : List ℕ) (a : Accepted ts row) where
     like : (q : List ℕ) (U : Ty) → placed q (ro ts) ≡ some U → p ≢ q → Like U (walk q (ro ts) rootSeat 0 row′) (seenAt q)
     like q U h n = d .made .others q U (placed-type q (ro ts) U h) n
 
-    others-by : (q : List ℕ) → p ≢ q → (m : Option Ty) → placed q (ro ts) ≡ m → Alike ts row′ row q
+    others-by : (q : List ℕ) → p ≢ q → (m : Option Ty) → placed q (ro ts) ≡ m → Alike row′ (readIn ts row′ q) row (readIn ts row q)
     others-by q n none h = nowhere-alike ts row′ row q h
     others-by q n (some U) h =
         let l = like q U h n in
@@ -138,10 +143,10 @@ module _ (ts : Tys) (row : List ℕ) (a : Accepted ts row) where
               ∙ sym (ap (held row) (read-at ts row a q U h));
         }
 
-    others : (q : List ℕ) → p ≢ q → Alike ts row′ row q
+    pub others : (q : List ℕ) → p ≢ q → Alike row′ (readIn ts row′ q) row (readIn ts row q)
     others q n = others-by q n (placed q (ro ts)) refl
 
-    unmoved : (q : List ℕ) (y : Setting) → p ≢ q → refusalOf (setIn ts row′ q y) ≡ refusalOf (setIn ts row q y)
+    pub unmoved : (q : List ℕ) (y : Setting) → p ≢ q → refusalOf (setIn ts row′ q y) ≡ refusalOf (setIn ts row q y)
     unfolding setIn
     unmoved q y n = rw (row-sound ts row a, row-sound ts row′ still, others q n .same) (outcome-refusal (judgeAt (placed q (ro ts)) (readIn ts row q) y) _ _)
 
@@ -172,20 +177,20 @@ module _ (ts : Tys) (row : List ℕ) (a : Accepted ts row) where
       ∙ ap becomes (same-bytes (ro ts) _ (a .tree) (write T x (seenAt p) row) row (w .lays) (row-lays ts row a) (omega (arith, w .size, a .size)) t
       (made-starts (placed-type p (ro ts) T q) w))
 
-  no-change : (p : List ℕ) (x : Setting) → told row (readIn ts row p) ≡ some x → x ≢ S.null → setIn ts row p x ≡ becomes row
+  pub no-change : (p : List ℕ) (x : Setting) → told row (readIn ts row p) ≡ some x → x ≢ S.null → setIn ts row p x ≡ becomes row
   unfolding readIn
   no-change p x e n = no-change-by p x (placed p (ro ts)) refl e n
 
   -- ---- settings of two leaves
 
   -- two different paths at which settings are done are two leaves
-  pub two-places : (p q : List ℕ) (x y : Setting) (row₁ row₂ : List ℕ) → Done ts p x (a .tree) row row₁ → Done ts q y (a .tree) row row₂ → p ≢ q → Parted p q
+  two-places : (p q : List ℕ) (x y : Setting) (row₁ row₂ : List ℕ) → Done ts p x (a .tree) row row₁ → Done ts q y (a .tree) row row₂ → p ≢ q → Parted p q
   two-places p q x y row₁ row₂ d₁ d₂ n =
       two-leaves p q (ro ts) (d₁ .type) (d₂ .type) (placed-type p (ro ts) (d₁ .type) (d₁ .place)) (fine-leaf (d₁ .made .granted .fine))
       (placed-type q (ro ts) (d₂ .type) (d₂ .place)) (fine-leaf (d₂ .made .granted .fine)) n
 
-  either-order : (p q : List ℕ) (x y : Setting) (row₁ row₂ : List ℕ) → Proper x → Proper y → p ≢ q → setIn ts row p x ≡ becomes row₁
-      → setIn ts row q y ≡ becomes row₂ → Meet ts row₁ row₂ p q x y
+  pub either-order : (p q : List ℕ) (x y : Setting) (row₁ row₂ : List ℕ) → Proper x → Proper y → p ≢ q → setIn ts row p x ≡ becomes row₁
+      → setIn ts row q y ≡ becomes row₂ → Meeting ts row₁ row₂ p q x y
   either-order p q x y row₁ row₂ bx by n e₁ e₂ =
       let d₁ = done ts row a p x row₁ bx e₁ in
       let d₂ = done ts row a q y row₂ by e₂ in
@@ -202,16 +207,3 @@ module _ (ts : Tys) (row : List ℕ) (a : Accepted ts row) where
             (λ i A h. made-starts (placed-type q (ro ts) U (d₂ .place)) (o₁ .1) i A h ∙ made-starts (placed-type p (ro ts) T (d₁ .place)) (d₁ .made) i A h
             ∙ sym (made-starts (placed-type p (ro ts) T (d₁ .place)) (o₂ .1) i A h ∙ made-starts (placed-type q (ro ts) U (d₂ .place)) (d₂ .made) i A h))));
       }
-
-pub demand3 : (ts : Tys) (row : List ℕ) → Accepted ts row → Demand3 ts row
-demand3 ts row a = record {
-  still = λ p x row′ b e. still ts row a p x row′ b e;
-  reads-as-set = λ p x row′ b e. reads-as-set ts row a p x row′ b e;
-  others = λ p q x row′ b e n. others ts row a p x row′ b e q n;
-  no-change = λ p x e n. no-change ts row a p x e n;
-  last-alone = λ p x y row′ b by e. last-alone ts row a p x row′ b e y by;
-  either-order = λ p q x y row₁ row₂ b by n e₁ e₂. either-order ts row a p q x y row₁ row₂ b by n e₁ e₂;
-  refused-only = λ p x n e. refused-only ts row a p x n e;
-  refused-there = λ p x n g. refused-there ts row a p x n g;
-  unmoved = λ p q x y row′ b n e. unmoved ts row a p x row′ b e q y n;
-}

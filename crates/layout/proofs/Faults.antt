@@ -1,7 +1,7 @@
 -- What a judging reading yields, when it yields; and that a cut reads back what stands there, and yields only that. Assumes nothing.
 use mathlib.Core.Path.{_≡_, refl, ap, subst}
-use mathlib.Core.Option.{Option, none, some, Option·none-ne-some, Option·some-injective}
-use mathlib.Core.List.{List, [], _∷_, _++_}
+use mathlib.Core.Option.{none, some, Option·none-ne-some, Option·some-injective}
+use mathlib.Core.List.{List, _++_}
 use Prim.Native.Nat.{ℕ}
 use native.Mathlib.Omega.{arith}
 use native.Mathlib.Decide.{decLe}
@@ -10,6 +10,7 @@ use lib.Seq.{take-append-seam, drop-append-seam}
 use Rattle.words.specs.Bytes.{Bytes}
 use Rattle.words.proofs.Numbers.{bytes-take, bytes-drop}
 use Rattle.layout.specs.Faults.{Place, Read, fault, got, _>>=_, _>>_, assertAt, cutAt, within, yielded, faultIn}
+use Rattle.layout.proofs.Reader.{Cut}
 
 -- a reading meets a fault, or it yields something of which P holds
 pub data When {A : Type 0} (P : A → Type 0) : Read A → Type 0 where
@@ -84,13 +85,6 @@ cut-back p n u r h = rw (← h, assert-yes p (decLe (length u) (length (u ++ r))
 pub cut-is : (p : Place) (n : ℕ) (b : List ℕ) → When (λ q. q .0 ≡ take n b) (cutAt p n b)
 unfolding cutAt
 cut-is p n b = when-then (when-assert p (decLe n (length b))) λ _ _. yields {a = (take n b, drop n b)} refl
-
--- what cut n b may yield; the bytes of b's parts are bytes
-pub record Cut (n : ℕ) (b : List ℕ) (p : List ℕ × List ℕ) : Type 0 where
-  pub size : length (p .0) ≡ n
-  pub whole : p .0 ++ p .1 ≡ b
-  pub front : Bytes (p .0)
-  pub rest : Bytes (p .1)
 
 pub cut-forth : (p : Place) (n : ℕ) {b : List ℕ} → Bytes b → When (Cut n b) (cutAt p n b)
 unfolding cutAt

@@ -8,16 +8,14 @@ use Prim.Native.Nat.{ℕ, zero, suc, _+_, _*_, _≤_, _<_, _^_}
 use native.Mathlib.Omega.{arith}
 use native.Mathlib.Decide.{decLt, ℕ-discrete}
 use lib.ListN.{length, replicate, length-append, length-replicate}
-use Rattle.words.specs.Bytes.{Bytes, empty, le, num, zeros, pad, padded}
-use Rattle.words.proofs.Numbers.{bytes-append, bytes-le, bytes-zeros, length-le, num-le, le-num, length-padded}
+use Rattle.words.specs.Bytes.{Bytes, empty, le, num, zeros}
+use Rattle.words.proofs.Numbers.{bytes-append, bytes-le, bytes-zeros, length-le, num-le, le-num}
 use Rattle.schema.proofs.Table.{IsMark, pair-mark}
-use Rattle.layout.specs.Reader.{assert, cut}
 use Rattle.layout.specs.Cells.{Cell, null, leaf, nodes, onNull, flag, bytes, clean}
-use Rattle.layout.specs.Layout.{Codec, Kid, number, string, inside, outside, NullFits, kidFits, kidTail, AllFit, tails}
+use Rattle.layout.specs.Layout.{Codec, Kid, number, string, NullFits, kidFits, kidTail, AllFit, tails}
 use Rattle.layout.specs.Listing.{nu, Script, numberScript, textScript, marked, nullOr, item, runPut, runGet}
 use Rattle.layout.proofs.Cells.{present, leaf-bytes, clean-leaf, clean-null, bytes-clean}
-use Rattle.layout.proofs.Reader.{When, yields, when-bind, when-then, when-map, when-assert, assert-yes, Cut, cut-back, cut-forth}
-use Rattle.layout.proofs.Kids.{SizedAs}
+use Rattle.layout.proofs.Reader.{When, yields, when-bind, when-then, when-map, when-assert, assert-yes, cut-back, cut-forth}
 
 -- what a script may read from b: clean contents that are listed so
 pub record Listed (Fit : Cell → Type 0) (put : Cell → List ℕ) (b : List ℕ) (p : Cell × List ℕ) : Type 0 where
@@ -106,15 +104,15 @@ text-scripted = record {
 pub two-bytes : {h m : List ℕ} → IsMark m → length h ≡ 2 → Bytes h → num h ≡ num m → h ≡ m
 two-bytes i n b e = sym (rw n at (le-num b)) ∙ ap (le 2) e ∙ rw (i .two) at (le-num (i .bytes))
 
-pub nu-mark : IsMark nu
+nu-mark : IsMark nu
 nu-mark = pair-mark 0x6e 0x75 (omega arith) (omega arith)
 
-null-yes : {P : Type 0} (w : ℕ) (d : Dec P) (r : List ℕ) (o : Option (Cell × List ℕ)) → P → nullOr w d r o ≡ some (null (zeros w), r)
+pub null-yes : {P : Type 0} (w : ℕ) (d : Dec P) (r : List ℕ) (o : Option (Cell × List ℕ)) → P → nullOr w d r o ≡ some (null (zeros w), r)
 unfolding nullOr
 null-yes w (yes p) r o h = refl
 null-yes w (no n) r o h = absurd (n h)
 
-null-no : {P : Type 0} (w : ℕ) (d : Dec P) (r : List ℕ) (o : Option (Cell × List ℕ)) → ¬ P → nullOr w d r o ≡ o
+pub null-no : {P : Type 0} (w : ℕ) (d : Dec P) (r : List ℕ) (o : Option (Cell × List ℕ)) → ¬ P → nullOr w d r o ≡ o
 unfolding nullOr
 null-no w (yes p) r o h = absurd (h p)
 null-no w (no n) r o h = refl

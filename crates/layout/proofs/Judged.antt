@@ -2,7 +2,7 @@
 -- Assumes nothing.
 use mathlib.Core.Path.{_≡_, refl, sym, ap, _∙_, subst}
 use mathlib.Core.Logic.{_≢_}
-use mathlib.Core.Bool.{Bool, true, false, cond}
+use mathlib.Core.Bool.{Bool, true, false, cond, true≢false}
 use mathlib.Core.Option.{Option, none, some, Option·none-ne-some}
 use mathlib.Core.List.{List, [], _∷_}
 use Prim.Native.Nat.{ℕ, zero, suc, _<_, _^_}
@@ -13,14 +13,14 @@ use Rattle.words.specs.Bytes.{Bytes, zeros}
 use Rattle.words.proofs.Parts.{part-whole}
 use Rattle.words.proofs.Runs.{sets-whole}
 use Rattle.schema.specs.Types.{Fixed, Text, Ty, fix, text, li, ma, ro}
-use Rattle.layout.specs.Cells.{Cell, null, leaf, node, onNull, flag, bytes, parts, part}
+use Rattle.layout.specs.Cells.{Cell, null, leaf, node, onNull, flag, bytes, parts, partOf}
 use Rattle.layout.specs.Layout.{Kid, NullFits, number, string, kid, slotOf, kidFits, AllFit, struct, array, pair, codec, kids, Lays}
 use Rattle.layout.specs.Places.{starts}
-use Rattle.layout.specs.Reading.{typeAt, answerOf}
+use Rattle.layout.specs.Reading.{typeAlong, answerOf}
 use Rattle.layout.specs.Setting as S
 use Rattle.layout.specs.Setting.{Setting, isNull, inBytes, isSome, fitsText, suits, keepsSize, keepsText, keeps, refusalIn, orEmpty, textOf, write}
-use Rattle.layout.specs.Demand.{Proper}
-use Rattle.layout.proofs.Cells.{parts-node, leaf-here}
+use Rattle.layout.specs.Demand3.{Proper}
+use Rattle.layout.proofs.Cells.{parts-node, leaf-here, leaf-parts}
 use Rattle.layout.proofs.Containers.{codec-lawful, lays-fits}
 use Rattle.layout.proofs.Steps.{kidAt}
 use Rattle.layout.proofs.Bitmaps.{cellAt}
@@ -47,29 +47,26 @@ fine-leaf (numberGiven q h g) = subst Leafy (sym q) tt
 fine-leaf (textNull q h f) = subst Leafy (sym q) tt
 fine-leaf (textGiven q h f n b) = subst Leafy (sym q) tt
 
-settable-end : (x : Setting) (T : Ty) (i : ℕ) (t : Ty) (c : Cell) → childTy t i ≡ T → i < length (parts c) → Fine x T (part i c) → Settable x T (i ∷ []) t c
+settable-end : (x : Setting) (T : Ty) (i : ℕ) (t : Ty) (c : Cell) → childTy t i ≡ T → i < length (parts c) → Fine x T (partOf i c) → Settable x T (i ∷ []) t c
 settable-end x T i t c e k (numberNull q h) = Updated.fixedNull q k e h
 settable-end x T i t c e k (numberGiven q h g) = Updated.fixedGiven q k e h g
 settable-end x T i t c e k (textNull q h f) = Updated.textNull q k e h f
 settable-end x T i t c e k (textGiven {u = u} q h f n b) = Updated.textGiven q k e (ap isNull h) f (ap (λ (y : Setting). length (textOf y)) h ∙ n)
     (subst (λ (y : Setting). Bytes (textOf y)) (sym h) b)
 
-pub settable : (x : Setting) (T : Ty) (i : ℕ) (p : List ℕ) (t : Ty) (c : Cell) → typeAt (i ∷ p) t ≡ some T → Valid (i ∷ p) c → Fine x T (look (i ∷ p) c)
+settable : (x : Setting) (T : Ty) (i : ℕ) (p : List ℕ) (t : Ty) (c : Cell) → typeAlong (i ∷ p) t ≡ some T → Valid (i ∷ p) c → Fine x T (look (i ∷ p) c)
     → Settable x T (i ∷ p) t c
 unfolding Valid look
 settable x T i [] t c e v f = settable-end x T i t c (type-end (childTy t i) T (type-child i [] t T e)) (v .0) f
 settable x T i (j ∷ p) t c e v f = Updated.deeper (v .0) (first-flag i j p c v)
-    (settable x T j p (childTy t i) (part i c) (type-child i (j ∷ p) t T e) (v .1) f)
+    (settable x T j p (childTy t i) (partOf i c) (type-child i (j ∷ p) t T e) (v .1) f)
 
 -- ---- from the judgement
-
-clash : false ≡ true → ⊥
-clash e = let z : _≡_ {A = ℕ} 0 1 = cc in omega arith
 
 fixed-by : (f : Fixed) (x : Setting) (e : Cell) (n : Bool) (m : Option (List ℕ)) → isNull x ≡ n → inBytes f x ≡ m → cond n true (isSome m) ≡ true
     → Fine x (fix f) e
 fixed-by f x e true m h g s = numberNull refl h
-fixed-by f x e false none h g s = absurd (clash s)
+fixed-by f x e false none h g s = absurd (true≢false (sym s))
 fixed-by f x e false (some u) h g s = numberGiven refl h g
 
 fixed-fine : (f : Fixed) (x : Setting) (e : Cell) → suits (fix f) x ≡ true → Fine x (fix f) e
@@ -81,11 +78,11 @@ null-fine k x e h f = textNull refl h f
 
 text-fine : (k : Text) (x : Setting) (e : Cell) (n : ℕ) → Proper x → flag e ≡ 0 → n ≡ length (bytes e) → fitsText x ≡ true → keepsSize n x ≡ true
     → Fine x (text k) e
-text-fine k S.null e n b f l s h = absurd (clash h)
-text-fine k (S.bool v) e n b f l s h = absurd (clash s)
-text-fine k (S.signed z) e n b f l s h = absurd (clash s)
-text-fine k (S.float32 m) e n b f l s h = absurd (clash s)
-text-fine k (S.float64 m) e n b f l s h = absurd (clash s)
+text-fine k S.null e n b f l s h = absurd (true≢false (sym h))
+text-fine k (S.bool v) e n b f l s h = absurd (true≢false (sym s))
+text-fine k (S.signed z) e n b f l s h = absurd (true≢false (sym s))
+text-fine k (S.float32 m) e n b f l s h = absurd (true≢false (sym s))
+text-fine k (S.float64 m) e n b f l s h = absurd (true≢false (sym s))
 text-fine k (S.bytes u) e n b f l s h = textGiven refl refl f (eqb-true (length u) n h ∙ l) b
 
 -- what the place holds lets the setting be made
@@ -101,9 +98,9 @@ suits-leaf : (T : Ty) (x : Setting) → suits T x ≡ true → Leafy T
 unfolding suits
 suits-leaf (fix f) x h = tt
 suits-leaf (text f) x h = tt
-suits-leaf (li t) x h = absurd (clash h)
-suits-leaf (ma k v) x h = absurd (clash h)
-suits-leaf (ro ts) x h = absurd (clash h)
+suits-leaf (li t) x h = absurd (true≢false (sym h))
+suits-leaf (ma k v) x h = absurd (true≢false (sym h))
+suits-leaf (ro ts) x h = absurd (true≢false (sym h))
 
 pub granted-by : (row : List ℕ) (T : Ty) (p : List ℕ) (c : Cell) (r : Seen) (x : Setting) → Proper x → Landing row T p c r
     → refusalIn (answerOf T r) ≡ none → suits T x ≡ true → keeps T (answerOf T r) x ≡ true
@@ -168,51 +165,51 @@ not-null : (c : Cell) (u : List ℕ) → flag c ≡ 0 → c ≡ null u → ⊥
 unfolding onNull
 not-null c u f e = omega (arith, ap (λ (z : Cell). flag z) e)
 
-no-parts : (c : Cell) (u : List ℕ) → c ≡ leaf u → length (parts c) ≡ 0
-unfolding parts
-no-parts c u e = rw e
-
 two-parts : (c a b : Cell) → c ≡ node (a ∷ b ∷ []) → length (parts c) ≡ 2
 two-parts c a b e = ap (λ (z : Cell). length (parts z)) e ∙ ap length (parts-node (a ∷ b ∷ []))
 
-map-null : (a v : Ty) (c : Cell) (b : List ℕ) (i : ℕ) (u : List ℕ) → Lays (ma a v) c b → i < length (parts c) → part i c ≡ null u → ⊥
+map-null : (a v : Ty) (c : Cell) (b : List ℕ) (i : ℕ) (u : List ℕ) → Lays (ma a v) c b → i < length (parts c) → partOf i c ≡ null u → ⊥
 unfolding codec pair
-map-null a v c b zero u y k e = not-null (part 0 c) u (codec-lawful (li a) .here (part 0 c) (lays-fits (li a) (part 0 c) (y .keysArray) (y .keys))) e
-map-null a v c b (suc zero) u y k e = not-null (part 1 c) u (codec-lawful (li v) .here (part 1 c) (lays-fits (li v) (part 1 c) (y .valuesArray) (y .values))) e
-map-null a v c b (suc (suc i)) u y k e = omega (arith, two-parts c (part 0 c) (part 1 c) (y .plain))
+map-null a v c b zero u y k e = not-null (partOf 0 c) u (codec-lawful (li a) .here (partOf 0 c) (lays-fits (li a) (partOf 0 c) (y .keysArray) (y .keys))) e
+map-null a v c b (suc zero) u y k e = not-null (partOf 1 c) u
+    (codec-lawful (li v) .here (partOf 1 c) (lays-fits (li v) (partOf 1 c) (y .valuesArray) (y .values))) e
+map-null a v c b (suc (suc i)) u y k e = omega (arith, two-parts c (partOf 0 c) (partOf 1 c) (y .plain))
 
-null-part : (t : Ty) (c : Cell) (b : List ℕ) (i : ℕ) (u : List ℕ) → Lays t c b → i < length (parts c) → part i c ≡ null u → length u ≡ slotIn t
+null-part : (t : Ty) (c : Cell) (b : List ℕ) (i : ℕ) (u : List ℕ) → Lays t c b → i < length (parts c) → partOf i c ≡ null u → length u ≡ slotIn t
 unfolding slotIn codec number string array struct
-null-part (fix f) c b i u y k e = absurd (omega (arith, no-parts c (bytes c) (y .fits .plain)))
-null-part (text s) c b i u y k e = absurd (omega (arith, no-parts c (bytes c) (y .fits .plain)))
+null-part (fix f) c b i u y k e = absurd (omega (arith, leaf-parts c (bytes c) (y .fits .plain)))
+null-part (text s) c b i u y k e = absurd (omega (arith, leaf-parts c (bytes c) (y .fits .plain)))
 null-part (li t) c b i u y k e =
     let w = slotOf (codec t .wide) in
-    null-fit w (kidAt (replicate (length (parts c)) (kid w (codec t))) i) (part i c) u e
+    null-fit w (kidAt (replicate (length (parts c)) (kid w (codec t))) i) (partOf i c) u e
     (fit-at w (replicate (length (parts c)) (kid w (codec t))) (parts c) i (lays-fits (li t) c b y .children) k)
 null-part (ma a v) c b i u y k e = absurd (map-null a v c b i u y k e)
-null-part (ro ts) c b i u y k e = null-fit 8 (kidAt (kids ts) i) (part i c) u e (fit-at 8 (kids ts) (parts c) i (lays-fits (ro ts) c b y .children) k)
+null-part (ro ts) c b i u y k e = null-fit 8 (kidAt (kids ts) i) (partOf i c) u e (fit-at 8 (kids ts) (parts c) i (lays-fits (ro ts) c b y .children) k)
 
-pub null-look : (w i : ℕ) (p : List ℕ) (t : Ty) (c : Cell) (b u : List ℕ) → Lays t c b → length b < 2 ^ 32 → Valid (i ∷ p) c → look (i ∷ p) c ≡ null u
+null-look : (w i : ℕ) (p : List ℕ) (t : Ty) (c : Cell) (b u : List ℕ) → Lays t c b → length b < 2 ^ 32 → Valid (i ∷ p) c → look (i ∷ p) c ≡ null u
     → length u ≡ slotAt w (i ∷ p) t
 unfolding Valid look slotAt
 null-look w i [] t c b u y lim v e = null-part t c b i u y (v .0) e
 null-look w i (j ∷ p) t c b u y lim v e =
     let d = below t c i b y lim (v .0) (first-flag i j p c v) in
-    null-look (slotIn t) j p (childTy t i) (part i c) (d .own) u (d .lays) (omega (arith, d .short)) (v .1) e
+    null-look (slotIn t) j p (childTy t i) (partOf i c) (d .own) u (d .lays) (omega (arith, d .short)) (v .1) e
 
 pub valid-update : (p : List ℕ) (x c : Cell) → Valid p c → Valid p (update p x c)
 unfolding Valid update
 valid-update [] x c v = tt
-valid-update (i ∷ p) x c v = (omega (arith, update-count i p x c, v .0), rw (part-set i c (update p x (part i c)) (v .0)) (valid-update p x (part i c) (v .1)))
+valid-update (i ∷ p) x c v = (
+  omega (arith, update-count i p x c, v .0),
+  rw (part-set i c (update p x (partOf i c)) (v .0)) (valid-update p x (partOf i c) (v .1)),
+)
 
 -- the bytes of the contents with the leaf set, as many as before
 pub record Changed (x : Setting) (T : Ty) (p : List ℕ) (t : Ty) (c : Cell) (b after : List ℕ) : Type 0 where
   pub lays : Lays t (update p (cellOf (slotAt 0 p t) T x) c) after
   pub size : length after ≡ length b
-  pub others : (q : List ℕ) (U : Ty) → typeAt q t ≡ some U → p ≢ q → Like U (walk q t rootSeat 0 after) (walk q t rootSeat 0 b)
+  pub others : (q : List ℕ) (U : Ty) → typeAlong q t ≡ some U → p ≢ q → Like U (walk q t rootSeat 0 after) (walk q t rootSeat 0 b)
   pub there : starts T (walk p t rootSeat 0 after) ≡ starts T (walk p t rootSeat 0 b)
 
-pub set-at : (x : Setting) (T : Ty) (i : ℕ) (p : List ℕ) (t : Ty) (c : Cell) (b : List ℕ) → typeAt (i ∷ p) t ≡ some T → Lays t c b → length b < 2 ^ 32
+pub set-at : (x : Setting) (T : Ty) (i : ℕ) (p : List ℕ) (t : Ty) (c : Cell) (b : List ℕ) → typeAlong (i ∷ p) t ≡ some T → Lays t c b → length b < 2 ^ 32
     → Granted x T (i ∷ p) c
     → Changed x T (i ∷ p) t c b (write T x (walk (i ∷ p) t rootSeat 0 b) b)
 set-at x T i p t c b e y lim g =

@@ -2,7 +2,7 @@
 -- Assumes nothing.
 use mathlib.Core.Path.{_≡_, refl, sym, ap, _∙_}
 use mathlib.Core.Option.{Option, none, some}
-use mathlib.Core.List.{List, [], _∷_, _++_, append-assoc}
+use mathlib.Core.List.{List, _∷_, _++_, append-assoc}
 use Prim.Native.Nat.{ℕ, _+_, _*_, _-_, _/_, _%_, _^_, _≤_, _<_}
 use native.Mathlib.Omega.{arith}
 use native.Mathlib.Decide.{decLt, ℕ-discrete}
@@ -10,7 +10,7 @@ use lib.ListN.{length, drop, length-append, length-replicate}
 use lib.Seq.{drop-at}
 use Rattle.words.specs.Bytes.{Bytes, empty, le, num, zeros, fill, pad, padded, zerosAhead}
 use Rattle.words.proofs.Numbers.{bytes-le, bytes-fill, bytes-drop, length-le, num-le, le-num, num-zeros, length-fill, length-padded, fill-is}
-use Rattle.layout.specs.Faults.{slot, byte, got, within}
+use Rattle.layout.specs.Faults.{slot, byte, got}
 use Rattle.layout.specs.Tiles.{Range, range, total, Stands, stands?}
 use Rattle.layout.specs.Cells.{Cell, leaf, flag, bytes, clean}
 use Rattle.layout.specs.Layout.{Codec, Kid, NumberFits, StringFits, number, string, inside, outside, kidOf, slotOf}

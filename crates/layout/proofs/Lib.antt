@@ -3,36 +3,42 @@ pub mod Reader
 pub mod Faults
 pub mod Tiles
 pub mod Orders
-pub mod Values
+mod Values
 pub mod Units
-pub mod Kids
+mod Kids
 pub mod Children
 pub mod Containers
 pub mod Near
 pub mod Items
 pub mod Listed
-pub mod Rows
 pub mod Steps
 pub mod Bitmaps
-pub mod Spot
+mod Spot
 pub mod AnyOrder
-pub mod Placing
-pub mod Bodies
-pub mod Aside
+mod Placing
+mod Bodies
+mod Aside
 pub mod Stepped
 pub mod Slotted
-pub mod Stepping
+mod Stepping
 pub mod Walked
-pub mod Tree
+mod Tree
 pub mod Landed
-pub mod Seen
+mod Seen
 pub mod Single
 pub mod Updated
 pub mod Cases
-pub mod Judged
-pub mod After
+mod Judged
+mod After
 pub mod Told
-pub mod Twice
-pub mod Refused
+mod Twice
+mod Refused
 pub mod Demanded
+pub mod Entered
+pub mod Demand3
+pub mod Recorded
+pub mod Rooms
+pub mod Written
+pub mod Under
+pub mod Demand2
 pub mod Widths

@@ -4,27 +4,26 @@ use mathlib.Core.Path.{_≡_, refl, sym, ap, _∙_}
 use mathlib.Core.Logic.{_≢_}
 use mathlib.Core.Option.{Option, none, some}
 use mathlib.Core.List.{List, [], _∷_, _++_, map, append-assoc, append-nil}
-use Prim.Native.Nat.{ℕ, zero, suc, _+_, _*_, _≤_, _<_, _^_}
+use Prim.Native.Nat.{ℕ, _+_, _*_, _≤_, _<_, _^_}
 use native.Mathlib.Omega.{arith}
 use native.Mathlib.Decide.{ℕ-discrete}
-use lib.ListN.{length, replicate, length-append, length-replicate, length-map}
-use Rattle.words.specs.Bytes.{Bytes, le, num, pad, bitmap}
+use lib.ListN.{length, replicate, length-append, length-replicate}
+use Rattle.words.specs.Bytes.{Bytes, le, num, bitmap}
 use Rattle.words.proofs.Numbers.{bytes-append, bytes-le, length-le, num-le, le-num, length-padded}
 use Rattle.schema.specs.Marks.{types, markAt}
 use Rattle.schema.specs.Types.{Fixed, bo, i1, i2, i4, i8, f4, f8, Text, st, bi, width, Ty, fix, text, li, ma, ro, Tys, end, _then_, fixedPlace, textPlace}
-use Rattle.schema.specs.Types.{place, mark}
+use Rattle.schema.specs.Types.{place, mark, count}
 use Rattle.schema.proofs.Table.{width-pos, is-mark}
-use Rattle.layout.specs.Reader.{assert, cut}
-use Rattle.layout.specs.Cells.{Cell, node, parts, part, clean}
-use Rattle.layout.specs.Layout.{Codec, Kid, inside, outside, kidOf, kid, slotOf, AllFit, bodyPut, struct, array, pair, list, limit, codec, kids}
+use Rattle.layout.specs.Cells.{Cell, node, parts, partOf, clean}
+use Rattle.layout.specs.Layout.{Codec, Kid, inside, outside, kidOf, kid, slotOf, AllFit, struct, array, pair, limit, codec, kids}
 use Rattle.layout.specs.Layout.{Fits, content}
-use Rattle.layout.specs.Listing.{nu, Script, marked, item, runPut, runGet, structScript, listScript, mapScript, element, script, scripts, listing, parse}
+use Rattle.layout.specs.Listing.{nu, Script, marked, item, runPut, structScript, listScript, mapScript, element, script, scripts, listing, parse}
 use Rattle.layout.proofs.Cells.{parts-node, clean-node, parts-clean, part-clean, count-clean}
 use Rattle.layout.proofs.Reader.{When, yields, when-bind, when-then, when-map, when-some, when-assert, assert-yes, cut-back, cut-forth, length-zero}
 use Rattle.layout.proofs.Kids.{Lawful, LawfulKid, Sized}
 use Rattle.layout.proofs.Children.{AllLawful, all-length}
 use Rattle.layout.proofs.Containers.{repeat, body-length, codec-lawful, kids-lawful, element-lawful}
-use Rattle.layout.proofs.Items.{Listed, Short, Scripted, ScriptedKid, KidFor, pairs, number-scripted, text-scripted, two-bytes, item-scripted}
+use Rattle.layout.proofs.Items.{Listed, Scripted, ScriptedKid, KidFor, pairs, number-scripted, text-scripted, two-bytes, item-scripted}
 use Rattle.layout.proofs.Items.{AllScripted, run-same, run-proper, run-long, run-short, run-back, run-forth, repeat-scripted}
 
 -- ---- containers
@@ -33,7 +32,7 @@ node-cleaned : (x : Cell) (cs : List Cell) → x ≡ node cs → node (map clean
 node-cleaned x cs e = sym (ap clean e ∙ clean-node cs)
 
 -- a struct's bitmap leaves room for a mark
-pub struct-short : (ks : List Kid) (ss : List Script) → AllLawful 8 ks → AllScripted 8 ks ss → (x : Cell) → struct ks .Fits x
+struct-short : (ks : List Kid) (ss : List Script) → AllLawful 8 ks → AllScripted 8 ks ss → (x : Cell) → struct ks .Fits x
     → length (runPut ss (parts x)) + 3 * bitmap (length ks) ≤ 3 * length (struct ks .put x)
 unfolding struct
 struct-short ks ss l h x f = omega (arith, run-short 8 ks ss (parts x) h (f .children), body-length 0 8 ks (parts x) l (f .children))
@@ -107,8 +106,8 @@ module _ (w : ℕ) (k : Kid) (s : Script) (lk : LawfulKid w k) (l : ScriptedKid 
       → mapScript s s′ .get (mapScript s s′ .put x ++ r) ≡ some (clean x, r)
   unfolding pair array mapScript
   map-back x r f h =
-      let p = parts (part 0 x) in
-      let q = parts (part 1 x) in
+      let p = parts (partOf 0 x) in
+      let q = parts (partOf 1 x) in
       let n = length p in
       let a = repeat-scripted w n k s l in
       let a′ = repeat-scripted w′ n k′ s′ l′ in
@@ -118,7 +117,8 @@ module _ (w : ℕ) (k : Kid) (s : Script) (lk : LawfulKid w k) (l : ScriptedKid 
       let z : length (le 4 n ++ (b ++ b′)) < 2 ^ 32 = rw (← (f .counts)) at h in
       let z′ : 4 + (length b + length b′) < 2 ^ 32 = simp (length-append, length-le) at z in
       let e : node (node (map clean p) ∷ node (map clean q) ∷ []) ≡ clean x =
-      rw (node-cleaned (part 0 x) p (f .keys .plain), node-cleaned (part 1 x) q (f .values .plain)) (node-cleaned x (part 0 x ∷ part 1 x ∷ []) (f .plain)) in
+      rw (node-cleaned (partOf 0 x) p (f .keys .plain), node-cleaned (partOf 1 x) q (f .values .plain))
+      (node-cleaned x (partOf 0 x ∷ partOf 1 x ∷ []) (f .plain)) in
       rw (
         ← (f .counts),
         append-assoc,
@@ -153,12 +153,12 @@ module _ (w : ℕ) (k : Kid) (s : Script) (lk : LawfulKid w k) (l : ScriptedKid 
   map-scripted : Scripted (pair (array w k) (array w′ k′)) (mapScript s s′)
   unfolding pair mapScript
   map-scripted = record {
-    same = λ x. rw (part-clean 0 x, part-clean 1 x, repeat-same w k s lk l (part 0 x), repeat-same w′ k′ s′ lk′ l′ (part 1 x), count-clean (part 0 x));
-    proper = λ x f. bytes-append (bytes-le 4 (length (parts (part 0 x))))
-        (bytes-append (repeat-proper w k s lk l (part 0 x) (f .keys)) (repeat-proper w′ k′ s′ lk′ l′ (part 1 x) (f .values)));
+    same = λ x. rw (part-clean 0 x, part-clean 1 x, repeat-same w k s lk l (partOf 0 x), repeat-same w′ k′ s′ lk′ l′ (partOf 1 x), count-clean (partOf 0 x));
+    proper = λ x f. bytes-append (bytes-le 4 (length (parts (partOf 0 x))))
+        (bytes-append (repeat-proper w k s lk l (partOf 0 x) (f .keys)) (repeat-proper w′ k′ s′ lk′ l′ (partOf 1 x) (f .values)));
     short = λ x f.
-        let p = repeat-short w k s lk l (part 0 x) (f .keys) in
-        let q = repeat-short w′ k′ s′ lk′ l′ (part 1 x) (f .values) in
+        let p = repeat-short w k s lk l (partOf 0 x) (f .keys) in
+        let q = repeat-short w′ k′ s′ lk′ l′ (partOf 1 x) (f .values) in
         simp (length-append, length-le) (omega arith);
     back = map-back;
     forth = map-forth;
@@ -274,7 +274,7 @@ listing-parse t b c hb e = when-some {P = Parsed t b} all e
         let o : script t .put c ≡ r = rw (length-zero r′ n, append-nil) at (q .1 .whole) in
         yields (record { fits = q .1 .fits; clear = q .1 .clear; lists = rw (← (two-bytes (is-mark t) (p .size) (p .front) (q .0)), o) (p .whole) })
 
--- the bytes under nulls play no part in it
+-- the bytes under nulls play no partOf in it
 pub listing-clean : (t : Ty) (c : Cell) → listing t (clean c) ≡ listing t c
 unfolding listing
 listing-clean t c = rw (script-lawful t .same c)
@@ -284,8 +284,13 @@ unfolding listing
 bytes-listing t c f = bytes-append (is-mark t .bytes) (script-lawful t .proper c f)
 
 -- of a root, which is a struct of one field or more, it is at most three times as long as the row
-pub listing-short : (t : Ty) (ts : Tys) (c : Cell) → Fits (ro (t then ts)) c → length (listing (ro (t then ts)) c) ≤ 3 * length (content (ro (t then ts)) c)
+listing-short : (t : Ty) (ts : Tys) (c : Cell) → Fits (ro (t then ts)) c → length (listing (ro (t then ts)) c) ≤ 3 * length (content (ro (t then ts)) c)
 unfolding listing codec script structScript
 listing-short t ts c f =
     let h = struct-short (kids (t then ts)) (scripts (t then ts)) (kids-lawful (t then ts)) (scripts-lawful (t then ts)) c f in
     rw (length-append, is-mark (ro (t then ts)) .two) (omega arith)
+
+pub root-short : (ts : Tys) (c : Cell) → 1 ≤ count ts → Fits (ro ts) c → length (listing (ro ts) c) ≤ 3 * length (content (ro ts) c)
+unfolding count
+root-short end c h f = absurd (omega arith)
+root-short (t then ts) c h f = listing-short t ts c f

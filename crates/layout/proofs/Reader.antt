@@ -44,7 +44,7 @@ unfolding assert
 assert-yes (yes p) h = refl
 assert-yes (no n) h = absurd (n h)
 
-assert-no : {P A : Type 0} (d : Dec P) (m : Option A) → (P → ⊥) → (assert d >> m) ≡ none
+pub assert-no : {P A : Type 0} (d : Dec P) (m : Option A) → (P → ⊥) → (assert d >> m) ≡ none
 unfolding assert
 assert-no (yes p) m h = absurd (h p)
 assert-no (no n) m h = refl

@@ -13,9 +13,9 @@ use Rattle.layout.specs.Walk.{Seen, bad, nullAt, seen, rootSeat, walk}
 use Rattle.layout.specs.Reading as R
 use Rattle.layout.specs.Reading.{Answer, placed, answerOf, found, readIn}
 use Rattle.layout.specs.Setting.{Setting, suits, keeps, unless, _or_, refusalIn, judgeAt, refuses, setIn}
-use Rattle.layout.specs.Demand.{Accepted, Grounds, nowhere, underNull, unfit, moves}
+use Rattle.layout.specs.Demand3.{Grounds, nowhere, underNull, unfit, moves}
 use Rattle.layout.proofs.Landed.{Landing, off, atNull, atSeen}
-use Rattle.layout.proofs.After.{outcome-refused, row-sound, row-lands, read-at, turned-down}
+use Rattle.layout.proofs.After.{Accepted, outcome-refused, row-sound, row-lands, read-at, turned-down}
 use Rattle.layout.proofs.Told.{value-present}
 
 -- the read of a place refuses only where the walk does
@@ -36,7 +36,8 @@ five-six row T p c r n (off {n = m} (inr h) g) e = inr cc
 five-six row T p c r n (atNull v f) e = let z : _≡_ {A = ℕ} 0 1 = cc in absurd (omega arith)
 five-six row T p c r n (atSeen v y s) e = let z : _≡_ {A = ℕ} 0 1 = cc in absurd (omega arith)
 
-by-number : (ts : Tys) (row p : List ℕ) (x : Setting) (n : Refusal) → (n ≡ numbered 5) ⊎ (n ≡ numbered 6) → readIn ts row p ≡ R.refused n → Grounds ts row p x n
+by-number : (ts : Tys) (row p : List ℕ) (x : Setting) (n : Refusal) → (n ≡ numbered 5) ⊎ (n ≡ numbered 6) → readIn ts row p ≡ R.refused n
+    → Grounds (placed p (ro ts)) (readIn ts row p) x n
 by-number ts row p x n (inl e) h = rw e (nowhere (rw e at h))
 by-number ts row p x n (inr e) h = rw e (underNull (rw e at h))
 
@@ -48,7 +49,7 @@ module _ (ts : Tys) (row : List ℕ) (a : Accepted ts row) (p : List ℕ) (x : S
   -- which of the three it was
   first-of : (T : Ty) (r : Option Refusal) (s k : Bool) → placed p (ro ts) ≡ some T → refusalIn (readIn ts row p) ≡ r → suits T x ≡ s
       → keeps T (readIn ts row p) x ≡ k
-      → r or unless s 8 or unless k 9 ≡ some n → Grounds ts row p x n
+      → r or unless s 8 or unless k 9 ≡ some n → Grounds (placed p (ro ts)) (readIn ts row p) x n
   first-of T (some m) s k q h g f e =
       let r = walk p (ro ts) rootSeat 0 row in
       let t = read-at ts row a p T q in
@@ -62,12 +63,12 @@ module _ (ts : Tys) (row : List ℕ) (a : Accepted ts row) (p : List ℕ) (x : S
   unfolding readIn found
   no-place e = rw e
 
-  grounds : (m : Option Ty) → placed p (ro ts) ≡ m → judgeAt m (readIn ts row p) x ≡ some n → Grounds ts row p x n
+  grounds : (m : Option Ty) → placed p (ro ts) ≡ m → judgeAt m (readIn ts row p) x ≡ some n → Grounds (placed p (ro ts)) (readIn ts row p) x n
   unfolding judgeAt
   grounds none q e = rw (← (Option·some-injective _ _ e)) (nowhere (no-place q))
   grounds (some T) q e = first-of T _ _ _ q refl refl refl e
 
-  pub refused-only : setIn ts row p x ≡ refuses n → Grounds ts row p x n
+  pub refused-only : setIn ts row p x ≡ refuses n → Grounds (placed p (ro ts)) (readIn ts row p) x n
   unfolding setIn
   refused-only e = grounds (placed p (ro ts)) refl (outcome-refused _ _ n (rw (row-sound ts row a) at e))
 
@@ -85,12 +86,14 @@ judge-moves : (m : Option Ty) (a : Answer) (x : Setting) (T : Ty) → m ≡ some
 unfolding judgeAt
 judge-moves m a x T q h g k = rw (q, h, g, k)
 
-judge-grounds : (ts : Tys) (row p : List ℕ) (x : Setting) (n : Refusal) → Grounds ts row p x n → judgeAt (placed p (ro ts)) (readIn ts row p) x ≡ some n
+judge-grounds : (ts : Tys) (row p : List ℕ) (x : Setting) (n : Refusal) → Grounds (placed p (ro ts)) (readIn ts row p) x n
+    → judgeAt (placed p (ro ts)) (readIn ts row p) x ≡ some n
 unfolding readIn
 judge-grounds ts row p x n (nowhere h) = judge-refused (placed p (ro ts)) x (numbered 5) (walk p (ro ts) rootSeat 0 row) h
 judge-grounds ts row p x n (underNull h) = judge-refused (placed p (ro ts)) x (numbered 6) (walk p (ro ts) rootSeat 0 row) h
 judge-grounds ts row p x n (unfit {t = T} q h g) = judge-unfit (placed p (ro ts)) (readIn ts row p) x T q h g
 judge-grounds ts row p x n (moves {t = T} q h g k) = judge-moves (placed p (ro ts)) (readIn ts row p) x T q h g k
 
-pub refused-there : (ts : Tys) (row : List ℕ) → Accepted ts row → (p : List ℕ) (x : Setting) (n : Refusal) → Grounds ts row p x n → setIn ts row p x ≡ refuses n
+pub refused-there : (ts : Tys) (row : List ℕ) → Accepted ts row → (p : List ℕ) (x : Setting) (n : Refusal)
+    → Grounds (placed p (ro ts)) (readIn ts row p) x n → setIn ts row p x ≡ refuses n
 refused-there ts row a p x n g = turned-down ts row a p x n (judge-grounds ts row p x n g)

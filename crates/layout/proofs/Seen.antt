@@ -9,10 +9,10 @@ use native.Mathlib.Omega.{arith}
 use native.Mathlib.Decide.{ℕ-discrete}
 use lib.ListN.{length}
 use Rattle.schema.specs.Types.{Fixed, bo, i1, i2, i4, i8, f4, f8, Ty, fix, text, li, ma, ro}
-use Rattle.layout.specs.Cells.{Cell, flag, parts, part as partOf}
+use Rattle.layout.specs.Cells.{Cell, flag, parts, partOf}
 use Rattle.layout.specs.Layout.{number, string, codec, Lays}
 use Rattle.layout.specs.Places.{startOf, starts}
-use Rattle.layout.specs.Reading.{typeAt, valueOf, answerOf, held}
+use Rattle.layout.specs.Reading.{typeAlong, valueOf, answerOf, held}
 use Rattle.layout.specs.Walk.{Seat, Seen, bad, nullAt, seen, Step, into, own, stepIn, goOn, walk, childTy}
 use Rattle.layout.proofs.Stepped as Stepped
 use Rattle.layout.proofs.Stepped.{Leafy, Comes, Into}
@@ -36,7 +36,7 @@ pub record Like (t : Ty) (r r′ : Seen) : Type 0 where
   pub answers : answerOf t r ≡ answerOf t r′
   pub shows : shown t r ≡ shown t r′
 
-pub like-refl : {t : Ty} {r r′ : Seen} → r ≡ r′ → Like t r r′
+like-refl : {t : Ty} {r r′ : Seen} → r ≡ r′ → Like t r r′
 like-refl {t} e = record { answers = ap (answerOf t) e; shows = ap (shown t) e }
 
 -- the bytes in the range are those found
@@ -143,15 +143,15 @@ module _ (t : Ty) (c c′ : Cell) (b b′ : List ℕ) (d : Instead t c c′ b b�
       go (ma a v) y y′ = record { answers = rw (d .size); shows = refl }
       go (ro ts) y y′ = record { answers = rw (d .size); shows = refl }
 
-  pub own-was : (s : Seat) (o : ℕ) (r : Seen) → own t s o b r ≡ r
+  own-was : (s : Seat) (o : ℕ) (r : Seen) → own t s o b r ≡ r
   own-was s o r = own-holds t c s o b r (d .was) (d .small)
 
-  pub own-is : (s : Seat) (o : ℕ) (r : Seen) → own t s o b′ r ≡ r
+  own-is : (s : Seat) (o : ℕ) (r : Seen) → own t s o b′ r ≡ r
   own-is s o r = own-holds t c′ s o b′ r (d .is) small′
 
   -- a path that begins with another child, or ends here, or goes on with child i
-  pub others-by : (i : ℕ) (p q : List ℕ) (U : Ty) (s : Seat) (o : ℕ) → i < length (parts c) → Aside t i b b′ → typeAt q t ≡ some U → (i ∷ p) ≢ q
-      → ((q : List ℕ) → typeAt q (childTy t i) ≡ some U → p ≢ q → Like U (walk (i ∷ q) t s o b′) (walk (i ∷ q) t s o b))
+  pub others-by : (i : ℕ) (p q : List ℕ) (U : Ty) (s : Seat) (o : ℕ) → i < length (parts c) → Aside t i b b′ → typeAlong q t ≡ some U → (i ∷ p) ≢ q
+      → ((q : List ℕ) → typeAlong q (childTy t i) ≡ some U → p ≢ q → Like U (walk (i ∷ q) t s o b′) (walk (i ∷ q) t s o b))
       → Like U (walk q t s o b′) (walk q t s o b)
   unfolding walk
   others-by i p [] U s o k a e n f =
@@ -160,11 +160,11 @@ module _ (t : Ty) (c c′ : Cell) (b b′ : List ℕ) (d : Instead t c c′ b b�
     where
       go : Dec (j ≡ i) → Like U (walk (j ∷ q) t s o b′) (walk (j ∷ q) t s o b)
       go (yes z) = subst (λ (j : ℕ). Like U (walk (j ∷ q) t s o b′) (walk (j ∷ q) t s o b)) (sym z)
-          (f q (subst (λ (j : ℕ). typeAt q (childTy t j) ≡ some U) z (type-child j q t U e)) (λ m. n (rw (z, m))))
+          (f q (subst (λ (j : ℕ). typeAlong q (childTy t j) ≡ some U) z (type-child j q t U e)) (λ m. n (rw (z, m))))
       go (no z) = like-refl (own-is s o _ ∙ ap (goOn q (λ t s o b. walk q t s o b)) (a j z s o) ∙ sym (own-was s o _))
 
   -- nothing stands past a leaf
-  pub past-end : (i : ℕ) (U : Ty) (s : Seat) (o : ℕ) → Leafy (childTy t i) → (q : List ℕ) → typeAt q (childTy t i) ≡ some U → [] ≢ q
+  pub past-end : (i : ℕ) (U : Ty) (s : Seat) (o : ℕ) → Leafy (childTy t i) → (q : List ℕ) → typeAlong q (childTy t i) ≡ some U → [] ≢ q
       → Like U (walk (i ∷ q) t s o b′) (walk (i ∷ q) t s o b)
   past-end i U s o l [] e n = absurd (n refl)
   past-end i U s o l (j ∷ q) e n = absurd (leaf-end (childTy t i) U j q l e)

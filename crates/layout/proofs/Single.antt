@@ -7,17 +7,17 @@ use mathlib.Core.List.{List, [], _∷_, _++_}
 use Prim.Native.Nat.{ℕ, zero, suc, _+_, _-_, _<_, _^_}
 use native.Mathlib.Omega.{arith}
 use native.Mathlib.Decide.{decLt}
-use lib.ListN.{length, replicate, take, length-replicate, getD-replicate}
+use lib.ListN.{length, replicate, length-replicate, getD-replicate}
 use lib.Seq.{take-at}
 use Rattle.words.specs.Bytes.{le, fill, pad, padded, part}
 use Rattle.words.proofs.Numbers.{length-le, length-padded}
 use Rattle.schema.specs.Types.{Ty, fix, text, li, ma, ro, Tys, end, _then_, count, field}
 use Rattle.layout.specs.Tiles.{Range, range, total}
-use Rattle.layout.specs.Cells.{Cell, null, leaf, nodes, onNull, flag, parts, part as partOf}
-use Rattle.layout.specs.Layout.{Kid, inside, Placed, kidOf, kid, slotOf, kidLays, front, BodyLays, number, string, array, pair, struct, codec, kids, Lays}
+use Rattle.layout.specs.Cells.{Cell, null, leaf, nodes, onNull, flag, parts, partOf}
+use Rattle.layout.specs.Layout.{Kid, Placed, kidOf, kid, slotOf, kidLays, front, BodyLays, number, string, array, pair, struct, codec, kids, Lays}
 use Rattle.layout.specs.Places.{starts}
-use Rattle.layout.specs.Reading.{typeAt}
-use Rattle.layout.specs.Walk.{Seat, seatOf, child, stepIn, goOn, walk, seen, into, seatAt}
+use Rattle.layout.specs.Reading.{typeAlong}
+use Rattle.layout.specs.Walk.{Seat, seatOf, child, stepIn, goOn, walk, seen, seatAt}
 use Rattle.layout.proofs.Reader.{assert-yes}
 use Rattle.layout.proofs.Cells.{flag-bit}
 use Rattle.layout.proofs.Tiles.{Among, first, later}
@@ -35,7 +35,7 @@ use Rattle.layout.proofs.Placing.{Twin, twins, data-same}
 
 -- at every path the value starts at the same byte in both
 abbrev pub Starting : Ty → Seat → ℕ → List ℕ → List ℕ → Type 0
-Starting t s o b b′ = (q : List ℕ) (T : Ty) → typeAt q t ≡ some T → starts T (walk q t s o b) ≡ starts T (walk q t s o b′)
+Starting t s o b b′ = (q : List ℕ) (T : Ty) → typeAlong q t ≡ some T → starts T (walk q t s o b) ≡ starts T (walk q t s o b′)
 
 abbrev Single : Ty → Type 0
 Single t = (c : Cell) (b b′ : List ℕ) (s : Seat) (o : ℕ) → Lays t c b → Lays t c b′ → length b < 2 ^ 32 → Starting t s o b b′ → b ≡ b′
@@ -118,7 +118,7 @@ among-some (later m) = omega arith
 module _ (F : ℕ → Ty) (c : Cell) (hs : List ℕ) (h w : ℕ) (ks : List Kid) (eh : length hs ≡ h) (l : AllLawful w ks) (hF : (j : ℕ) → Holds w (codec (F j) .wide))
     (kF : (j : ℕ) → j < length (parts c) → kidAt ks j ≡ kid w (codec (F j))) (T : Ty)
     (steps : (r′ : List ℕ) (j : ℕ) (z : Seat) (o : ℕ) → stepIn T j z o (hs ++ r′) ≡ child h w (length ks) (F j) j o (hs ++ r′))
-    (typed : (j : ℕ) (q : List ℕ) (U : Ty) → j < length (parts c) → typeAt q (F j) ≡ some U → typeAt (j ∷ q) T ≡ some U)
+    (typed : (j : ℕ) (q : List ℕ) (U : Ty) → j < length (parts c) → typeAlong q (F j) ≡ some U → typeAlong (j ∷ q) T ≡ some U)
     (r b : List ℕ) (e : hs ++ r ≡ b) (y : BodyLays h w ks (parts c) r) (lim : length b < 2 ^ 32) (whole : Lays T c b)
     (r′ b′ : List ℕ) (e′ : hs ++ r′ ≡ b′) (y′ : BodyLays h w ks (parts c) r′) (lim′ : length b′ < 2 ^ 32) (whole′ : Lays T c b′)
     (s : Seat) (o : ℕ) (st : Starting T s o b b′) (one : (j : ℕ) → j < length (parts c) → Single (F j)) where
@@ -145,7 +145,7 @@ module _ (F : ℕ → Ty) (c : Cell) (hs : List ℕ) (h w : ℕ) (ks : List Kid)
         (rw (kF j kj) at (sp′ .lays))
 
     here-twin : flag (partOf j c) ≡ 0 → (wd : Option ℕ) → codec (F j) .wide ≡ wd → Same
-    unfolding kidOf typeAt
+    unfolding kidOf typeAlong
     here-twin z (some v) q =
         let t = codec (F j) in
         let p = inside-given w v t at (y .variable) (sp .before) (sp .after) (partOf j c) (sp .slot) (lays-at (some v) q) z in
@@ -177,7 +177,7 @@ module _ (F : ℕ → Ty) (c : Cell) (hs : List ℕ) (h w : ℕ) (ks : List Kid)
         (sp .slot) (sp′ .slot) (sp .lays) (sp′ .lays) z
     twin-by (suc (suc f)) z k = absurd (omega arith)
 
-  pub body-same : r ≡ r′
+  body-same : r ≡ r′
   body-same =
       let d = y .variable in
       let d′ = y′ .variable in
@@ -195,7 +195,7 @@ module _ (F : ℕ → Ty) (c : Cell) (hs : List ℕ) (h w : ℕ) (ks : List Kid)
 -- ---- types
 
 list-single : (t : Ty) → Single t → Single (li t)
-unfolding codec array stepIn typeAt
+unfolding codec array stepIn typeAlong
 list-single t one c b b′ s o y y′ lim st =
     let m = length (parts c) in
     let w = slotOf (codec t .wide) in
@@ -223,7 +223,7 @@ values-walk k v c b p r s o q y lim e =
     own-holds (ma k v) c s o b _ y lim ∙ rw (m .k, m .values) (into-on q (li v) (seatAt (o + (8 + length p))) (o + (8 + length p)) r)
 
 map-single : (k v : Ty) → Single (li k) → Single (li v) → Single (ma k v)
-unfolding codec pair typeAt
+unfolding codec pair typeAlong
 map-single k v one two c b b′ s o y y′ lim st =
     let p = y .keysArray in
     let p′ = y′ .keysArray in
@@ -240,7 +240,7 @@ map-single k v one two c b b′ s o y y′ lim st =
     sym (y .whole) ∙ rw (f, g) (y′ .whole)
 
 struct-single : (ts : Tys) → ((j : ℕ) → j < count ts → Single (field ts j)) → Single (ro ts)
-unfolding codec struct stepIn typeAt
+unfolding codec struct stepIn typeAlong
 struct-single ts one c b b′ s o y y′ lim st =
     let lim′ : length b′ < 2 ^ 32 = omega (arith, lays-size (ro ts) c b y, lays-size (ro ts) c b′ y′) in
     let n : length (parts c) ≡ count ts = all-length 8 (kids ts) (parts c) (body-fit 0 8 (kids ts) (kids-lawful ts) (parts c) b (y .body)) ∙ kids-count ts in

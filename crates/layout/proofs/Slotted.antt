@@ -3,7 +3,7 @@ use mathlib.Core.Path.{_≡_, refl}
 use mathlib.Core.List.{List, _++_, append-assoc}
 use Prim.Native.Nat.{ℕ, _+_, _*_, _/_, _%_, _^_, _<_}
 use native.Mathlib.Omega.{arith}
-use lib.ListN.{length, set, take, length-replicate}
+use lib.ListN.{length, take, length-replicate}
 use lib.Seq.{take-append-seam}
 use Rattle.words.specs.Bytes.{num, fill, padded}
 use Rattle.words.proofs.Numbers.{num-le, bytes-zeros}
@@ -12,7 +12,7 @@ use Rattle.layout.specs.Tiles.{Range}
 use Rattle.layout.specs.Cells.{Cell, null, leaf, nodes, onNull, flag, bytes}
 use Rattle.layout.specs.Layout.{Codec, Kid, number, Inside, inside, Placed, outside, kidOf, kid, kidLays, limit, codec}
 use Rattle.layout.specs.Refusals.{Refusal}
-use Rattle.layout.specs.Walk.{Step, mustStep, child}
+use Rattle.layout.specs.Walk.{Step, mustStep}
 use Rattle.layout.proofs.Cells.{present}
 use Rattle.layout.proofs.Tiles.{stands-within}
 use Rattle.layout.proofs.Kids.{LawfulKid}
@@ -39,7 +39,7 @@ pub outside-made : (w : ℕ) (c : Codec) (at : ℕ) (d : List ℕ) (before after
 unfolding outside
 outside-made w c at d before after x s e y = rw (present _ _ x e) y
 
-pub inside-same : (w v : ℕ) (c : Codec) (at : ℕ) (d : List ℕ) (before after : List Range) (x : Cell) (s : List ℕ)
+inside-same : (w v : ℕ) (c : Codec) (at : ℕ) (d : List ℕ) (before after : List Range) (x : Cell) (s : List ℕ)
     → kidLays w (inside w v c) at d before x s after → before ≡ after
 unfolding inside onNull
 inside-same w v c at d before after (null u) s y = y .same
@@ -52,10 +52,6 @@ unfolding onNull
 null-same w k at d before after (null u) s y e = y .same
 null-same w k at d before after (leaf u) s y e = absurd (omega arith)
 null-same w k at d before after (nodes u) s y e = absurd (omega arith)
-
-pub take-filled : (w : ℕ) (u : List ℕ) → take (length u) (fill w u) ≡ u
-unfolding fill
-take-filled w u = take-append-seam u _
 
 pub take-own : (u r : List ℕ) → take (length u) (padded u ++ r) ≡ u
 unfolding fill

@@ -9,10 +9,10 @@ use lib.Seq.{sets}
 use Rattle.words.specs.Bytes.{zeros, fill, part}
 use Rattle.words.specs.Bits.{putBit}
 use Rattle.schema.specs.Types.{Fixed, width, Ty, fix, text, li, ma, ro}
-use Rattle.layout.specs.Cells.{Cell, null, leaf, node, flag, bytes, parts, part as partOf}
+use Rattle.layout.specs.Cells.{Cell, null, leaf, node, flag, parts, partOf}
 use Rattle.layout.specs.Layout.{NumberFits, number, limit, codec, Lays}
 use Rattle.layout.specs.Refusals.{numbered}
-use Rattle.layout.specs.Walk.{Seat, Step, stop, toNull, into, child, stepIn}
+use Rattle.layout.specs.Walk.{Seat, Step, stop, toNull, into, stepIn}
 use Rattle.layout.proofs.Bitmaps.{nulled}
 use Rattle.layout.proofs.Aside.{Aside}
 

@@ -12,12 +12,12 @@ use lib.ListN.{length, getD, set, take, drop, length-append, length-replicate, l
 use lib.Seq.{getD-set-other, sets, length-sets, take-take, drop-at, drop-append-add}
 use Rattle.words.specs.Bytes.{le, num, zeros, fill, pad, padded, bitmap, part}
 use Rattle.words.specs.Bits.{withBit, putBit}
-use Rattle.words.proofs.Numbers.{bytes-zeros}
+use Rattle.words.proofs.Numbers.{bytes-zeros, take-filled}
 use Rattle.words.proofs.Runs.{sets-behind, part-sets, part-apart}
 use Rattle.words.proofs.BitLaws.{length-put}
-use Rattle.schema.specs.Types.{Fixed, width, Ty, fix}
+use Rattle.schema.specs.Types.{Fixed, Ty, fix}
 use Rattle.layout.specs.Tiles.{Range, range, Apart}
-use Rattle.layout.specs.Cells.{Cell, null, leaf, node, onNull, flag, bytes, parts, part as partOf}
+use Rattle.layout.specs.Cells.{Cell, null, leaf, node, onNull, flag, parts, partOf}
 use Rattle.layout.specs.Layout.{Kid, number, inside, Placed, outside, kidOf, kid, kidLays, front, BodyLays, codec, Lays}
 use Rattle.layout.specs.Refusals.{numbered, brokenAt}
 use Rattle.layout.specs.Walk.{Seat, into, mustStep, byFlag, bySlot, seatOf, child, stepIn}
@@ -33,7 +33,7 @@ use Rattle.layout.proofs.Aside.{Holds, Aside, Agree, child-same}
 use Rattle.layout.proofs.Bodies.{put-behind, outside-lays, outside-kept, outside-safe, spotIn, count-in, fit-in, slot-in, flag-in, variable-in}
 use Rattle.layout.proofs.Bodies.{body-slot, body-slot-alone, body-data}
 use Rattle.layout.proofs.Stepped.{FixedSlot, Seated, Into, Comes, past, missing, on}
-use Rattle.layout.proofs.Slotted.{must-step, inside-given, outside-given, outside-made, null-same, take-filled, take-own, FixedIn, fixed-in, SlotSays}
+use Rattle.layout.proofs.Slotted.{must-step, inside-given, outside-given, outside-made, null-same, take-own, FixedIn, fixed-in, SlotSays}
 use Rattle.layout.proofs.Slotted.{slot-says}
 
 -- the children of a body b, with its header hs; F has their types
@@ -103,7 +103,7 @@ module _ (F : ℕ → Ty) (c : Cell) (hs r b : List ℕ) (h w : ℕ) (ks : List 
         ∙ must-step (decLe (placed-of .place + length (placed-of .own)) (length b′)) _ _ (omega (arith, len, size-b, room-b)))
 
     -- it lies in b, behind the fixed part
-    pub low-of : at ≤ placed-of .place
+    low-of : at ≤ placed-of .place
     low-of = stands-within (placed-of .stands) .low
 
     pub high-of : placed-of .place + pad (length (placed-of .own)) ≤ length b

@@ -2,7 +2,7 @@
 -- Assumes nothing.
 use mathlib.Core.Path.{_≡_, refl, sym, ap, _∙_, subst}
 use mathlib.Core.Logic.{_≢_}
-use mathlib.Core.Bool.{Bool, true, false, cond}
+use mathlib.Core.Bool.{Bool, true, false, cond, true≢false}
 use mathlib.Core.Option.{none, some, Option·none-ne-some, Option·some-injective}
 use mathlib.Core.List.{List, [], _∷_}
 use Prim.Native.Nat.{ℕ, zero, suc, _%_, _<_, _^_}
@@ -26,7 +26,7 @@ use Rattle.layout.specs.Reading as R
 use Rattle.layout.specs.Reading.{Answer, valueOf, answerOf}
 use Rattle.layout.specs.Setting as S
 use Rattle.layout.specs.Setting.{Setting, isNull, boolBytes, signedBytes, float32Bytes, float64Bytes, inBytes, suits, keeps, keepsText, refusalIn}
-use Rattle.layout.specs.Demand.{told, Proper}
+use Rattle.layout.specs.Demand3.{told, Proper}
 use Rattle.layout.proofs.Containers.{codec-lawful, lays-fits}
 use Rattle.layout.proofs.Stepped.{Leafy}
 use Rattle.layout.proofs.Walked.{Sits}
@@ -92,16 +92,13 @@ module _ (row : List ℕ) where
 
 -- ---- a leaf that was set
 
-clash : false ≡ true → ⊥
-clash e = let z : _≡_ {A = ℕ} 0 1 = cc in omega arith
-
 is-null : (x : Setting) → isNull x ≡ true → S.null ≡ x
 is-null S.null e = refl
-is-null (S.bool v) e = absurd (clash e)
-is-null (S.signed z) e = absurd (clash e)
-is-null (S.float32 n) e = absurd (clash e)
-is-null (S.float64 n) e = absurd (clash e)
-is-null (S.bytes u) e = absurd (clash e)
+is-null (S.bool v) e = absurd (true≢false (sym e))
+is-null (S.signed z) e = absurd (true≢false (sym e))
+is-null (S.float32 n) e = absurd (true≢false (sym e))
+is-null (S.float64 n) e = absurd (true≢false (sym e))
+is-null (S.bytes u) e = absurd (true≢false (sym e))
 
 -- the cell that a setting makes is null, or holds its bytes
 pub cell-null : (w : ℕ) (T : Ty) (x : Setting) → isNull x ≡ true → cellOf w T x ≡ null (zeros w)
@@ -120,7 +117,7 @@ flag-leaf : (c : Cell) (u : List ℕ) → c ≡ leaf u → flag c ≡ 0
 unfolding onNull
 flag-leaf c u e = rw e
 
-pub lays-flag : (T : Ty) (c : Cell) (u : List ℕ) → Lays T c u → flag c ≡ 0
+lays-flag : (T : Ty) (c : Cell) (u : List ℕ) → Lays T c u → flag c ≡ 0
 lays-flag T c u y = codec-lawful T .here c (lays-fits T c u y)
 
 -- the bytes that stand for a leaf are its own

@@ -8,7 +8,7 @@ use native.Mathlib.Omega.{arith}
 use lib.ListN.{length, set}
 use lib.Seq.{getD-set-other, set-set, set-comm, set-getD}
 use Rattle.schema.specs.Types.{Fixed, Text, Ty, fix, text}
-use Rattle.layout.specs.Cells.{Cell, null, leaf, nodes, Cells, nil, cons, fromCells, toCells, node, onNull, flag, bytes, parts, part}
+use Rattle.layout.specs.Cells.{Cell, null, leaf, nodes, Cells, nil, cons, fromCells, toCells, node, onNull, flag, bytes, parts, partOf}
 use Rattle.layout.specs.Layout.{Lays}
 use Rattle.layout.specs.Walk.{Seen, rootSeat}
 use Rattle.layout.specs.Reading as R
@@ -40,29 +40,29 @@ node-parts (nodes cs) h = ap nodes (to-from cs)
 pub update-look : (p : List ℕ) (c : Cell) → Valid p c → update p (look p c) c ≡ c
 unfolding look update Valid
 update-look [] c v = refl
-update-look (i ∷ p) c v = rw (update-look p (part i c) (v .1)) (ap node (set-getD (parts c) i (leaf [])) ∙ node-parts c (omega (arith, v .0)))
+update-look (i ∷ p) c v = rw (update-look p (partOf i c) (v .1)) (ap node (set-getD (parts c) i (leaf [])) ∙ node-parts c (omega (arith, v .0)))
 
-pub part-other : (i j : ℕ) (c x : Cell) → j ≢ i → part j (node (set (parts c) i x)) ≡ part j c
+part-other : (i j : ℕ) (c x : Cell) → j ≢ i → partOf j (node (set (parts c) i x)) ≡ partOf j c
 part-other i j c x n = rw parts-node (getD-set-other (parts c) i j x (leaf []) n)
 
--- two places that part, set in either order
+-- two places that partOf, set in either order
 pub update-comm : (p q : List ℕ) (x y c : Cell) → Parted p q → Valid p c → update q y (update p x c) ≡ update p x (update q y c)
 unfolding update Parted Valid
 update-comm [] q x y c a v = absurd a
 update-comm (i ∷ p) [] x y c a v = absurd a
 update-comm (i ∷ p) (j ∷ q) x y c (inl d) v =
-    rw (part-other i j c (update p x (part i c)) (λ e. d (sym e)), part-other j i c (update q y (part j c)) d, parts-node, parts-node)
+    rw (part-other i j c (update p x (partOf i c)) (λ e. d (sym e)), part-other j i c (update q y (partOf j c)) d, parts-node, parts-node)
     (ap node (set-comm (parts c) i j _ _ d))
 update-comm (i ∷ p) (j ∷ q) x y c (inr d) v =
     rw (
       ← (d .0),
-      part-set i c (update p x (part i c)) (v .0),
-      part-set i c (update q y (part i c)) (v .0),
+      part-set i c (update p x (partOf i c)) (v .0),
+      part-set i c (update q y (partOf i c)) (v .0),
       parts-node,
       parts-node,
       set-set,
       set-set,
-      update-comm p q x y (part i c) (d .1) (v .1),
+      update-comm p q x y (partOf i c) (d .1) (v .1),
     )
 
 -- equal trees with their values at the same places, equal bytes
@@ -115,7 +115,7 @@ leaf-alike : (a b : Cell) (u : List ℕ) → flag a ≡ 0 → length u ≡ lengt
 unfolding onNull bytes
 leaf-alike a b u f n e = record { null = f ∙ sym (ap (λ (z : Cell). flag z) e); size = sym n ∙ sym (ap (λ (z : Cell). length (bytes z)) e) }
 
-pub text-cell : (w : ℕ) (T : Ty) (k : Text) (x : Setting) (u : List ℕ) → T ≡ text k → x ≡ S.bytes u → cellOf w T x ≡ leaf u
+text-cell : (w : ℕ) (T : Ty) (k : Text) (x : Setting) (u : List ℕ) → T ≡ text k → x ≡ S.bytes u → cellOf w T x ≡ leaf u
 unfolding given
 text-cell w T k x u q h = cell-given w T x (ap isNull h) ∙ ap leaf (ap (λ (t : Ty). given t x) q ∙ ap textOf h)
 

@@ -1,15 +1,15 @@
 -- Setting a leaf writes its bit and its own bytes or slot, and the row then stands for the tree with that leaf set. Assumes nothing.
 use mathlib.Core.Path.{_≡_, refl, sym, ap, _∙_, subst}
-use mathlib.Core.Bool.{Bool, true, false, cond}
+use mathlib.Core.Bool.{Bool, true, false, cond, true≢false}
 use mathlib.Core.Logic.{_≢_}
 use mathlib.Core.Option.{Option, none, some}
 use mathlib.Core.List.{List, [], _∷_}
-use Prim.Native.Nat.{ℕ, zero, _+_, _/_, _%_, _^_, _≤_, _<_}
+use Prim.Native.Nat.{ℕ, _+_, _/_, _%_, _^_, _≤_, _<_}
 use native.Mathlib.Nat.{sub-zero}
 use native.Mathlib.Omega.{arith}
 use lib.ListN.{length, set, getD, length-set, length-replicate}
 use lib.Seq.{sets, length-sets}
-use Rattle.words.specs.Bytes.{Bytes, empty, byte, le, num, zeros, fill, part}
+use Rattle.words.specs.Bytes.{Bytes, empty, byte, le, num, zeros, fill}
 use Rattle.words.specs.Bits.{digit, withBit, putBit}
 use Rattle.words.specs.Signed.{halfOf, ofSigned, inRange}
 use Rattle.words.proofs.Numbers.{bytes-le, length-le, num-lt}
@@ -18,10 +18,10 @@ use Rattle.words.proofs.Runs.{part-sets, sets-last, sets-part-in}
 use Rattle.words.proofs.BitLaws.{length-put}
 use Rattle.schema.specs.Marks.{types}
 use Rattle.schema.specs.Types.{Fixed, bo, i1, i2, i4, i8, f4, f8, fixedPlace, width, Text, Ty, fix, text, li, ma, ro}
-use Rattle.layout.specs.Cells.{Cell, null, leaf, node, onNull, flag, bytes, parts, part as partOf}
+use Rattle.layout.specs.Cells.{Cell, null, leaf, node, onNull, flag, bytes, parts, partOf}
 use Rattle.layout.specs.Layout.{NumberFits, number, string, struct, array, pair, limit, codec, Lays}
 use Rattle.layout.specs.Places.{starts}
-use Rattle.layout.specs.Reading.{typeAt}
+use Rattle.layout.specs.Reading.{typeAlong}
 use Rattle.layout.specs.Setting as S
 use Rattle.layout.specs.Setting.{Setting, isNull, boolBytes, signedBytes, float32Bytes, float64Bytes, inBytes, orEmpty, writeFixed, textOf, write}
 use Rattle.layout.proofs.Cells.{parts-node}
@@ -97,7 +97,7 @@ pub in-fits : (f : Fixed) (x : Setting) (u : List ℕ) → inBytes f x ≡ some 
 in-fits f x u e = subst (Right f) e (in-right f x)
 
 -- null writes no bytes
-null-bytes : (f : Fixed) → inBytes f S.null ≡ none
+pub null-bytes : (f : Fixed) → inBytes f S.null ≡ none
 unfolding inBytes boolBytes signedBytes float32Bytes float64Bytes
 null-bytes bo = refl
 null-bytes i1 = refl
@@ -107,16 +107,13 @@ null-bytes i8 = refl
 null-bytes f4 = refl
 null-bytes f8 = refl
 
-clash : false ≡ true → ⊥
-clash e = let z : _≡_ {A = ℕ} 0 1 = cc in omega arith
-
-pub null-none : (f : Fixed) (x : Setting) → isNull x ≡ true → inBytes f x ≡ none
+null-none : (f : Fixed) (x : Setting) → isNull x ≡ true → inBytes f x ≡ none
 null-none f S.null e = null-bytes f
-null-none f (S.bool v) e = absurd (clash e)
-null-none f (S.signed z) e = absurd (clash e)
-null-none f (S.float32 n) e = absurd (clash e)
-null-none f (S.float64 n) e = absurd (clash e)
-null-none f (S.bytes u) e = absurd (clash e)
+null-none f (S.bool v) e = absurd (true≢false (sym e))
+null-none f (S.signed z) e = absurd (true≢false (sym e))
+null-none f (S.float32 n) e = absurd (true≢false (sym e))
+null-none f (S.float64 n) e = absurd (true≢false (sym e))
+null-none f (S.bytes u) e = absurd (true≢false (sym e))
 
 -- ---- writing in a part of the row is writing in the row
 
@@ -170,7 +167,7 @@ pub record Edited (x : Setting) (T : Ty) (row : List ℕ) (p : List ℕ) (t : Ty
   pub lays : Lays t (update p new c) own
   pub size : length own ≡ length b
   pub is : after ≡ sets row o own
-  pub others : (q : List ℕ) (U : Ty) → typeAt q t ≡ some U → p ≢ q → (s : Seat) → Like U (walk q t s o own) (walk q t s o b)
+  pub others : (q : List ℕ) (U : Ty) → typeAlong q t ≡ some U → p ≢ q → (s : Seat) → Like U (walk q t s o own) (walk q t s o b)
   pub there : (s : Seat) → starts T (walk p t s o own) ≡ starts T (walk p t s o b)
 
 -- ---- a leaf

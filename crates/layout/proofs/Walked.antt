@@ -15,11 +15,11 @@ use Rattle.words.proofs.Parts.{part-part}
 use Rattle.words.proofs.Runs.{sets-behind, sets-over, sets-whole}
 use Rattle.schema.specs.Types.{Ty, fix, text, li, ma, ro, Tys, end, _then_, count, field}
 use Rattle.layout.specs.Tiles.{total}
-use Rattle.layout.specs.Cells.{Cell, leaf, node, flag, bytes, parts, part as partOf}
-use Rattle.layout.specs.Layout.{Codec, number, string, kid, slotOf, struct, array, pair, list, front, limit, codec, kids, Lays}
+use Rattle.layout.specs.Cells.{Cell, node, flag, bytes, parts, partOf}
+use Rattle.layout.specs.Layout.{Codec, number, string, kid, slotOf, struct, array, pair, front, limit, codec, kids, Lays}
 use Rattle.layout.specs.Walk.{childTy, Seat, Seen, bad, nullAt, seen, Step, stop, toNull, into, must, own, child, stepIn, goOn, walk, seatAt}
 use Rattle.layout.specs.Refusals.{Refusal, numbered, brokenAt}
-use Rattle.layout.proofs.Cells.{parts-node}
+use Rattle.layout.proofs.Cells.{parts-node, leaf-parts}
 use Rattle.layout.proofs.Kids.{Sized}
 use Rattle.layout.proofs.Children.{all-length, tails-eight}
 use Rattle.layout.proofs.Containers.{repeat, body-total, body-take, body-fit, codec-lawful, kids-lawful, element-lawful, child-lawful, list-lawful}
@@ -117,7 +117,7 @@ struct-comes ts c i o b y lim =
     (λ cs r′ e _ z. record { plain = rw parts-node; body = rw parts-node z })
     (λ r′ j z o. rw (kids-count ts)))
 
-pair-parts : (x a b : Cell) → x ≡ node (a ∷ b ∷ []) → parts x ≡ a ∷ b ∷ []
+pub pair-parts : (x a b : Cell) → x ≡ node (a ∷ b ∷ []) → parts x ≡ a ∷ b ∷ []
 pair-parts x a b e = ap parts e ∙ parts-node (a ∷ b ∷ [])
 
 -- bytes that are a map too, with one of the two arrays changed
@@ -217,10 +217,6 @@ third-comes : (k v : Ty) (c : Cell) (i o : ℕ) (b : List ℕ) → Lays (ma k v)
 unfolding codec pair
 third-comes k v c i o b y = Stepped.past (rw (pair-parts c (partOf 0 c) (partOf 1 c) (y .plain)) (omega arith))
 
-leaf-parts : (c : Cell) (u : List ℕ) → c ≡ leaf u → length (parts c) ≡ 0
-unfolding parts
-leaf-parts c u e = rw e
-
 -- a step into bytes that stand for c comes to child i of c
 pub comes : (t : Ty) (c : Cell) (i : ℕ) (s : Seat) (o : ℕ) (b : List ℕ) → Lays t c b → length b < 2 ^ 32 → Comes t (childTy t i) c i o b (stepIn t i s o b)
 unfolding childTy stepIn codec number string
@@ -234,7 +230,7 @@ comes (ro ts) c i s o b y lim = struct-comes ts c i o b y lim
 
 -- ---- a type's own rules hold of bytes that stand for contents
 
-pub must-yes : {P : Type 0} (d : Dec P) (n : Refusal) (s : Seen) → P → must d n s ≡ s
+must-yes : {P : Type 0} (d : Dec P) (n : Refusal) (s : Seen) → P → must d n s ≡ s
 unfolding must
 must-yes (yes p) n s h = refl
 must-yes (no q) n s h = absurd (q h)

@@ -1,11 +1,12 @@
 -- The width of a child's slot or element, and what bytes of a type's width are a number of it. Assumes nothing.
-use mathlib.Core.Path.{_≡_, refl}
+use mathlib.Core.Path.{_≡_, refl, ap}
 use Prim.Native.Nat.{ℕ, _^_, _≤_}
 use native.Mathlib.Omega.{arith}
 use borrow.Author.Tests.{lt-ltb, le-ltb}
+use mathlib.Core.Option.{none}
 use Rattle.schema.specs.Marks.{types, line, elementWidth}
-use Rattle.schema.specs.Types.{Fixed, bo, i1, i2, i4, i8, f4, f8, Ty, fix, text, li, ma, ro, fixedPlace, place, width}
-use Rattle.schema.proofs.Table.{fixed-high, text-low, width-8, width-pos}
+use Rattle.schema.specs.Types.{Fixed, bo, i1, i2, i4, i8, f4, f8, Ty, fix, text, li, ma, ro, fixedPlace, place, width, fixedAt}
+use Rattle.schema.proofs.Table.{fixed-high, text-low, width-8, width-pos, bool-at}
 use Rattle.layout.specs.Layout.{slotOf, codec, limit, number, string, array, pair, struct}
 
 fixed-line : (f : Fixed) → line (fixedPlace f) .width ≡ width f
@@ -47,3 +48,16 @@ limit-free i4 h = refl
 limit-free i8 h = refl
 limit-free f4 h = refl
 limit-free f8 h = refl
+
+pub bool-two : (k : ℕ) → k ≡ 0 → limit (fixedAt k) ≡ 2
+unfolding limit
+bool-two k e = ap limit (bool-at k e)
+
+-- a type that varies has no width
+pub wide-none : (t : Ty) → 7 ≤ place t → codec t .wide ≡ none
+unfolding place codec string array pair struct
+wide-none (fix f) h = absurd (omega (arith, fixed-high f))
+wide-none (text t) h = refl
+wide-none (li t) h = refl
+wide-none (ma k v) h = refl
+wide-none (ro ts) h = refl

@@ -50,8 +50,8 @@ parts (null u) = []
 parts (leaf u) = []
 parts (nodes cs) = fromCells cs
 
-abbrev pub part : ℕ → Cell → Cell
-part i c = getD (parts c) i (leaf [])
+abbrev pub partOf : ℕ → Cell → Cell
+partOf i c = getD (parts c) i (leaf [])
 
 -- the same contents, with zeros under the nulls
 unfoldable mutual

@@ -1,16 +1,19 @@
--- The row layout: for each type, which contents fit it, the bytes written for them, all the bytes that stand for them, and how
--- those bytes are read and judged. Assumes nothing: these are definitions.
+-- The row layout, as four accounts of each type: Fits, which contents are the type's; put, the bytes that writing lays down for them, in
+-- field order; Lays, every byte string that stands for them, in any order; get, how bytes are read and judged, up to the first fault.
+-- proofs/Containers ties them, for every type: what is laid down for contents that fit stands for them (`lays-content`); bytes of a row's
+-- length are read as contents exactly if they stand for them (`decode-lays`, `lays-decode`); what bytes stand for fits (`lays-fits`).
+-- Assumes nothing: these are definitions.
 use mathlib.Core.Path.{_≡_}
 use mathlib.Core.Option.{Option, none, some}
 use mathlib.Core.List.{List, [], _∷_, _++_}
-use Prim.Native.Nat.{ℕ, zero, suc, _+_, _*_, _-_, _/_, _%_, _^_, _≤_, _<_}
+use Prim.Native.Nat.{ℕ, zero, suc, _+_, _*_, _-_, _/_, _%_, _^_, _<_}
 use native.Mathlib.Decide.{decLt, ℕ-discrete}
 use lib.ListN.{length, replicate, take, drop}
 use Rattle.words.specs.Bytes.{Bytes, le, num, fill, pad, padded, bitmap, zerosAhead, pastByte}
-use Rattle.schema.specs.Types.{Fixed, bo, i1, i2, i4, i8, f4, f8, width, Text, Ty, fix, text, li, ma, ro, Tys, end, _then_}
+use Rattle.schema.specs.Types.{Fixed, bo, i1, i2, i4, i8, f4, f8, width, Ty, fix, text, li, ma, ro, Tys, end, _then_}
 use Rattle.layout.specs.Faults.{Place, slot, byte, Read, got, _>>=_, _>>_, assertAt, cutAt, within, yielded, faultIn}
 use Rattle.layout.specs.Tiles.{Range, range, total, Stands, stands?}
-use Rattle.layout.specs.Cells.{Cell, null, leaf, node, onNull, flag, bytes, parts, part}
+use Rattle.layout.specs.Cells.{Cell, null, leaf, node, onNull, flag, bytes, parts, partOf}
 
 -- wide: the bytes of a fixed width. Lays c b: b is one of the byte strings that stand for c. get b: what b stands for, or where the
 -- first fault is, in the document's order of judging.
@@ -61,7 +64,7 @@ string = record {
   get = λ b. got (leaf b);
 }
 
--- ---- a child in its container: a slot in the fixed part, and variable data
+-- ---- a child in its container: a slot in the fixed partOf, and variable data
 
 -- at: where the container's variable data d starts in it; rs: the ranges of the earlier children, rs′: with its own. A child is read
 -- from its slot s, which is the container's byte j and on.
@@ -208,7 +211,7 @@ reads w at d (k ∷ ks) j m s rs = do
 
 -- ---- bitmap, slots up to Pad, data: the body of a struct and of a list, behind a header of h bytes
 
--- the size of the fixed part
+-- the size of the fixed partOf
 abbrev pub front : ℕ → ℕ → ℕ → ℕ
 front h w n = h + bitmap n + pad (n * w)
 
@@ -224,7 +227,7 @@ pub record BodyLays (h w : ℕ) (ks : List Kid) (cs : List Cell) (b : List ℕ) 
   pub children : AllLay w (front h w (length ks)) variable ks cs slots [] ranges
   pub ends : total ranges ≡ length variable
 
--- The fixed part, with a fault at short where there is no room for it; then the bitmap, then the children in order, then the zeros
+-- The fixed partOf, with a fault at short where there is no room for it; then the bitmap, then the children in order, then the zeros
 -- behind the slots, then the end.
 unfoldable pub bodyGet : Place → ℕ → ℕ → List Kid → List ℕ → Read (List Cell)
 bodyGet short h w ks b = do
@@ -284,26 +287,26 @@ array w k = record {
 }
 
 pub record MapFits (k v : Codec) (c : Cell) : Type 0 where
-  pub plain : c ≡ node (part 0 c ∷ part 1 c ∷ [])
-  pub keys : k .Fits (part 0 c)
-  pub values : v .Fits (part 1 c)
-  pub counts : length (parts (part 0 c)) ≡ length (parts (part 1 c))
+  pub plain : c ≡ node (partOf 0 c ∷ partOf 1 c ∷ [])
+  pub keys : k .Fits (partOf 0 c)
+  pub values : v .Fits (partOf 1 c)
+  pub counts : length (parts (partOf 0 c)) ≡ length (parts (partOf 1 c))
 
 pub record MapLays (k v : Codec) (c : Cell) (b : List ℕ) : Type 0 where
   pub keysArray : List ℕ
   pub valuesArray : List ℕ
-  pub plain : c ≡ node (part 0 c ∷ part 1 c ∷ [])
+  pub plain : c ≡ node (partOf 0 c ∷ partOf 1 c ∷ [])
   pub whole : le 8 (length keysArray) ++ (keysArray ++ valuesArray) ≡ b
-  pub keys : k .Lays (part 0 c) keysArray
-  pub values : v .Lays (part 1 c) valuesArray
-  pub counts : length (parts (part 0 c)) ≡ length (parts (part 1 c))
+  pub keys : k .Lays (partOf 0 c) keysArray
+  pub values : v .Lays (partOf 1 c) valuesArray
+  pub counts : length (parts (partOf 0 c)) ≡ length (parts (partOf 1 c))
 
 -- K, the size of the keys array; the keys array; the values array to the map's end; equal counts.
 unfoldable pub pair : Codec → Codec → Codec
 pair k v = record {
   wide = none;
   Fits = MapFits k v;
-  put = λ c. le 8 (length (k .put (part 0 c))) ++ (k .put (part 0 c) ++ v .put (part 1 c));
+  put = λ c. le 8 (length (k .put (partOf 0 c))) ++ (k .put (partOf 0 c) ++ v .put (partOf 1 c));
   Lays = MapLays k v;
   get = λ b. (do
     assertAt slot (ℕ-discrete (length b % 8) 0)

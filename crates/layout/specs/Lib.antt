@@ -12,4 +12,6 @@ pub mod Reading
 pub mod Places
 pub mod Setting
 pub mod Entries
-pub mod Demand
+pub mod Records
+pub mod Demand2
+pub mod Demand3

@@ -1,6 +1,6 @@
 -- The listing of a row's contents, and its reading. A listing forgets the bytes under nulls: it is read as clean contents.
 -- Assumes nothing: these are definitions.
-use mathlib.Core.Option.{Option, none, some}
+use mathlib.Core.Option.{Option, some}
 use mathlib.Core.List.{List, [], _∷_, _++_}
 use Prim.Native.Nat.{ℕ}
 use native.Mathlib.Decide.{decLt, ℕ-discrete}
@@ -8,7 +8,7 @@ use lib.ListN.{length, replicate}
 use Rattle.words.specs.Bytes.{le, num, zeros}
 use Rattle.schema.specs.Types.{width, Ty, fix, text, li, ma, ro, Tys, end, _then_, mark}
 use Rattle.layout.specs.Reader.{_>>=_, _>>_, assert, cut}
-use Rattle.layout.specs.Cells.{Cell, null, leaf, node, onNull, bytes, parts, part}
+use Rattle.layout.specs.Cells.{Cell, null, leaf, node, onNull, bytes, parts, partOf}
 use Rattle.layout.specs.Layout.{slotOf, limit, codec}
 
 -- null's mark
@@ -95,8 +95,8 @@ listScript s = record {
 -- a 4-byte count, all keys, then all values
 unfoldable pub mapScript : Script → Script → Script
 mapScript k v = record {
-  put = λ c. le 4 (length (parts (part 0 c))) ++ (runPut (replicate (length (parts (part 0 c))) k) (parts (part 0 c))
-      ++ runPut (replicate (length (parts (part 1 c))) v) (parts (part 1 c)));
+  put = λ c. le 4 (length (parts (partOf 0 c))) ++ (runPut (replicate (length (parts (partOf 0 c))) k) (parts (partOf 0 c))
+      ++ runPut (replicate (length (parts (partOf 1 c))) v) (parts (partOf 1 c)));
   get = λ b. (do
     (h, r) ← cut 4 b
     (ks, r′) ← runGet (replicate (num h) k) r

@@ -1,5 +1,5 @@
 -- What it is for the variable values of a row to stand in some order: in every container the present ones are placed one after another,
--- with no gap, from the end of its fixed part to its end. `Layout` asks a value only to be apart from its earlier siblings (`Tiles`), and
+-- with no gap, from the end of its fixed partOf to its end. `Layout` asks a value only to be apart from its earlier siblings (`Tiles`), and
 -- so needs no search for the order; `AnyOrder` in proofs/ says that it comes to the same, and that every order has a row.
 -- Assumes nothing: these are definitions.
 use mathlib.Core.Path.{_≡_}
@@ -9,7 +9,7 @@ use Prim.Native.Nat.{ℕ, suc, _+_, _*_, _^_}
 use lib.ListN.{length, replicate}
 use Rattle.words.specs.Bytes.{le, fill, pad, padded, bitmap}
 use Rattle.schema.specs.Types.{width, Ty, fix, text, li, ma, ro, Tys, end, _then_}
-use Rattle.layout.specs.Cells.{Cell, node, onNull, bytes, parts, part}
+use Rattle.layout.specs.Cells.{Cell, node, onNull, bytes, parts, partOf}
 use Rattle.layout.specs.Layout.{Exactly, NumberFits, StringFits, NullFits, slotOf, flags, front, limit, codec}
 
 -- ---- an order
@@ -130,11 +130,11 @@ pub record ListInOrder (k : Child) (c : Cell) (b : List ℕ) : Type 0 where
 pub record MapInOrder (k v : Child) (c : Cell) (b : List ℕ) : Type 0 where
   pub keysArray : List ℕ
   pub valuesArray : List ℕ
-  pub plain : c ≡ node (part 0 c ∷ part 1 c ∷ [])
+  pub plain : c ≡ node (partOf 0 c ∷ partOf 1 c ∷ [])
   pub whole : le 8 (length keysArray) ++ (keysArray ++ valuesArray) ≡ b
-  pub keys : ListInOrder k (part 0 c) keysArray
-  pub values : ListInOrder v (part 1 c) valuesArray
-  pub counts : length (parts (part 0 c)) ≡ length (parts (part 1 c))
+  pub keys : ListInOrder k (partOf 0 c) keysArray
+  pub values : ListInOrder v (partOf 1 c) valuesArray
+  pub counts : length (parts (partOf 0 c)) ≡ length (parts (partOf 1 c))
 
 -- b is the contents c of the type, with the values of every container in some order
 unfoldable mutual

@@ -30,19 +30,19 @@ pub data Answer : Type 0 where
 -- ---- what the schema alone shows
 
 -- the type of the place, where the schema has it
-unfoldable pub typeAt : List ℕ → Ty → Option Ty
-typeAt [] t = some t
-typeAt (i ∷ p) (fix f) = none
-typeAt (i ∷ p) (text s) = none
-typeAt (i ∷ p) (li t) = typeAt p t
-typeAt (zero ∷ p) (ma k v) = typeAt p (li k)
-typeAt (suc zero ∷ p) (ma k v) = typeAt p (li v)
-typeAt (suc (suc i) ∷ p) (ma k v) = none
-typeAt (i ∷ p) (ro ts) = assert (decLt i (count ts)) >> typeAt p (field ts i)
+unfoldable pub typeAlong : List ℕ → Ty → Option Ty
+typeAlong [] t = some t
+typeAlong (i ∷ p) (fix f) = none
+typeAlong (i ∷ p) (text s) = none
+typeAlong (i ∷ p) (li t) = typeAlong p t
+typeAlong (zero ∷ p) (ma k v) = typeAlong p (li k)
+typeAlong (suc zero ∷ p) (ma k v) = typeAlong p (li v)
+typeAlong (suc (suc i) ∷ p) (ma k v) = none
+typeAlong (i ∷ p) (ro ts) = assert (decLt i (count ts)) >> typeAlong p (field ts i)
 
 -- and a path of at most 16 steps
 unfoldable pub placed : List ℕ → Ty → Option Ty
-placed p t = assert (decLe (length p) 16) >> typeAt p t
+placed p t = assert (decLe (length p) 16) >> typeAlong p t
 
 -- ---- the answer
 
@@ -87,7 +87,7 @@ held row (bytes o n) = part row o n
 held row (container o n k) = []
 held row (refused r) = []
 
--- the path reads alike in both rows
-pub record Alike (ts : Tys) (row row′ : List ℕ) (p : List ℕ) : Type 0 where
-  pub same : readIn ts row p ≡ readIn ts row′ p
-  pub bytes : held row (readIn ts row p) ≡ held row′ (readIn ts row′ p)
+-- a read of one row is alike a read of another
+pub record Alike (row : List ℕ) (a : Answer) (row′ : List ℕ) (a′ : Answer) : Type 0 where
+  pub same : a ≡ a′
+  pub bytes : held row a ≡ held row′ a′

@@ -1,5 +1,5 @@
 -- A line of the card, piece by piece, and how long it is at most. Assumes nothing.
-use mathlib.Core.Path.{_≡_, refl, ap₂, _∙_, sym}
+use mathlib.Core.Path.{_≡_, ap₂, _∙_, sym}
 use mathlib.Core.List.{List, [], _∷_, _++_}
 use Prim.Native.Nat.{ℕ, _+_, _/_, _%_, _≤_, _<_}
 use native.Mathlib.Omega.{arith}
@@ -7,6 +7,7 @@ use lib.ListN.{length, length-append}
 use Rattle.words.specs.Bytes.{part}
 use Rattle.words.proofs.Parts.{length-part}
 use Rattle.schema.specs.Marks.{line as lineIn, markAt}
+use Rattle.schema.proofs.Table.{mark-two}
 use Rattle.layout.specs.Reading as R
 use Rattle.layout.specs.Reading.{Answer}
 use Rattle.table.specs.Words.{lower, markIn, placeIn, Lined}
@@ -21,10 +22,6 @@ use Rattle.leaves.specs.Lines.{contents, line}
 use Rattle.leaves.specs.Room.{LineRoom}
 
 -- ---- the mark that an entry says
-
-pub mark-two : (k : ℕ) → length (markAt k) ≡ 2
-unfolding markAt
-mark-two k = refl
 
 pub mark-small : (w : ℕ) {m : ℕ} → m ≡ markIn w → m < 65536
 unfolding markIn
@@ -52,7 +49,7 @@ module _ {w m : ℕ} (l : Lined w) (e : m ≡ markIn w) where
 
 -- ---- how long
 
-pub contents-most : (row : List ℕ) (a : Answer) → length row ≤ 16384 → InRow row a → length (contents row a) ≤ 32769
+contents-most : (row : List ℕ) (a : Answer) → length row ≤ 16384 → InRow row a → length (contents row a) ≤ 32769
 unfolding contents
 contents-most row R.null s h = omega arith
 contents-most row (R.bool v) s h = omega arith

@@ -1,6 +1,6 @@
 -- What one place adds to the card, by what was found there. Assumes nothing.
 use mathlib.Core.Path.{_≡_, refl, sym, ap, _∙_}
-use mathlib.Core.Bool.{Bool, true, false, cond}
+use mathlib.Core.Bool.{Bool, true, false, cond, true≢false}
 use mathlib.Core.Option.{Option, some}
 use mathlib.Core.List.{List, []}
 use Prim.Native.Nat.{ℕ, _≤_, _<_}
@@ -26,10 +26,10 @@ use Rattle.answers.specs.declared.Path.{Path}
 use Rattle.answers.specs.Meaning.{plain, float, meaning}
 use Rattle.answers.specs.Paths.{pathOf}
 use Rattle.reading.specs.Opening.{openTy, Kinded}
-use Rattle.reading.specs.Places.{bytesOf, Stands}
+use Rattle.reading.specs.Places.{bytesOf, PlaceHolds}
 use Rattle.reading.specs.Finding.{rootTy, Finds}
 use Rattle.reading.specs.Texts.{countOf, showOf, InRow, Reads}
-use Rattle.reading.specs.declared.Opened.{Opened}
+use Rattle.reading.specs.declared.TypeParts.{TypeParts}
 use Rattle.reading.specs.declared.Place.{Place}
 use Rattle.reading.specs.declared.Seat.{Seat}
 use Rattle.reading.specs.declared.Found.{Found}
@@ -40,7 +40,7 @@ use Rattle.reading.proofs.Shown.{show-leaf, show-text, show-holder, count-list,
 use Rattle.reading.proofs.Shown.{read-nowhere, read-under, read-broken, read-null, read-at}
 use Rattle.row.proofs.Numbers.{read-gives}
 use Rattle.lettering.specs.Text.{Puts}
-use Rattle.lettering.proofs.Putting.{puts-none, puts-as, no-clash}
+use Rattle.lettering.proofs.Putting.{puts-none, puts-as}
 use Rattle.leaves.specs.Lines.{line}
 use Rattle.leaves.specs.Room.{LineRoom}
 use Rattle.leaves.specs.Places.{hasLine, below, markIn, textAt, Shows, Says, ShowRoom}
@@ -48,7 +48,7 @@ use Rattle.leaves.proofs.Lengths.{line-most}
 
 -- ---- the mark of a type taken apart
 
-mark-open : (t : List ℕ) {x : Opened} → Kinded x → markAt (x .kind) ≡ mark (openTy t x)
+mark-open : (t : List ℕ) {x : TypeParts} → Kinded x → markAt (x .kind) ≡ mark (openTy t x)
 unfolding mark place
 mark-open t {x} k = go (decLt (x .kind) 7) (decLt (x .kind) 9) (ℕ-discrete (x .kind) 9) (ℕ-discrete (x .kind) 10)
   where
@@ -59,18 +59,18 @@ mark-open t {x} k = go (decLt (x .kind) 7) (decLt (x .kind) 9) (ℕ-discrete (x 
     go (no h) (no l) (no y) (yes e) = rw (ty-map t x e) (ap markAt e)
     go (no h) (no l) (no y) (no z) = let e = struct-left k (omega arith) y z in rw (ty-struct t x e) (ap markAt e)
 
-mark-in : (t : List ℕ) {x : Opened} {w : ℕ} {o : Option Ty} → Kinded x → Says x w → some (openTy t x) ≡ o → markAt (placeIn w) ≡ markIn o
+mark-in : (t : List ℕ) {x : TypeParts} {w : ℕ} {o : Option Ty} → Kinded x → Says x w → some (openTy t x) ≡ o → markAt (placeIn w) ≡ markIn o
 unfolding markIn
 mark-in t k y e = ap markAt (y .kind) ∙ mark-open t k ∙ ap markIn e
 
-pub says-own : {x : Opened} → Kinded x → (x .kind ≡ 9 → ⊥) → Says x (x .entry)
+pub says-own : {x : TypeParts} → Kinded x → (x .kind ≡ 9 → ⊥) → Says x (x .entry)
 says-own k h = record { lined = k .lined; kind = k .own h }
 
-says-leaf : {x : Opened} → Kinded x → x .kind < 9 → Says x (x .entry)
+says-leaf : {x : TypeParts} → Kinded x → x .kind < 9 → Says x (x .entry)
 says-leaf k h = record { lined = k .lined; kind = leaf-place k h }
 
 -- the line of a list in the table of types
-pub says-list : {x : Opened} → x .kind ≡ 9 → Says x 2415946092
+pub says-list : {x : TypeParts} → x .kind ≡ 9 → Says x 2415946092
 unfolding placeIn markWord widthIn topIn markAt types num
 says-list e = record { lined = record { few = omega arith; mark = refl; width = refl; top = refl }; kind = sym e }
 
@@ -106,12 +106,12 @@ none-below (R.signed z) h = refl
 none-below (R.float32 n) h = refl
 none-below (R.float64 n) h = refl
 none-below (R.bytes o n) h = refl
-none-below (R.container o n k) h = absurd (no-clash (sym h))
+none-below (R.container o n k) h = absurd (true≢false (sym h))
 none-below (R.refused n) h = refl
 
 -- ---- counts: a list's bitmap lies in the row
 
-module _ {t row : List ℕ} {y : Place} (S : Stands t row y) where
+module _ {t row : List ℕ} {y : Place} (S : PlaceHolds t row y) where
   list-few : y .opened .kind ≡ 9 → num (part row (y .start) 8) ≤ 131072
   list-few e =
       let within = S .rests .within in
@@ -156,7 +156,7 @@ module _ {s row p : List ℕ} {a : Case} (G : Reads s row p a) where
 
 module _ {t row out : List ℕ} {path : Path} {at : ℕ} (q : ShowRoom t row path out at) where
   -- where the place reads as a, and the entry w says its mark
-  module _ {a : Case} (G : Reads (schemaOf t) row (pathOf path) a) {x : Opened} {w : ℕ} (y : Says x w) where
+  module _ {a : Case} (G : Reads (schemaOf t) row (pathOf path) a) {x : TypeParts} {w : ℕ} (y : Says x w) where
     inside : InRow row (meaning a)
     inside = rw (G .means) (G .within)
 
@@ -193,7 +193,7 @@ module _ {t row out : List ℕ} {path : Path} {at : ℕ} (q : ShowRoom t row pat
     unfolding hasLine below
     shows-broken e = shows-none (read-broken (q .opened) F e) out at 0 refl refl (omega arith)
 
-    module _ {x : Opened} {z : Seat} (e : f ≡ Null x z) where
+    module _ {x : TypeParts} {z : Seat} (e : f ≡ Null x z) where
       pub null-kinded : Kinded x
       null-kinded = (rw e at (F .lands)) .is .kinded
 
@@ -206,7 +206,7 @@ module _ {t row out : List ℕ} {path : Path} {at : ℕ} (q : ShowRoom t row pat
       shows-null y p = shows-line (read-null (q .opened) F e) y refl null-kinded (rw e at (F .tells)) p
 
     module _ {y : Place} (e : f ≡ At y) (a : Case) (m : meaning a ≡ showOf row y) where
-      stands : Stands t row y
+      stands : PlaceHolds t row y
       stands = rw e at (F .lands)
 
       kinded : Kinded (y .opened)

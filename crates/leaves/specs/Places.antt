@@ -12,7 +12,7 @@ use Rattle.layout.specs.Reading.{Answer, placed}
 use Rattle.layout.specs.Entries.{readOf}
 use Rattle.table.specs.Words.{Lined, placeIn}
 use Rattle.answers.specs.declared.Path.{Path}
-use Rattle.reading.specs.declared.Opened.{Opened}
+use Rattle.reading.specs.declared.TypeParts.{TypeParts}
 use Rattle.reading.specs.Finding.{Open}
 use Rattle.lettering.specs.Text.{Puts}
 use Rattle.leaves.specs.Lines.{line}
@@ -62,7 +62,7 @@ pub record Shows (s row p out : List ℕ) (at : ℕ) (r : Shown) (out′ : List 
 -- ---- the mark of a type taken apart
 
 -- an entry that says its kind
-pub record Says (x : Opened) (w : ℕ) : Type 0 where
+pub record Says (x : TypeParts) (w : ℕ) : Type 0 where
   pub lined : Lined w
   pub kind : placeIn w ≡ x .kind
 

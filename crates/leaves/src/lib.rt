@@ -13,9 +13,9 @@ ghost use Rattle.leaves.specs.Whole.{cardOf, cardAt, WalkRoom};
 use answers::Answer;
 use answers::Path;
 use reading::Found;
-use reading::Opened;
+use reading::TypeParts;
 
-pub mod lines;
+mod lines;
 
 // What a place comes to: where the text ends behind its line, and how many places are right below it.
 pub struct Shown {
@@ -24,7 +24,7 @@ pub struct Shown {
 }
 
 // The entry that says the mark of a type: its own, but a map's array is a list and has the map's.
-fn entry_of(x: Opened) -> u64
+fn entry_of(x: TypeParts) -> u64
     requires { ⌜ Kinded x ⌝ }
     ensures { λ r. ⌜ Says x r ⌝ }
 {

@@ -1,6 +1,6 @@
 -- The laws of twins, and what the functions' proofs cite.
-pub mod By
-pub mod Copying
+mod By
+mod Copying
 pub mod InBatch
 pub mod Twins
 pub mod Demand1

@@ -36,7 +36,7 @@ unfolding signed
 signed-most (pos n) = omega (arith, decimal-twenty n)
 signed-most (negsuc n) = omega (arith, decimal-twenty (suc n))
 
-pub hexes-length : (b : List ℕ) → length (hexes b) ≡ 2 * length b
+hexes-length : (b : List ℕ) → length (hexes b) ≡ 2 * length b
 unfolding hexes
 hexes-length [] = refl
 hexes-length (b ∷ bs) = length-append (hex 2 b) (hexes bs) ∙ rw (hex-length 2 b, hexes-length bs) (omega arith)

@@ -1,6 +1,6 @@
 -- Text put piece by piece: numbers digit by digit, bytes one by one, a path step by step. Assumes nothing.
 use mathlib.Core.Path.{_≡_, refl, sym, ap, _∙_}
-use mathlib.Core.Bool.{true, false}
+use mathlib.Core.Bool.{true, false, true≢false}
 use mathlib.Core.List.{List, [], _∷_, _++_, append-assoc, append-nil}
 use Prim.Native.Nat.{ℕ, zero, suc, _+_, _-_, _/_, _%_, _≤_, _<_}
 use native.Mathlib.Omega.{arith}
@@ -37,7 +37,7 @@ puts-as e p = rw e at p
 
 -- ---- numbers
 
-less-one : (k : ℕ) → suc k - 1 ≡ k
+pub less-one : (k : ℕ) → suc k - 1 ≡ k
 less-one k = omega arith
 
 hex-digit : (k n : ℕ) → (k ≡ 0 → ⊥) → hex (k - 1) (n / 16) ++ (glyph (n % 16) ∷ []) ≡ hex k n
@@ -78,17 +78,14 @@ pub decimal-whole : {a b : List ℕ} {at r : ℕ} (n : ℕ) → Puts a at (decim
 unfolding decimal
 decimal-whole n p = p
 
-pub no-clash : true ≡ false → ⊥
-no-clash q = let n : _≡_ {A = ℕ} 0 1 = cc in omega arith
-
 signed-above : (z : ℤ) (m : ℕ) → isNegative z ≡ false → m ≡ mag z → decimal m ≡ signed z
 unfolding signed
 signed-above (pos n) m h e = ap decimal e
-signed-above (negsuc n) m h e = absurd (no-clash h)
+signed-above (negsuc n) m h e = absurd (true≢false h)
 
 signed-under : (z : ℤ) (m : ℕ) → isNegative z ≡ true → m ≡ mag z → (45 ∷ []) ++ decimal (m + 1) ≡ signed z
 unfolding signed
-signed-under (pos n) m h e = absurd (no-clash (sym h))
+signed-under (pos n) m h e = absurd (true≢false (sym h))
 signed-under (negsuc n) m h e = ap (λ (k : ℕ). 45 ∷ decimal k) (add-one m ∙ ap suc e)
 
 pub signed-plain : {a b : List ℕ} {at r : ℕ} (z : ℤ) (m : ℕ) → isNegative z ≡ false → m ≡ mag z → Puts a at (decimal m) r b → Puts a at (signed z) r b

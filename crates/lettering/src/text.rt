@@ -62,7 +62,7 @@ fn decimal_in(out: &mut [u8], at: usize, n: u64, k: usize) -> usize
 }
 
 // No number of 64 bits has more than 20 digits.
-pub fn decimal(out: &mut [u8], at: usize, n: u64) -> usize
+fn decimal(out: &mut [u8], at: usize, n: u64) -> usize
     requires { ⌜ at + 20 ≤ length (now out) ⌝ }
     ensures { λ r. ⌜ Puts (now (out .entry)) at (decimalOf n) r (now (out .exit)) ⌝ }
 {

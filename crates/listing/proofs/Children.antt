@@ -12,7 +12,7 @@ use mir.Val.{Fits}
 use Rattle.words.specs.Bytes.{num, pad, bitmap, part}
 use Rattle.words.specs.Bits.{bit}
 use Rattle.schema.specs.Types.{Ty, li, mark}
-use Rattle.layout.specs.Cells.{Cell, leaf, onNull, parts, part as partOf}
+use Rattle.layout.specs.Cells.{Cell, leaf, onNull, parts, partOf}
 use Rattle.layout.specs.Layout.{slotOf, codec, Lays}
 use Rattle.layout.specs.Listing.{nu, Script, item, element, script}
 use Rattle.layout.specs.Walk.{rootSeat, stepIn, child, childTy}

@@ -12,16 +12,15 @@ use Rattle.words.specs.Reads.{Reads}
 use Rattle.schema.specs.Marks.{markAt}
 use Rattle.schema.specs.Types.{Ty, li, ma, ro, Tys, place, mark}
 use Rattle.schema.specs.Walk.{typeAt, nextAt, Typed, ListAt, MapAt, StructAt}
-use Rattle.schema.proofs.Places.{place-li, place-ma, place-ro}
 use Rattle.schema.proofs.Typing.{typed-deep}
 use Rattle.table.specs.Words.{placeIn, countIn, afterIn}
-use Rattle.table.specs.Tables.{schemaOf, posOf, Stands, EntryAt}
-use Rattle.table.proofs.Places.{place-room, table-short}
+use Rattle.table.specs.Tables.{schemaOf, posOf, InTable, EntryAt, typeOf, typesOf}
+use Rattle.table.proofs.Places.{place-room, table-short, entry-list, entry-map, entry-struct}
 use Rattle.layout.specs.Cells.{parts}
 use Rattle.layout.specs.Listing.{structScript, listScript, element, script, listing}
 use Rattle.layout.proofs.Walked.{list-says}
 use Rattle.listing.specs.Lines.{cellOf, lines, itemLines, fieldLines, Written}
-use Rattle.listing.specs.Room.{tyAt, tysAt, Holds, Container, Pair, Elements, Fields}
+use Rattle.listing.specs.Room.{Holds, Container, Pair, Elements, Fields}
 use Rattle.listing.proofs.Wrote.{and-then, same-bytes}
 use Rattle.listing.proofs.Maps.{size-in, count-in, keys-fit, keys-end, keys-hold, values-hold, map-is, map-lengths}
 
@@ -71,12 +70,10 @@ module _ {t : List ℕ} {at d : ℕ} {b : List ℕ} {pos : ℕ} (r : Container t
 
   module _ (q : k ≡ 9) where
     list-at : ListAt (schemaOf t) (posOf t at) d (posOf t (at + 1))
-    list-at =
-        subst (λ (y : ℕ). ListAt (schemaOf t) (posOf t at) d y) (sym (e .child (λ z. omega arith)))
-        (place-li (schemaOf t) (posOf t at) d (r .stands .typed) (placeIn w) (e .place) (sym ek ∙ q))
+    list-at = entry-list (r .stands) e (sym ek ∙ q)
 
     abbrev el : Ty
-    el = tyAt t (at + 1) (d - 1)
+    el = typeOf t (at + 1) (d - 1)
 
     list-holds : Holds (li el) b
     list-holds = rw (list-at .whole) at (r .holds)
@@ -85,7 +82,7 @@ module _ {t : List ℕ} {at d : ℕ} {b : List ℕ} {pos : ℕ} (r : Container t
     list-head = omega (arith, list-says el _ b (list-holds .lays) (omega (arith, list-holds .small)) .room)
 
     module _ {n : ℕ} (g : Reads b 0 8 n) where
-      list-is : (markAt (placeIn w) ++ le 4 n) ++ itemLines el b ≡ lines (tyAt t at d) b
+      list-is : (markAt (placeIn w) ++ le 4 n) ++ itemLines el b ≡ lines (typeOf t at d) b
       list-is =
           rw (sym ek ∙ q, list-at .whole)
           (list-lines el b n (g .is ∙ list-says el _ b (list-holds .lays) (omega (arith, list-holds .small)) .count))
@@ -100,7 +97,7 @@ module _ {t : List ℕ} {at d : ℕ} {b : List ℕ} {pos : ℕ} (r : Container t
           };
         }
 
-        pub list-written : {o′ : List ℕ} {p′ : ℕ} → Written o p (itemLines el b) o′ p′ → Written out pos (lines (tyAt t at d) b) o′ p′
+        pub list-written : {o′ : List ℕ} {p′ : ℕ} → Written o p (itemLines el b) o′ p′ → Written out pos (lines (typeOf t at d) b) o′ p′
         list-written h = same-bytes list-is (and-then f h)
 
   -- ---- a map
@@ -119,14 +116,12 @@ module _ {t : List ℕ} {at d : ℕ} {b : List ℕ} {pos : ℕ} (r : Container t
 
     module _ {n : ℕ} (en : n ≡ countIn w) where
       struct-at : StructAt (schemaOf t) (posOf t at) d (posOf t (at + 1)) n
-      struct-at =
-          subst (λ (y : ℕ). StructAt (schemaOf t) (posOf t at) d y n) (sym (e .first eleven))
-          (place-ro (schemaOf t) (posOf t at) d (r .stands .typed) (placeIn w) (e .place) eleven n (en ∙ e .count eleven))
+      struct-at = entry-struct (r .stands) e eleven en
 
       abbrev ts : Tys
-      ts = tysAt t (at + 1) (d - 1) n
+      ts = typesOf t (at + 1) (d - 1) n
 
-      struct-is : markAt (placeIn w) ++ fieldLines ts b ≡ lines (tyAt t at d) b
+      struct-is : markAt (placeIn w) ++ fieldLines ts b ≡ lines (typeOf t at d) b
       struct-is = rw (eleven, struct-at .whole) (struct-lines ts b)
 
       module _ {out o : List ℕ} {p : ℕ} (f : Written out pos (markAt (placeIn w)) o p) where
@@ -139,7 +134,7 @@ module _ {t : List ℕ} {at d : ℕ} {b : List ℕ} {pos : ℕ} (r : Container t
           room = omega (arith, f .past, length-append (markAt (placeIn w)) (fieldLines ts b), ap length struct-is, r .room);
         }
 
-        pub struct-written : {o′ : List ℕ} {p′ : ℕ} → Written o p (fieldLines ts b) o′ p′ → Written out pos (lines (tyAt t at d) b) o′ p′
+        pub struct-written : {o′ : List ℕ} {p′ : ℕ} → Written o p (fieldLines ts b) o′ p′ → Written out pos (lines (typeOf t at d) b) o′ p′
         struct-written h = same-bytes struct-is (and-then f h)
 
 -- ---- a map: w is its entry, w₁ that of its keys, behind which stand the values
@@ -149,15 +144,13 @@ module _ {t : List ℕ} {at d : ℕ} {b : List ℕ} {pos : ℕ} (r : Pair t at d
   x = posOf t (at + 1)
 
   map-at : MapAt (schemaOf t) (posOf t at) d x (nextAt (schemaOf t) x (d - 1))
-  map-at =
-      subst (λ (y : ℕ). MapAt (schemaOf t) (posOf t at) d y (nextAt (schemaOf t) y (d - 1))) (sym (e .child (λ z. omega (arith, e .place, r .map))))
-      (place-ma (schemaOf t) (posOf t at) d (r .container .stands .typed) (placeIn w) (e .place) (e .place ∙ r .map))
+  map-at = entry-map (r .container .stands) e (e .place ∙ r .map)
 
-  pub keys-stand : Stands t (at + 1) (d - 1)
+  pub keys-stand : InTable t (at + 1) (d - 1)
   keys-stand = record { table = r .container .stands .table; typed = map-at .keys }
 
   abbrev tk : Ty
-  tk = tyAt t (at + 1) (d - 1)
+  tk = typeOf t (at + 1) (d - 1)
 
   pair-holds : Holds (ma tk (typeAt (schemaOf t) (nextAt (schemaOf t) x (d - 1)) (d - 1))) b
   pair-holds = rw (map-at .whole) at (r .container .holds)
@@ -181,15 +174,15 @@ module _ {t : List ℕ} {at d : ℕ} {b : List ℕ} {pos : ℕ} (r : Pair t at d
     values-at = ap (posOf t) ev ∙ e₁ .next
 
     abbrev tv : Ty
-    tv = tyAt t v (d - 1)
+    tv = typeOf t v (d - 1)
 
-    whole : tyAt t at d ≡ ma tk tv
+    whole : typeOf t at d ≡ ma tk tv
     whole = map-at .whole ∙ ap (λ (y : ℕ). ma tk (typeAt (schemaOf t) y (d - 1))) (sym values-at)
 
     map-holds : Holds (ma tk tv) b
     map-holds = rw whole at (r .container .holds)
 
-    values-stand : Stands t v (d - 1)
+    values-stand : InTable t v (d - 1)
     values-stand = record {
       table = r .container .stands .table;
       typed = subst (λ (y : ℕ). Typed (schemaOf t) y (d - 1)) (sym values-at) (map-at .values);
@@ -222,5 +215,5 @@ module _ {t : List ℕ} {at d : ℕ} {b : List ℕ} {pos : ℕ} (r : Pair t at d
           items = record { holds = values-hold map-holds gK; room = omega (arith, f₁₀ .past, g .past, map-lengths map-holds gK gn, room) };
         }
 
-        pub map-written : {o₂ : List ℕ} {q′ : ℕ} → Written o₁ q (itemLines tv vs) o₂ q′ → Written out pos (lines (tyAt t at d) b) o₂ q′
+        pub map-written : {o₂ : List ℕ} {q′ : ℕ} → Written o₁ q (itemLines tv vs) o₂ q′ → Written out pos (lines (typeOf t at d) b) o₂ q′
         map-written h = rw whole (same-bytes (map-is map-holds gK gn) (and-then f₁₀ (and-then g h)))

@@ -13,7 +13,7 @@ use Rattle.words.specs.Bits.{bitOf, bit}
 use Rattle.words.proofs.BitLaws.{bit-num}
 use Rattle.words.proofs.Parts.{bytes-part}
 use Rattle.schema.specs.Types.{Ty, mark}
-use Rattle.layout.specs.Cells.{Cell, null, leaf, nodes, onNull, flag, part as partOf}
+use Rattle.layout.specs.Cells.{Cell, null, leaf, nodes, onNull, flag, partOf}
 use Rattle.layout.specs.Layout.{front, codec, Lays}
 use Rattle.layout.specs.Listing.{nu, script}
 use Rattle.layout.specs.Refusals.{numbered, brokenAt}
@@ -116,7 +116,7 @@ module _ (T t : Ty) (c : Cell) (h w n i : ℕ) (b : List ℕ) (k : i < n) (hb : 
   bit-is : bitOf (num (part b h (bitmap n))) i ≡ bit b h i
   bit-is = bit-num h (bitmap n) i hb (omega arith)
 
-  pub null-child : bit b h i ≡ true → flag (partOf i c) ≡ 1
+  null-child : bit b h i ≡ true → flag (partOf i c) ≡ 1
   unfolding byFlag
   null-child e = nulled T t c i 0 b _ seat by-bit (rw (eqb-true bit₀ 1 (bit-is ∙ e)))
 

@@ -13,12 +13,13 @@ use Rattle.words.specs.Reads.{Reads}
 use Rattle.schema.specs.Marks.{elementWidth}
 use Rattle.schema.specs.Types.{Ty}
 use Rattle.table.specs.Words.{placeIn}
-use Rattle.table.specs.Tables.{EntryAt}
+use Rattle.table.specs.Tables.{EntryAt, typeOf}
 use Rattle.layout.proofs.Widths.{element-wide}
+use Rattle.table.proofs.Places.{entry-place}
 use Rattle.listing.specs.Lines.{lines, itemLines, ownBytes, ownLines, Written}
-use Rattle.listing.specs.Room.{tyAt, leafAt, Items, Present, Elsewhere, Leaf, Leaves, Elements, Container}
+use Rattle.listing.specs.Room.{leafAt, Items, Present, Elsewhere, Leaf, Leaves, Elements, Container}
 use Rattle.listing.proofs.Wrote.{same-bytes}
-use Rattle.listing.proofs.Seats.{seat-there, slot-eight, leaf-at, place-leaf, entry-place, entry-elsewhere, entry-lines, entry-container}
+use Rattle.listing.proofs.Seats.{seat-there, slot-eight, leaf-at, place-leaf, entry-elsewhere, entry-lines, entry-container}
 use Rattle.listing.proofs.Children.{Counted, AtItem, list-few, list-first, items-start, item-seat, items-own}
 
 -- ---- leaves
@@ -52,14 +53,14 @@ pub record Containers (t : List ℕ) (at d : ℕ) (b : List ℕ) (pos w : ℕ) :
 
 module _ {t : List ℕ} {at d : ℕ} {b : List ℕ} {pos w : ℕ} (r : Elements t at d b pos) (e : EntryAt t at d w) {x : ℕ} (ex : x ≡ placeIn w) where
   module _ (l : x < 9) where
-    leaf-is : tyAt t at d ≡ leafAt (placeIn w)
+    leaf-is : typeOf t at d ≡ leafAt (placeIn w)
     leaf-is = leaf-at (entry-place (r .stands) e) (omega arith)
 
     pub elements-leaves : Leaves w b pos
     elements-leaves = record { lined = e .lined; low = omega arith; items = subst (λ (y : Ty). Items y b pos) leaf-is (r .items) }
 
     pub elements-written : {out out′ : List ℕ} {p : ℕ} → Written out pos (itemLines (leafAt (placeIn w)) b) out′ p
-        → Written out pos (itemLines (tyAt t at d) b) out′ p
+        → Written out pos (itemLines (typeOf t at d) b) out′ p
     elements-written = same-bytes (ap (λ (y : Ty). itemLines y b) (sym leaf-is))
 
   module _ (l : 9 ≤ x) where
@@ -67,8 +68,8 @@ module _ {t : List ℕ} {at d : ℕ} {b : List ℕ} {pos w : ℕ} (r : Elements 
     containers = record { asked = r; entry = e; high = omega arith }
 
     module _ {n : ℕ} (g : Reads b 0 8 n) where
-      counted : Counted (tyAt t at d) b pos n 8
-      counted = record { asked = r .items; count = g .is; wide = slot-eight (tyAt t at d) (omega (arith, entry-place (r .stands) e)) }
+      counted : Counted (typeOf t at d) b pos n 8
+      counted = record { asked = r .items; count = g .is; wide = slot-eight (typeOf t at d) (omega (arith, entry-place (r .stands) e)) }
 
       pub containers-few : n < 2 ^ 32
       containers-few = list-few counted
@@ -77,14 +78,14 @@ module _ {t : List ℕ} {at d : ℕ} {b : List ℕ} {pos w : ℕ} (r : Elements 
         pub containers-first : Fits w64 (8 + m)
         containers-first = list-first counted em
 
-        pub containers-start : (out : List ℕ) → AtItem (tyAt t at d) b n 8 pos 0 (8 + m) out out pos
+        pub containers-start : (out : List ℕ) → AtItem (typeOf t at d) b n 8 pos 0 (8 + m) out out pos
         containers-start = items-start counted em
 
 -- a turn of the loop over them: x is the element's bit
 module _ {t : List ℕ} {at d : ℕ} {b : List ℕ} {pos w : ℕ} (r : Containers t at d b pos w) {n i slot : ℕ} {out₀ out : List ℕ} {p : ℕ}
-    (a : AtItem (tyAt t at d) b n 8 pos i slot out₀ out p) (l : i < n) {x : Bool} (ex : x ≡ bit b 8 i) where
+    (a : AtItem (typeOf t at d) b n 8 pos i slot out₀ out p) (l : i < n) {x : Bool} (ex : x ≡ bit b 8 i) where
   abbrev T : Ty
-  T = tyAt t at d
+  T = typeOf t at d
 
   module _ (f : x ≡ false) where
     there : Present T b slot p

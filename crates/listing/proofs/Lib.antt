@@ -1,12 +1,12 @@
-pub mod Wrote
+mod Wrote
 pub mod Numbers
-pub mod Held
-pub mod Found
-pub mod Turns
-pub mod Seats
-pub mod Children
-pub mod Items
-pub mod Structs
-pub mod Maps
+mod Held
+mod Found
+mod Turns
+mod Seats
+mod Children
+mod Items
+mod Structs
+mod Maps
 pub mod Containers
-pub mod Root
+mod Root

@@ -12,7 +12,7 @@ use Rattle.words.specs.Reads.{Reads}
 use Rattle.words.proofs.Parts.{bytes-part}
 use Rattle.schema.specs.Marks.{markAt}
 use Rattle.schema.specs.Types.{Ty, li, ma, place, mark}
-use Rattle.layout.specs.Cells.{Cell, parts, part as partOf}
+use Rattle.layout.specs.Cells.{Cell, parts, partOf}
 use Rattle.layout.specs.Layout.{pair, codec, Lays}
 use Rattle.layout.specs.Listing.{mapScript, script, listing}
 use Rattle.layout.proofs.Walked.{ListSays, list-says, map-says}

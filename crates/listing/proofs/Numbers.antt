@@ -10,11 +10,11 @@ use Rattle.words.specs.Reads.{Reads}
 use Rattle.words.proofs.Numbers.{le-num}
 use Rattle.words.proofs.Parts.{length-part, bytes-part, part-cons}
 use Rattle.schema.specs.Marks.{markAt, types, line}
-use Rattle.schema.proofs.Table.{each}
+use Rattle.schema.proofs.Table.{each, mark-two}
 use Rattle.table.specs.Words.{placeIn, widthIn}
 use Rattle.listing.specs.Lines.{Written}
 use Rattle.listing.specs.Room.{NumberRoom, TextRoom}
-use Rattle.listing.proofs.Wrote.{wrote-none, wrote-run, and-then, mark-two, count-six}
+use Rattle.listing.proofs.Wrote.{wrote-none, wrote-run, and-then, count-six}
 
 -- bytes are the bytes of their number
 le-part : (b : List ℕ) (at k : ℕ) → Bytes b → at + k ≤ length b → le k (num (part b at k)) ≡ part b at k

@@ -1,5 +1,5 @@
 -- A row that was checked: what the lister of a container asks of it, and that its records are the row's listing. Assumes nothing.
-use mathlib.Core.Path.{_≡_, refl, sym, ap, _∙_, subst}
+use mathlib.Core.Path.{_≡_, refl}
 use mathlib.Core.Bool.{true}
 use mathlib.Core.Option.{Option, none, some}
 use mathlib.Core.List.{List}
@@ -7,29 +7,24 @@ use Prim.Native.Nat.{ℕ, _*_, _≤_}
 use native.Mathlib.Omega.{arith}
 use lib.ListN.{length}
 use Rattle.words.specs.Bytes.{Bytes}
-use Rattle.schema.specs.Types.{Ty, ro, Tys, end, _then_, count, place}
-use Rattle.schema.specs.Walk.{Typed, typeAt, fieldsOf}
+use Rattle.schema.specs.Types.{Ty, ro, Tys, count}
+use Rattle.schema.specs.Walk.{fieldsOf}
 use Rattle.schema.proofs.Judging.{Root, accepted-root}
-use Rattle.schema.proofs.Places.{typed-place}
-use Rattle.table.specs.Tables.{schemaOf, posOf}
+use Rattle.table.specs.Tables.{schemaOf, typeOf}
 use Rattle.layout.specs.Reader.{_>>=_}
 use Rattle.layout.specs.Cells.{Cell}
-use Rattle.layout.specs.Layout.{Fits, content, decode}
+use Rattle.layout.specs.Layout.{decode}
 use Rattle.layout.specs.Listing.{listing}
 use Rattle.layout.specs.Setting.{isSome, orEmpty}
 use Rattle.layout.specs.Entries.{listingOf}
 use Rattle.layout.proofs.Containers.{lays-fits, lays-size}
-use Rattle.layout.proofs.Listed.{listing-short}
+use Rattle.layout.proofs.Listed.{root-short}
+use Rattle.table.proofs.Places.{root-stands, root-whole, root-place}
 use Rattle.listing.specs.Lines.{cellOf, lines}
-use Rattle.listing.specs.Room.{tyAt, Holds, Container, Checked}
+use Rattle.listing.specs.Room.{Holds, Container, Checked}
 use Rattle.listing.proofs.Held.{holds-sound}
 
--- a root has a field or more, so its listing is at most three times as long
-root-short : (ts : Tys) (c : Cell) → 1 ≤ count ts → Fits (ro ts) c → length (listing (ro ts) c) ≤ 3 * length (content (ro ts) c)
-unfolding count
-root-short end c h f = absurd (omega arith)
-root-short (t then ts) c h f = listing-short t ts c f
-
+-- a listing is at most three times as long as its row
 root-lines : (ts : Tys) (b : List ℕ) → 1 ≤ count ts → Holds (ro ts) b → length (lines (ro ts) b) ≤ 3 * length b
 unfolding lines
 root-lines ts b h r = omega (arith, root-short ts _ h (lays-fits (ro ts) _ b (r .lays)), lays-size (ro ts) _ b (r .lays))
@@ -39,11 +34,6 @@ unfolding lines cellOf
 sound-lines t b none q s = absurd (let z : _≡_ {A = ℕ} 0 1 = cc in omega arith)
 sound-lines t b (some c) q s = rw q
 
--- a table's first entry stands at the schema's first byte
-first-pos : (t : List ℕ) → posOf t 0 ≡ 0
-unfolding posOf schemaOf
-first-pos t = refl
-
 module _ {t row : List ℕ} (r : Checked t row) where
   abbrev s : List ℕ
   s = schemaOf t
@@ -51,31 +41,21 @@ module _ {t row : List ℕ} (r : Checked t row) where
   root : Root s
   root = accepted-root s (r .table .accepted)
 
-  root-typed : Typed s (posOf t 0) 8
-  root-typed = subst (λ (x : ℕ). Typed s x 8) (sym (first-pos t)) (root .typed)
-
-  whole : tyAt t 0 8 ≡ ro (fieldsOf s)
-  whole = ap (λ (x : ℕ). typeAt s x 8) (first-pos t) ∙ root .whole
-
-  struct : place (tyAt t 0 8) ≡ 11
-  unfolding place
-  struct = ap place whole
-
-  pub row-lines : lines (tyAt t 0 8) row ≡ orEmpty (listingOf s row)
+  pub row-lines : lines (typeOf t 0 8) row ≡ orEmpty (listingOf s row)
   unfolding listingOf
-  row-lines = rw whole (sound-lines (ro (fieldsOf s)) row _ refl (r .sound))
+  row-lines = rw (root-whole (r .table)) (sound-lines (ro (fieldsOf s)) row _ refl (r .sound))
 
   holds : Bytes row → Holds (ro (fieldsOf s)) row
   holds hb = holds-sound (ro (fieldsOf s)) row hb (r .short) (r .sound)
 
   pub row-container : Bytes row → Container t 0 8 row 0
   row-container hb = record {
-    stands = record { table = r .table; typed = root-typed };
-    high = omega (arith, typed-place s (posOf t 0) 8 root-typed, struct);
-    holds = rw whole (holds hb);
-    room = rw whole (omega (arith, root-lines (fieldsOf s) row (root .low) (holds hb), r .short));
+    stands = root-stands (r .table);
+    high = omega (arith, root-place (r .table));
+    holds = rw (root-whole (r .table)) (holds hb);
+    room = rw (root-whole (r .table)) (omega (arith, root-lines (fieldsOf s) row (root .low) (holds hb), r .short));
   }
 
   -- three times the row's length is room enough
   pub row-short : Bytes row → length (orEmpty (listingOf s row)) ≤ 3 * length row
-  row-short hb = rw (← row-lines, whole) (root-lines (fieldsOf s) row (root .low) (holds hb))
+  row-short hb = rw (← row-lines, root-whole (r .table)) (root-lines (fieldsOf s) row (root .low) (holds hb))

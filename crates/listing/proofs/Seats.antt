@@ -1,5 +1,5 @@
 -- A child of a container as a loop meets it, null or not, and a leaf by the place of its type in the table of types. Assumes nothing.
-use mathlib.Core.Path.{_≡_, refl, sym, ap, _∙_, subst}
+use mathlib.Core.Path.{_≡_, sym, ap, _∙_, subst}
 use mathlib.Core.Bool.{Bool, true, false, cond}
 use mathlib.Core.Option.{Option, none}
 use mathlib.Core.List.{List, _++_, append-assoc}
@@ -15,15 +15,17 @@ use Rattle.words.specs.Bytes.{Bytes, le, part}
 use Rattle.words.specs.Bits.{bit}
 use Rattle.words.specs.Reads.{Reads}
 use Rattle.schema.specs.Marks.{markAt, line}
-use Rattle.schema.specs.Types.{Ty, fix, text, li, ma, ro, width, fixedAt, textAt, place}
-use Rattle.schema.proofs.Table.{fixed-high, line-width, place-fixed, place-text}
-use Rattle.schema.proofs.Places.{typed-place, fixed-of, text-of}
+use Rattle.schema.specs.Types.{Ty, fix, text, width, fixedAt, textAt, place}
+use Rattle.schema.proofs.Table.{line-width, place-fixed, place-text}
+use Rattle.schema.proofs.Places.{fixed-of, text-of}
 use Rattle.table.specs.Words.{placeIn}
-use Rattle.table.specs.Tables.{schemaOf, posOf, Stands, EntryAt}
-use Rattle.layout.specs.Layout.{slotOf, number, string, array, pair, struct, codec}
+use Rattle.table.specs.Tables.{InTable, EntryAt, typeOf}
+use Rattle.layout.specs.Layout.{slotOf, number, codec}
 use Rattle.layout.specs.Listing.{nu}
+use Rattle.layout.proofs.Widths.{wide-none}
+use Rattle.table.proofs.Places.{entry-place}
 use Rattle.listing.specs.Lines.{lines, ownBytes, ownLines, childLines, Written}
-use Rattle.listing.specs.Room.{tyAt, leafAt, Within, Own, Holds, Present, Elsewhere, Leaf, NumberRoom, TextRoom, Container}
+use Rattle.listing.specs.Room.{leafAt, Within, Own, Holds, Present, Elsewhere, Leaf, NumberRoom, TextRoom, Container}
 use Rattle.listing.proofs.Wrote.{same-bytes}
 use Rattle.listing.proofs.Held.{fixed-lines, text-lines, mark-at}
 
@@ -79,20 +81,12 @@ module _ {b : List ℕ} {slot x off size : ℕ} (r : Elsewhere b slot) (g : Read
   unfolding ownBytes
   own-is = let j : off + size - off ≡ size = omega arith in rw (j, eo, es, g .is)
 
-wide-none : (t : Ty) → 7 ≤ place t → codec t .wide ≡ none
-unfolding place codec string array pair struct
-wide-none (fix f) h = absurd (omega (arith, fixed-high f))
-wide-none (text t) h = refl
-wide-none (li t) h = refl
-wide-none (ma k v) h = refl
-wide-none (ro ts) h = refl
-
 pub slot-eight : (t : Ty) → 7 ≤ place t → 8 ≡ slotOf (codec t .wide)
 unfolding slotOf
 slot-eight t l = sym (ap slotOf (wide-none t l))
 
 module _ {t : Ty} {b : List ℕ} {slot pos : ℕ} (r : Present t b slot pos) (l : 7 ≤ place t) where
-  pub elsewhere : Elsewhere b slot
+  elsewhere : Elsewhere b slot
   unfolding slotOf
   elsewhere = record {
     small = r .small;
@@ -105,10 +99,10 @@ module _ {t : Ty} {b : List ℕ} {slot pos : ℕ} (r : Present t b slot pos) (l 
     bytes-are : ownBytes (codec t .wide) b slot ≡ u
     bytes-are = ap (λ (o : Option ℕ). ownBytes o b slot) (wide-none t l) ∙ sym e
 
-    pub elsewhere-holds : Holds t u
+    elsewhere-holds : Holds t u
     elsewhere-holds = rw bytes-are at (r .own .holds)
 
-    pub elsewhere-lines : lines t u ≡ ownLines t b slot
+    elsewhere-lines : lines t u ≡ ownLines t b slot
     unfolding ownLines
     elsewhere-lines = rw bytes-are
 
@@ -193,30 +187,27 @@ module _ {w : ℕ} {b : List ℕ} {slot pos : ℕ} (r : Leaf w b slot pos) {x : 
 
 -- ---- by the entry of a table
 
-module _ {t : List ℕ} {at d w : ℕ} (st : Stands t at d) (e : EntryAt t at d w) where
-  pub entry-place : placeIn w ≡ place (tyAt t at d)
-  entry-place = e .place ∙ typed-place (schemaOf t) (posOf t at) d (st .typed)
-
-  module _ {b : List ℕ} {slot pos : ℕ} (r : Present (tyAt t at d) b slot pos) {x : ℕ} (ex : x ≡ placeIn w) where
+module _ {t : List ℕ} {at d w : ℕ} (st : InTable t at d) (e : EntryAt t at d w) where
+  module _ {b : List ℕ} {slot pos : ℕ} (r : Present (typeOf t at d) b slot pos) {x : ℕ} (ex : x ≡ placeIn w) where
     module _ (l : x < 9) where
-      leaf-is : tyAt t at d ≡ leafAt (placeIn w)
-      leaf-is = leaf-at entry-place (omega arith)
+      leaf-is : typeOf t at d ≡ leafAt (placeIn w)
+      leaf-is = leaf-at (entry-place st e) (omega arith)
 
       pub entry-leaf : Leaf w b slot pos
       entry-leaf = record { lined = e .lined; low = omega arith; child = subst (λ (y : Ty). Present y b slot pos) leaf-is r }
 
-      pub entry-leaf-lines : ownLines (leafAt (placeIn w)) b slot ≡ ownLines (tyAt t at d) b slot
+      pub entry-leaf-lines : ownLines (leafAt (placeIn w)) b slot ≡ ownLines (typeOf t at d) b slot
       entry-leaf-lines = ap (λ (y : Ty). ownLines y b slot) (sym leaf-is)
 
     module _ (l : 9 ≤ x) where
-      high : 7 ≤ place (tyAt t at d)
-      high = omega (arith, entry-place)
+      high : 7 ≤ place (typeOf t at d)
+      high = omega (arith, entry-place st e)
 
       pub entry-elsewhere : Elsewhere b slot
       entry-elsewhere = elsewhere r high
 
       module _ {u : List ℕ} (eu : u ≡ ownBytes none b slot) where
-        pub entry-lines : lines (tyAt t at d) u ≡ ownLines (tyAt t at d) b slot
+        pub entry-lines : lines (typeOf t at d) u ≡ ownLines (typeOf t at d) b slot
         entry-lines = elsewhere-lines r high eu
 
         pub entry-container : Container t at d u pos

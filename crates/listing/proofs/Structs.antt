@@ -15,8 +15,8 @@ use Rattle.schema.specs.Types.{Ty, ro, Tys, end, _then_, count, field, mark}
 use Rattle.schema.specs.Walk.{nextAt, fieldAt}
 use Rattle.schema.proofs.Typing.{FieldLaw, typed-count, field-typed}
 use Rattle.table.specs.Words.{placeIn, afterIn}
-use Rattle.table.specs.Tables.{schemaOf, posOf, Stands, EntryAt}
-use Rattle.layout.specs.Cells.{Cell, leaf, onNull, parts, part as partOf}
+use Rattle.table.specs.Tables.{schemaOf, posOf, InTable, EntryAt, typeOf, typesOf}
+use Rattle.layout.specs.Cells.{Cell, leaf, onNull, parts, partOf}
 use Rattle.layout.specs.Layout.{codec, kids, struct}
 use Rattle.layout.specs.Listing.{nu, item, script, scripts}
 use Rattle.layout.specs.Walk.{rootSeat, stepIn, child, childTy}
@@ -26,7 +26,7 @@ use Rattle.layout.proofs.Stepped.{Comes}
 use Rattle.layout.proofs.Walked.{comes}
 use Rattle.layout.proofs.Widths.{slot-small}
 use Rattle.listing.specs.Lines.{cellOf, lines, fieldLines, ownBytes, ownLines, childLines, Written}
-use Rattle.listing.specs.Room.{tyAt, tysAt, leafAt, Own, Present, Elsewhere, Leaf, Container, Fields}
+use Rattle.listing.specs.Room.{leafAt, Own, Present, Elsewhere, Leaf, Container, Fields}
 use Rattle.listing.proofs.Found.{There, there-child, lines-child}
 use Rattle.listing.proofs.Turns.{Going, going-start, going-end, going-room, going-next}
 use Rattle.listing.proofs.Wrote.{met, same-bytes}
@@ -62,11 +62,11 @@ pub record AtField (t : List ℕ) (first n d : ℕ) (b : List ℕ) (pos at i slo
   pub most : i ≤ n
   pub at-is : posOf t at ≡ fieldAt (schemaOf t) (posOf t first) d i
   pub slot-is : slot ≡ bitmap n + 8 * i
-  pub going : Going (scripts (tysAt t first d n)) (parts (cellOf (ro (tysAt t first d n)) b)) out₀ pos i out p
+  pub going : Going (scripts (typesOf t first d n)) (parts (cellOf (ro (typesOf t first d n)) b)) out₀ pos i out p
 
 module _ {t : List ℕ} {first n d : ℕ} {b : List ℕ} {pos : ℕ} (r : Fields t first n d b pos) where
   abbrev ts : Tys
-  ts = tysAt t first d n
+  ts = typesOf t first d n
 
   abbrev c : Cell
   c = cellOf (ro ts) b
@@ -103,7 +103,7 @@ module _ {t : List ℕ} {first n d : ℕ} {b : List ℕ} {pos at i slot : ℕ} {
   r₀ = a .asked
 
   abbrev us : Tys
-  us = tysAt t first d n
+  us = typesOf t first d n
 
   abbrev cell : Cell
   cell = cellOf (ro us) b
@@ -131,11 +131,11 @@ module _ {t : List ℕ} {first n d : ℕ} {b : List ℕ} {pos at i slot : ℕ} {
     law : FieldLaw (schemaOf t) i (posOf t first) d n
     law = field-typed (schemaOf t) i (posOf t first) d n (r₀ .typed) l
 
-    pub field-stands : Stands t at d
+    pub field-stands : InTable t at d
     field-stands = record { table = r₀ .table; typed = rw (a .at-is) (law .typed) }
 
     abbrev T : Ty
-    T = tyAt t at d
+    T = typeOf t at d
 
     type-is : field us i ≡ T
     type-is = rw (a .at-is) (sym (law .same))

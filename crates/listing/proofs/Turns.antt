@@ -1,10 +1,10 @@
 -- A loop over children that lists one after another: its invariant, its start, turn and end. Assumes nothing.
 use mathlib.Core.Path.{_≡_, refl, sym, ap, _∙_}
-use mathlib.Core.List.{List, [], _∷_, _++_, append-assoc, append-nil}
-use Prim.Native.Nat.{ℕ, zero, suc, _+_, _≤_, _<_}
+use mathlib.Core.List.{List, [], _++_, append-assoc, append-nil}
+use Prim.Native.Nat.{ℕ, _+_, _≤_, _<_}
 use native.Mathlib.Omega.{arith}
 use native.Mathlib.Numerals.{add-one}
-use lib.ListN.{length, getD, drop, length-append}
+use lib.ListN.{length, getD, drop, length-append, drop-of-length-le}
 use lib.Seq.{drop-cons}
 use Rattle.layout.specs.Cells.{Cell}
 use Rattle.layout.specs.Listing.{Script, runPut}
@@ -16,15 +16,9 @@ run-step : (ss : List Script) (cs : List Cell) (i : ℕ) (s : Script) (c : Cell)
 unfolding runPut
 run-step ss cs i s c h k = rw (add-one i, drop-cons ss i s h, drop-cons cs i c k)
 
-drop-past : (ss : List Script) (i : ℕ) → length ss ≤ i → drop i ss ≡ []
-drop-past [] zero h = refl
-drop-past [] (suc i) h = refl
-drop-past (s ∷ ss) zero h = absurd (omega arith)
-drop-past (s ∷ ss) (suc i) h = drop-past ss i (omega arith)
-
 run-end : (ss : List Script) (cs : List Cell) (i : ℕ) → length ss ≤ i → runPut (drop i ss) (drop i cs) ≡ []
 unfolding runPut
-run-end ss cs i h = rw (drop-past ss i h)
+run-end ss cs i h = rw (drop-of-length-le ss h)
 
 -- before child i: so-far is written, and what is left of the children lists the rest of the whole
 pub record Going (ss : List Script) (cs : List Cell) (out₀ : List ℕ) (pos i : ℕ) (out : List ℕ) (p : ℕ) : Type 0 where

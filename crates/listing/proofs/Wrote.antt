@@ -11,7 +11,8 @@ use Rattle.words.specs.Bytes.{le, num}
 use Rattle.words.proofs.Numbers.{length-le}
 use Rattle.words.proofs.Runs.{sets-then}
 use Rattle.schema.specs.Marks.{types, markAt}
-use Rattle.schema.proofs.Table.{each}
+use Rattle.schema.proofs.Table.{each, mark-two}
+use Rattle.layout.proofs.Reader.{length-zero}
 use Rattle.table.specs.Words.{placeIn, markIn, Lined}
 use Rattle.listing.specs.Lines.{Written, Answered}
 
@@ -51,13 +52,9 @@ module _ {out : List ℕ} {pos : ℕ} {v out′ : List ℕ} {r : ℕ} where
 
 -- ---- the length first, with no byte lent, and then the bytes where they fit
 
-no-length : (w : List ℕ) → length w ≡ 0 → w ≡ []
-no-length [] e = refl
-no-length (x ∷ w) e = absurd (omega arith)
-
 pub answered-short : (out v w : List ℕ) (r : ℕ) → Written [] 0 v w r → length (w ++ out) < r → Answered out v (w ++ out) r
 answered-short out v w r f h =
-    let nil : w ≡ [] = no-length w (f .kept) in
+    let nil : w ≡ [] = length-zero w (f .kept) in
     let h′ : length out < r = rw nil at h in
     let short : length out < length v = omega (arith, f .past) in
     record { need = omega (arith, f .past); bytes = rw (nil, lt-leb (length v) (length out) short) }
@@ -65,7 +62,7 @@ answered-short out v w r f h =
 pub answered-whole : (out v w out′ : List ℕ) (n r : ℕ) → Written [] 0 v w n → n ≤ length (w ++ out) → Written (w ++ out) 0 v out′ r
     → Answered out v out′ r
 answered-whole out v w out′ n r f h g =
-    let nil : w ≡ [] = no-length w (f .kept) in
+    let nil : w ≡ [] = length-zero w (f .kept) in
     let h′ : n ≤ length out = rw nil at h in
     let fits : length v ≤ length out = omega (arith, f .past) in
     let g′ : Written out 0 v out′ r = rw nil at g in
@@ -77,10 +74,6 @@ answered-roomy out v out′ m r l h f =
     record { need = omega (arith, f .past); bytes = f .bytes (omega arith) ∙ rw (le-leb (length v) (length out) (omega arith)) }
 
 -- ---- marks
-
-pub mark-two : (k : ℕ) → length (markAt k) ≡ 2
-unfolding markAt
-mark-two k = refl
 
 pub count-six : (k n : ℕ) → length (markAt k ++ le 4 n) ≡ 6
 count-six k n = rw (length-append, mark-two, length-le)

@@ -7,22 +7,15 @@ use Prim.Native.Nat.{ℕ, _+_, _/_, _%_, _^_, _≤_, _<_}
 use lib.Dec.{ltb}
 use lib.ListN.{length}
 use Rattle.words.specs.Bytes.{Bytes, num, part}
-use Rattle.schema.specs.Marks.{line}
-use Rattle.schema.specs.Types.{Ty, Tys, fix, text, li, ro, fixedAt, textAt}
+use Rattle.schema.specs.Marks.{line, STRING, LIST, MAP}
+use Rattle.schema.specs.Types.{Ty, fix, text, li, ro, fixedAt, textAt}
 use Rattle.schema.specs.Kinds.{placeAt}
-use Rattle.schema.specs.Walk.{TypedAll, typeAt, typesAt, fieldsOf}
+use Rattle.schema.specs.Walk.{TypedAll, fieldsOf}
 use Rattle.table.specs.Words.{placeIn, Lined}
-use Rattle.table.specs.Tables.{schemaOf, posOf, Table, Stands}
+use Rattle.table.specs.Tables.{schemaOf, posOf, Table, InTable, typeOf, typesOf}
 use Rattle.layout.specs.Layout.{slotOf, codec, Lays, decode}
 use Rattle.layout.specs.Setting.{isSome}
 use Rattle.listing.specs.Lines.{cellOf, lines, itemLines, fieldLines, ownBytes, ownLines}
-
--- the type, at most d deep, at a place of a table, and the n types from there on
-abbrev pub tyAt : List ℕ → ℕ → ℕ → Ty
-tyAt t at d = typeAt (schemaOf t) (posOf t at) d
-
-abbrev pub tysAt : List ℕ → ℕ → ℕ → ℕ → Tys
-tysAt t at d n = typesAt (schemaOf t) (posOf t at) d n
 
 -- the leaf at place k of the table of types
 unfoldable pub leafAt : ℕ → Ty
@@ -38,7 +31,7 @@ pub record Holds (t : Ty) (b : List ℕ) : Type 0 where
 pub record NumberRoom (b : List ℕ) (at w pos : ℕ) : Type 0 where
   pub lined : Lined w
   pub bytes : Bytes b
-  pub fixed : placeIn w < 7
+  pub fixed : placeIn w < STRING
   pub within : at + line (placeIn w) .width ≤ length b
   pub room : pos ≤ 65536
 
@@ -73,20 +66,20 @@ pub record Present (t : Ty) (b : List ℕ) (slot pos : ℕ) : Type 0 where
 
 pub record Leaf (w : ℕ) (b : List ℕ) (slot pos : ℕ) : Type 0 where
   pub lined : Lined w
-  pub low : placeIn w < 9
+  pub low : placeIn w < LIST
   pub child : Present (leafAt (placeIn w)) b slot pos
 
 -- a container, whose type stands at a place of a table
 pub record Container (t : List ℕ) (at d : ℕ) (b : List ℕ) (pos : ℕ) : Type 0 where
-  pub stands : Stands t at d
-  pub high : 9 ≤ placeAt (schemaOf t) (posOf t at)
-  pub holds : Holds (tyAt t at d) b
-  pub room : pos + length (lines (tyAt t at d) b) ≤ 65536
+  pub stands : InTable t at d
+  pub high : LIST ≤ placeAt (schemaOf t) (posOf t at)
+  pub holds : Holds (typeOf t at d) b
+  pub room : pos + length (lines (typeOf t at d) b) ≤ 65536
 
 -- a map
 pub record Pair (t : List ℕ) (at d : ℕ) (b : List ℕ) (pos : ℕ) : Type 0 where
   pub container : Container t at d b pos
-  pub map : placeAt (schemaOf t) (posOf t at) ≡ 10
+  pub map : placeAt (schemaOf t) (posOf t at) ≡ MAP
 
 -- the elements of a list of the type
 pub record Items (t : Ty) (b : List ℕ) (pos : ℕ) : Type 0 where
@@ -95,21 +88,21 @@ pub record Items (t : Ty) (b : List ℕ) (pos : ℕ) : Type 0 where
 
 pub record Leaves (w : ℕ) (b : List ℕ) (pos : ℕ) : Type 0 where
   pub lined : Lined w
-  pub low : placeIn w < 9
+  pub low : placeIn w < LIST
   pub items : Items (leafAt (placeIn w)) b pos
 
 -- a list of the type at a place of a table
 pub record Elements (t : List ℕ) (at d : ℕ) (b : List ℕ) (pos : ℕ) : Type 0 where
-  pub stands : Stands t at d
-  pub items : Items (tyAt t at d) b pos
+  pub stands : InTable t at d
+  pub items : Items (typeOf t at d) b pos
 
 -- a struct of n fields, whose types stand from a place of a table on
 pub record Fields (t : List ℕ) (first n d : ℕ) (b : List ℕ) (pos : ℕ) : Type 0 where
   pub table : Table t
   pub typed : TypedAll (schemaOf t) (posOf t first) d n
   pub high : n ≤ 128
-  pub holds : Holds (ro (tysAt t first d n)) b
-  pub room : pos + length (fieldLines (tysAt t first d n) b) ≤ 65536
+  pub holds : Holds (ro (typesOf t first d n)) b
+  pub room : pos + length (fieldLines (typesOf t first d n) b) ≤ 65536
 
 -- a schema's table, and a row that was checked against the schema
 pub record Checked (t row : List ℕ) : Type 0 where

@@ -8,12 +8,12 @@ ghost use lib.ListN.{length};
 ghost use Rattle.words.specs.Bytes.{le, part};
 ghost use Rattle.schema.specs.Marks.{markAt, line};
 ghost use Rattle.table.specs.Words.{placeIn, Lined};
-ghost use Rattle.table.specs.Tables.{schemaOf};
+ghost use Rattle.table.specs.Tables.{schemaOf, typeOf, typesOf};
 ghost use Rattle.layout.specs.Listing.{nu};
 ghost use Rattle.layout.specs.Setting.{orEmpty};
 ghost use Rattle.layout.specs.Entries.{listingOf};
 ghost use Rattle.listing.specs.Lines.{lines, itemLines, fieldLines, ownBytes, ownLines, Written, Answered};
-ghost use Rattle.listing.specs.Room.{tyAt, tysAt, leafAt, NumberRoom, TextRoom, Elsewhere, Leaf, Leaves};
+ghost use Rattle.listing.specs.Room.{leafAt, NumberRoom, TextRoom, Elsewhere, Leaf, Leaves};
 ghost use Rattle.listing.specs.Room.{Container, Pair, Elements, Fields, Checked};
 
 // The mark of a type.
@@ -146,7 +146,7 @@ fn list_leaves(w: u64, b: &[u8], out: &mut [u8], pos: usize) -> usize
 // A container.
 fn list_value(t: &[u64], at: usize, depth: usize, b: &[u8], out: &mut [u8], pos: usize) -> usize
     requires { ⌜ Container (now t) at depth (now b) pos ⌝ }
-    ensures { λ r. ⌜ Written (now (out .entry)) pos (lines (tyAt (now (t .entry)) at depth) (now (b .entry))) (now (out .exit)) r ⌝ }
+    ensures { λ r. ⌜ Written (now (out .entry)) pos (lines (typeOf (now (t .entry)) at depth) (now (b .entry))) (now (out .exit)) r ⌝ }
 {
     let w = table::entry_at(t, at, depth);
     let k = table::place(w);
@@ -165,7 +165,7 @@ fn list_value(t: &[u64], at: usize, depth: usize, b: &[u8], out: &mut [u8], pos:
 // A map: its count, the keys, then the values.
 fn list_map(t: &[u64], at: usize, depth: usize, b: &[u8], out: &mut [u8], pos: usize) -> usize
     requires { ⌜ Pair (now t) at depth (now b) pos ⌝ }
-    ensures { λ r. ⌜ Written (now (out .entry)) pos (lines (tyAt (now (t .entry)) at depth) (now (b .entry))) (now (out .exit)) r ⌝ }
+    ensures { λ r. ⌜ Written (now (out .entry)) pos (lines (typeOf (now (t .entry)) at depth) (now (b .entry))) (now (out .exit)) r ⌝ }
 {
     let w = table::entry_at(t, at, depth);
     let d = depth - 1;
@@ -181,7 +181,7 @@ fn list_map(t: &[u64], at: usize, depth: usize, b: &[u8], out: &mut [u8], pos: u
 // The elements of a list, whose type stands at a place of the table.
 fn list_items(t: &[u64], at: usize, depth: usize, b: &[u8], out: &mut [u8], pos: usize) -> usize
     requires { ⌜ Elements (now t) at depth (now b) pos ⌝ }
-    ensures { λ r. ⌜ Written (now (out .entry)) pos (itemLines (tyAt (now (t .entry)) at depth) (now (b .entry))) (now (out .exit)) r ⌝ }
+    ensures { λ r. ⌜ Written (now (out .entry)) pos (itemLines (typeOf (now (t .entry)) at depth) (now (b .entry))) (now (out .exit)) r ⌝ }
 {
     let w = table::entry_at(t, at, depth);
     if table::place(w) < table::LIST {
@@ -214,7 +214,7 @@ fn list_fields(
     pos: usize,
 ) -> usize
     requires { ⌜ Fields (now t) first n depth (now b) pos ⌝ }
-    ensures { λ r. ⌜ Written (now (out .entry)) pos (fieldLines (tysAt (now (t .entry)) first depth n) (now (b .entry))) (now (out .exit)) r ⌝ }
+    ensures { λ r. ⌜ Written (now (out .entry)) pos (fieldLines (typesOf (now (t .entry)) first depth n) (now (b .entry))) (now (out .exit)) r ⌝ }
 {
     let mut at = first;
     let mut i: usize = 0;

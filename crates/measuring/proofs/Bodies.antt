@@ -14,9 +14,8 @@ use Rattle.words.specs.Pairs.{lowIn, highIn, Paired}
 use Rattle.words.proofs.Numbers.{bytes-drop, length-padded, length-le}
 use Rattle.words.proofs.Parts.{length-part}
 use Rattle.words.proofs.NumLaws.{part-lt, num-one}
-use Rattle.schema.specs.Marks.{types}
-use Rattle.schema.specs.Types.{Fixed, bo, width, fixedPlace, fixedAt, Text, st, Ty, fix, text, li, ma, ro, Tys, mark}
-use Rattle.schema.proofs.Table.{width-pos, width-8, line-width, place-fixed}
+use Rattle.schema.specs.Types.{Fixed, width, fixedAt, Text, st, Ty, fix, text, li, ma, ro, Tys, mark}
+use Rattle.schema.proofs.Table.{width-pos, width-8, line-width, place-fixed, bool-one}
 use Rattle.layout.specs.Cells.{Cell, null, leaf, node, onNull, flag}
 use Rattle.layout.specs.Layout.{Codec, Kid, number, string, inside, outside, kidOf, kid, kidTail, array, pair, struct, limit, codec, content}
 use Rattle.layout.specs.Listing.{nu, item, runGet, structScript, listScript, mapScript, element, script}
@@ -25,7 +24,7 @@ use Rattle.layout.proofs.Cells.{parts-node, present, leaf-bytes}
 use Rattle.layout.proofs.Containers.{codec-lawful}
 use Rattle.layout.proofs.Items.{Listed}
 use Rattle.layout.proofs.Listed.{script-lawful, not-nu}
-use Rattle.layout.proofs.Widths.{limit-free}
+use Rattle.layout.proofs.Widths.{limit-free, bool-two}
 use Rattle.table.specs.Words.{widthIn, placeIn}
 use Rattle.measuring.specs.Measure.{tailLen, size, Gives, BodyTold, ChildTold, ArrayTold, FieldsTold, NullTold, OnlyNull, Goes, FixedCan, TextCan}
 use Rattle.measuring.proofs.Packs.{paired-bare, told-none, told-gives, told-as}
@@ -43,15 +42,15 @@ pub tail-varies : (t : Ty) → codec t .wide ≡ none → (c : Cell) → tailLen
 unfolding tailLen size kidOf outside
 tail-varies t e c = rw e (length-padded (content t c))
 
-pub text-none : (t : Text) → codec (text t) .wide ≡ none
+text-none : (t : Text) → codec (text t) .wide ≡ none
 unfolding codec string
 text-none t = refl
 
-pub li-none : (t : Ty) → codec (li t) .wide ≡ none
+li-none : (t : Ty) → codec (li t) .wide ≡ none
 unfolding codec array
 li-none t = refl
 
-pub ma-none : (k v : Ty) → codec (ma k v) .wide ≡ none
+ma-none : (k v : Ty) → codec (ma k v) .wide ≡ none
 unfolding codec pair
 ma-none k v = refl
 
@@ -59,27 +58,15 @@ pub ro-none : (ts : Tys) → codec (ro ts) .wide ≡ none
 unfolding codec struct
 ro-none ts = refl
 
-pub text-size : (u : List ℕ) → size (text st) (leaf u) ≡ length u
+text-size : (u : List ℕ) → size (text st) (leaf u) ≡ length u
 unfolding size codec string
 text-size u = ap length (leaf-bytes u)
 
 -- contents of whole words are not padded
-pub tail-whole : (t : Ty) (c : Cell) (n : ℕ) → codec t .wide ≡ none → n ≡ size t c → n % 8 ≡ 0 → n ≡ tailLen t c
+tail-whole : (t : Ty) (c : Cell) (n : ℕ) → codec t .wide ≡ none → n ≡ size t c → n % 8 ≡ 0 → n ≡ tailLen t c
 tail-whole t c n e s w = omega (arith, tail-varies t e c)
 
 -- ---- numbers of fixed width, in the words of the code: x is the width that the entry says
-
-bool-at : (k : ℕ) → k ≡ 0 → fixedAt k ≡ bo
-unfolding fixedAt
-bool-at k e = rw e
-
-bool-one : (k : ℕ) → k ≡ 0 → width (fixedAt k) ≡ 1
-unfolding width types fixedPlace
-bool-one k e = ap width (bool-at k e)
-
-bool-two : (k : ℕ) → k ≡ 0 → limit (fixedAt k) ≡ 2
-unfolding limit
-bool-two k e = ap limit (bool-at k e)
 
 module _ {w : ℕ} {l : List ℕ} {from : ℕ} (p : FixedCan w l from) where
   abbrev f : Fixed
@@ -204,7 +191,7 @@ null-tail : (k : Kid) (u : List ℕ) → 0 ≡ length (kidTail k (null u))
 unfolding onNull
 null-tail k u = refl
 
-nu-is : num nu ≡ 30062
+pub nu-is : num nu ≡ 30062
 unfolding num
 nu-is = refl
 

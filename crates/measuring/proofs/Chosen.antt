@@ -14,18 +14,17 @@ use Rattle.schema.specs.Marks.{markAt}
 use Rattle.schema.specs.Types.{Ty, fix, st, text, fixedAt, textAt, place, mark}
 use Rattle.schema.specs.Walk.{Typed, nextAt, ListAt, MapAt, StructAt}
 use Rattle.schema.proofs.Typing.{typed-deep}
-use Rattle.schema.proofs.Places.{place-li, place-ma, place-ro, fixed-of, text-of}
+use Rattle.schema.proofs.Places.{fixed-of, text-of}
 use Rattle.layout.specs.Listing.{script}
 use Rattle.table.specs.Words.{Lined, placeIn, markIn, widthIn, countIn, afterIn}
-use Rattle.table.specs.Tables.{Stands, EntryAt, schemaOf, posOf}
-use Rattle.table.proofs.Places.{place-room, table-short}
+use Rattle.table.specs.Tables.{InTable, EntryAt, schemaOf, posOf, typeOf, typesOf}
+use Rattle.table.proofs.Places.{place-room, table-short, entry-place, entry-list, entry-map, entry-struct}
 use Rattle.measuring.specs.Measure.{Gives, tailLen, BodyTold, ChildTold, LeafTold, ArrayTold, FieldsTold, NullTold, OnlyNull}
 use Rattle.measuring.specs.Measure.{Goes, FixedCan, TextCan, ChildCan, ListsCan, ArrayCan, FieldsCan}
 use Rattle.measuring.proofs.Packs.{told-gives, gives-low, gives-high}
 use Rattle.measuring.proofs.Bodies.{text-any, fixed-short, fixed-free, bool-high, bool-good, texts-short, texts-cut, texts-good}
 use Rattle.measuring.proofs.Bodies.{child-only, child-unmarked, child-body, struct-told}
 use Rattle.measuring.proofs.Bodies.{list-short, map-short, list-told, map-keys, map-values, map-gives}
-use Rattle.measuring.proofs.Loops.{typeOf, typesOf, entry-place}
 
 -- an entry has its type's mark
 own-mark : {w x : ℕ} (t : Ty) → Lined w → x ≡ markIn w → placeIn w ≡ place t → x ≡ num (mark t)
@@ -100,7 +99,7 @@ child-rank d e = omega arith
 pub lists-rank : (d : ℕ) {m : ℕ} → 3 * d + 1 ≡ m → 3 * d < m
 lists-rank d e = omega arith
 
-module _ {t : List ℕ} {c d : ℕ} (s : Stands t c d) where
+module _ {t : List ℕ} {c d : ℕ} (s : InTable t c d) where
   pub child-deep : 1 ≤ d
   child-deep = typed-deep (schemaOf t) (posOf t c) d (s .typed)
 
@@ -133,9 +132,7 @@ module _ {t : List ℕ} {c d : ℕ} {l : List ℕ} {from : ℕ} (p : ChildCan t 
   module _ {k : ℕ} (ek : k ≡ placeIn w) where
     module _ (z : k ≡ 11) {n : ℕ} (en : n ≡ countIn w) where
       struct-at : StructAt (schemaOf t) (posOf t c) d (posOf t (c + 1)) n
-      struct-at =
-          let y : placeIn w ≡ 11 = sym ek ∙ z in
-          rw (e .first y) (place-ro (schemaOf t) (posOf t c) d (p .stands .typed) (placeIn w) (e .place) y n (en ∙ e .count y))
+      struct-at = entry-struct (p .stands) e (sym ek ∙ z) en
 
       pub struct-can : FieldsCan t (c + 1) n (d - 1) l (from + 2)
       struct-can = record { table = p .stands .table; typed = struct-at .fields; low = struct-at .low; high = struct-at .high; goes = behind }
@@ -162,18 +159,13 @@ pub keys-fit : {u : Ty} {l : List ℕ} {from n a : ℕ} → ArrayTold u l from n
 keys-fit x ne s e = let g = x .told .good ne in omega (arith, g .small, g .inside)
 
 module _ {t : List ℕ} {c d w : ℕ} {l : List ℕ} {from : ℕ} (p : ListsCan t c d w l from) where
-  inner : posOf t (c + 1) ≡ posOf t c + 2
-  inner = p .entry .child (λ q. absurd (omega (arith, p .high)))
-
   list-at : placeIn w ≡ 9 → ListAt (schemaOf t) (posOf t c) d (posOf t (c + 1))
-  list-at z = rw inner (place-li (schemaOf t) (posOf t c) d (p .stands .typed) (placeIn w) (p .entry .place) z)
+  list-at = entry-list (p .stands) (p .entry)
 
   map-at : (placeIn w ≡ 9 → ⊥) → MapAt (schemaOf t) (posOf t c) d (posOf t (c + 1)) (nextAt (schemaOf t) (posOf t (c + 1)) (d - 1))
-  map-at f =
-      let z : placeIn w ≡ 10 = omega (arith, p .low, p .high) in
-      rw inner (place-ma (schemaOf t) (posOf t c) d (p .stands .typed) (placeIn w) (p .entry .place) z)
+  map-at f = entry-map (p .stands) (p .entry) (omega (arith, p .low, p .high))
 
-  pub keys-stand : Stands t (c + 1) (d - 1)
+  pub keys-stand : InTable t (c + 1) (d - 1)
   keys-stand = record { table = p .stands .table; typed = go (ℕ-discrete (placeIn w) 9) }
     where
       go : Dec (placeIn w ≡ 9) → Typed (schemaOf t) (posOf t (c + 1)) (d - 1)

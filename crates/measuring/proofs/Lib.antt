@@ -1,9 +1,9 @@
 -- The laws that the proofs of `measuring` cite.
 pub mod Records
-pub mod Packs
-pub mod Sizes
+mod Packs
+mod Sizes
 pub mod Bodies
 pub mod Totals
-pub mod Loops
+mod Loops
 pub mod Chosen
-pub mod Whole
+mod Whole

@@ -12,26 +12,20 @@ use Rattle.words.specs.Bytes.{Bytes, pad, bitmap}
 use Rattle.words.specs.Pairs.{lowIn, highIn, Paired}
 use Rattle.schema.specs.Marks.{elementWidth}
 use Rattle.schema.specs.Types.{Ty, li, ro, Tys, count, place, mark}
-use Rattle.schema.specs.Walk.{typeAt, TypedAll, typesAt, nextAt}
+use Rattle.schema.specs.Walk.{TypedAll, typesAt, nextAt}
 use Rattle.schema.proofs.Typing.{typed-more, typed-done, typed-count}
-use Rattle.schema.proofs.Places.{typed-place}
 use Rattle.layout.specs.Cells.{node}
 use Rattle.layout.specs.Layout.{kid, slotOf, codec, kids}
 use Rattle.layout.specs.Listing.{item, runGet, script, scripts}
 use Rattle.layout.proofs.Widths.{element-wide, slot-small}
 use Rattle.table.specs.Words.{Lined, placeIn, afterIn}
-use Rattle.table.specs.Tables.{Stands, EntryAt, schemaOf, posOf}
+use Rattle.table.specs.Tables.{InTable, EntryAt, schemaOf, posOf, typeOf, typesOf}
+use Rattle.table.proofs.Places.{entry-place}
 use Rattle.measuring.specs.Measure.{Gives, size, ChildTold, LeafTold, ArrayTold, FieldsTold, Goes, FixedCan, TextCan, ChildCan, ArrayCan, FieldsCan}
 use Rattle.measuring.proofs.Packs.{told-none, told-gives, gives-high}
 use Rattle.measuring.proofs.Totals.{totalOf, total-none, total-some, Going, going-start, going-next, going-bad, going-end}
 use Rattle.measuring.proofs.Totals.{replicate-more, replicate-none, elementKid, elementScript, array-fit, array-size}
 use Rattle.measuring.proofs.Totals.{kids-then, scripts-then, kids-end, scripts-end, fields-fit, fields-size}
-
-abbrev pub typeOf : List ℕ → ℕ → ℕ → Ty
-typeOf t c d = typeAt (schemaOf t) (posOf t c) d
-
-abbrev pub typesOf : List ℕ → ℕ → ℕ → ℕ → Tys
-typesOf t c d n = typesAt (schemaOf t) (posOf t c) d n
 
 -- ---- a child in a loop: the listing goes on at pos, w is its type's entry, and k the type's place in the table of types
 
@@ -42,16 +36,13 @@ module _ {k w : ℕ} (ek : k ≡ placeIn w) {l : List ℕ} {pos : ℕ} (g : Goes
   pub is-text : Lined w → 7 ≤ k → {j : ℕ} → j ≡ placeIn w → j < 9 → TextCan w l pos
   is-text h low ej high = record { lined = h; low = omega arith; high = omega arith; goes = g }
 
-  pub is-child : {t : List ℕ} {c d : ℕ} → Stands t c d → EntryAt t c d w → 9 ≤ k → ChildCan t c d l pos
+  pub is-child : {t : List ℕ} {c d : ℕ} → InTable t c d → EntryAt t c d w → 9 ≤ k → ChildCan t c d l pos
   is-child s e many = record { stands = s; holds = omega (arith, e .place); goes = g }
 
-module _ {t : List ℕ} {c d w : ℕ} (s : Stands t c d) (e : EntryAt t c d w) where
-  pub entry-place : placeIn w ≡ place (typeOf t c d)
-  entry-place = e .place ∙ typed-place (schemaOf t) (posOf t c) d (s .typed)
-
+module _ {t : List ℕ} {c d w : ℕ} (s : InTable t c d) (e : EntryAt t c d w) where
   -- it was measured as q, which is r where the branches meet
   pub leaf-came : {l : List ℕ} {pos q r : ℕ} → LeafTold (placeIn w) l pos q → r ≡ q → ChildTold (typeOf t c d) l pos r
-  leaf-came x er = rw er (x .any _ entry-place)
+  leaf-came x er = rw er (x .any _ (entry-place s e))
 
 pub child-came : {u : Ty} {l : List ℕ} {pos q r : ℕ} → ChildTold u l pos q → r ≡ q → ChildTold u l pos r
 child-came x er = rw er x
@@ -174,7 +165,7 @@ module _ {t : List ℕ} {first n d : ℕ} {l : List ℕ} {from c left pos sum : 
     abbrev rest : Tys
     rest = typesAt (schemaOf t) on d (left - 1)
 
-    pub field-stands : Stands t c d
+    pub field-stands : InTable t c d
     field-stands = record { table = g .can .table; typed = typed-more (schemaOf t) (posOf t c) d left (g .typed) (omega arith) .first }
 
     field-one : Going (fieldsTotal (typesOf t first d n) l from) (kid 8 (codec (typeOf t c d)) ∷ kids rest)

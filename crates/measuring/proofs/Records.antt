@@ -1,7 +1,7 @@
 -- A listing's records read at a position. Assumes nothing.
 use mathlib.Core.Path.{_≡_, refl, _∙_}
 use mathlib.Core.Logic.{_≢_}
-use mathlib.Core.Option.{Option, none, some}
+use mathlib.Core.Option.{none, some}
 use mathlib.Core.List.{List}
 use Prim.Native.Nat.{ℕ, _+_, _-_, _≤_, _<_}
 use native.Mathlib.Omega.{arith}
@@ -10,9 +10,10 @@ use lib.ListN.{length, drop, length-drop}
 use lib.Seq.{drop-drop}
 use Rattle.words.specs.Bytes.{num, part, zeros}
 use Rattle.layout.specs.Reader.{assert, cut}
-use Rattle.layout.specs.Cells.{Cell, null, leaf}
-use Rattle.layout.specs.Listing.{nu, Script, numberScript, textScript, marked, nullOr, item}
+use Rattle.layout.specs.Cells.{null, leaf}
+use Rattle.layout.specs.Listing.{nu, Script, numberScript, textScript, marked, item}
 use Rattle.layout.proofs.Reader.{assert-yes}
+use Rattle.layout.proofs.Items.{null-yes, null-no}
 
 pub assert-no : {P : Type 0} (d : Dec P) → ¬ P → assert d ≡ none
 unfolding assert
@@ -27,16 +28,6 @@ module _ (n : ℕ) (l : List ℕ) (at : ℕ) where
   pub cut-at : n ≤ length l - at → cut n (drop at l) ≡ some (part l at n, drop (at + n) l)
   unfolding cut
   cut-at h = rw (assert-yes (decLe n (length (drop at l))) (rw length-drop h), drop-drop n at l)
-
-null-yes : {P : Type 0} (w : ℕ) (d : Dec P) (r : List ℕ) (o : Option (Cell × List ℕ)) → P → nullOr w d r o ≡ some (null (zeros w), r)
-unfolding nullOr
-null-yes w (yes p) r o h = refl
-null-yes w (no n) r o h = absurd (n h)
-
-null-no : {P : Type 0} (w : ℕ) (d : Dec P) (r : List ℕ) (o : Option (Cell × List ℕ)) → ¬ P → nullOr w d r o ≡ o
-unfolding nullOr
-null-no w (yes p) r o h = absurd (h p)
-null-no w (no n) r o h = refl
 
 -- ---- a child: nu, or its mark and its contents
 

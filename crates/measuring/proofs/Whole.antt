@@ -11,8 +11,7 @@ use Rattle.words.specs.Reads.{Reads}
 use Rattle.words.specs.Pairs.{lowIn, highIn}
 use Rattle.schema.specs.Marks.{types, markAt}
 use Rattle.schema.specs.Types.{Ty, ro, Tys, count, place, mark}
-use Rattle.schema.specs.Walk.{Typed, typeAt, fieldsOf}
-use Rattle.schema.proofs.Places.{typed-place}
+use Rattle.schema.specs.Walk.{fieldsOf}
 use Rattle.schema.proofs.Judging.{accepted-root}
 use Rattle.layout.specs.Reader.{_>>=_, assert, cut}
 use Rattle.layout.specs.Cells.{Cell, node}
@@ -23,21 +22,17 @@ use Rattle.layout.proofs.Reader.{assert-yes}
 use Rattle.layout.proofs.Children.{tails-eight}
 use Rattle.layout.proofs.Containers.{kids-lawful}
 use Rattle.layout.proofs.Listed.{not-nu}
-use Rattle.table.specs.Tables.{Table, schemaOf, posOf}
+use Rattle.table.specs.Tables.{Table, schemaOf, typeOf}
+use Rattle.table.proofs.Places.{root-stands, root-whole, root-place}
 use Rattle.measuring.specs.Measure.{size, Gives, ChildTold, ChildCan}
 use Rattle.measuring.specs.Row.{RowTold}
 use Rattle.measuring.proofs.Records.{assert-no, cut-short, cut-at, item-body}
 use Rattle.measuring.proofs.Bodies.{tail-varies, ro-none, tail-here, read-here}
 use Rattle.measuring.proofs.Totals.{fields-fit, fields-size}
-use Rattle.measuring.proofs.Loops.{typeOf}
 
 ro-mark : (ts : Tys) → num (mark (ro ts)) ≡ 28530
 unfolding mark markAt types place num
 ro-mark ts = refl
-
-ro-place : (ts : Tys) → place (ro ts) ≡ 11
-unfolding place
-ro-place ts = refl
 
 -- ---- the row of a listing
 
@@ -51,7 +46,7 @@ bound t none = refl
 bound t (some c) = refl
 
 module _ (s l : List ℕ) where
-  pub image-long : 65536 < length l → imageOf s l ≡ none
+  image-long : 65536 < length l → imageOf s l ≡ none
   unfolding imageOf
   image-long h = rw (assert-no (decLe (length l) 65536) (λ p. omega arith))
 
@@ -66,7 +61,7 @@ module _ (s l : List ℕ) where
     as-parsed : (o : Option Cell) → parse root l ≡ o → imageOf s l ≡ image-of root o
     as-parsed o e = whole-is ∙ ap (image-of root) e
 
-    pub image-short : length l < 2 → imageOf s l ≡ none
+    image-short : length l < 2 → imageOf s l ≡ none
     unfolding parse image-of
     image-short h = as-parsed none (rw (cut-short 2 l 0 (omega arith)))
 
@@ -74,7 +69,7 @@ module _ (s l : List ℕ) where
       two : cut 2 l ≡ some (part l 0 2, drop 2 l)
       two = cut-at 2 l 0 (omega arith)
 
-      pub image-other : (num (part l 0 2) ≡ 28530 → ⊥) → imageOf s l ≡ none
+      image-other : (num (part l 0 2) ≡ 28530 → ⊥) → imageOf s l ≡ none
       unfolding parse marked image-of
       image-other f = as-parsed none (rw (two, assert-no (ℕ-discrete (num (part l 0 2)) (num (mark root))) (λ e. f (e ∙ ro-mark (fieldsOf s)))))
 
@@ -82,18 +77,18 @@ module _ (s l : List ℕ) where
         root-marked : assert (ℕ-discrete (num (part l 0 2)) (num (mark root))) ≡ some tt
         root-marked = assert-yes (ℕ-discrete (num (part l 0 2)) (num (mark root))) (e ∙ sym (ro-mark (fieldsOf s)))
 
-        pub image-bad : script root .get (drop 2 l) ≡ none → imageOf s l ≡ none
+        image-bad : script root .get (drop 2 l) ≡ none → imageOf s l ≡ none
         unfolding parse marked image-of
         image-bad b = as-parsed none (rw (two, root-marked, b))
 
         module _ (c : Cell) (next : ℕ) (b : script root .get (drop 2 l) ≡ some (c, drop next l)) where
-          pub image-left : next ≤ length l → (next ≡ length l → ⊥) → imageOf s l ≡ none
+          image-left : next ≤ length l → (next ≡ length l → ⊥) → imageOf s l ≡ none
           unfolding parse marked image-of
           image-left i f =
               as-parsed none
               (rw (two, root-marked, b, assert-no (ℕ-discrete (length (drop next l)) 0) (λ z. f (omega (arith, length-drop next l)))))
 
-          pub image-good : next ≡ length l → imageOf s l ≡ some (content root c)
+          image-good : next ≡ length l → imageOf s l ≡ some (content root c)
           unfolding parse marked image-of
           image-good f = as-parsed (some c) (rw (two, root-marked, b, assert-yes (ℕ-discrete (length (drop next l)) 0) (omega (arith, length-drop next l))))
 
@@ -141,16 +136,6 @@ zero-next r e = rw e
 -- ---- in the words of the code
 
 module _ {t : List ℕ} (h : Table t) where
-  first-pos : posOf t 0 ≡ 0
-  unfolding posOf schemaOf
-  first-pos = refl
-
-  root-typed : Typed (schemaOf t) (posOf t 0) 8
-  root-typed = subst (λ (j : ℕ). Typed (schemaOf t) j 8) (sym first-pos) (accepted-root (schemaOf t) (h .accepted) .typed)
-
-  root-type : typeOf t 0 8 ≡ ro (fieldsOf (schemaOf t))
-  root-type = ap (λ (j : ℕ). typeAt (schemaOf t) j 8) first-pos ∙ accepted-root (schemaOf t) (h .accepted) .whole
-
   pub row-long : {l : List ℕ} → 65536 < length l → RowTold (schemaOf t) l 0
   row-long {l} g = record { refused = λ _. image-long (schemaOf t) l g; good = λ ne. absurd (ne refl) }
 
@@ -162,13 +147,11 @@ module _ {t : List ℕ} (h : Table t) where
     row-short g = row-none (image-short (schemaOf t) l hl g)
 
     pub row-can : ChildCan t 0 8 l 0
-    row-can =
-        let p = typed-place (schemaOf t) (posOf t 0) 8 root-typed ∙ ap place root-type ∙ ro-place (fieldsOf (schemaOf t)) in
-        record {
-          stands = record { table = h; typed = root-typed };
-          holds = omega (arith, p);
-          goes = record { inside = omega arith; short = hl };
-        }
+    row-can = record {
+      stands = root-stands h;
+      holds = omega (arith, root-place h);
+      goes = record { inside = omega arith; short = hl };
+    }
 
     module _ (h2 : 2 ≤ length l) {m : ℕ} (em : Reads l 0 2 m) where
       pub row-other : (m ≡ 28530 → ⊥) → RowTold (schemaOf t) l 0
@@ -180,7 +163,7 @@ module _ {t : List ℕ} (h : Table t) where
         fs = fieldsOf (schemaOf t)
 
         there : ChildTold (ro fs) l 0 r
-        there = subst (λ (u : Ty). ChildTold u l 0 r) root-type x
+        there = subst (λ (u : Ty). ChildTold u l 0 r) (root-whole h) x
 
         first-mark : num (part l 0 2) ≡ 28530
         first-mark = sym (em .is) ∙ e

@@ -7,6 +7,7 @@ use Prim.Native.Nat.{ℕ, _+_, _*_, _-_, _%_, _≤_, _<_}
 use lib.ListN.{length, drop, replicate}
 use Rattle.words.specs.Bytes.{num, part}
 use Rattle.words.specs.Pairs.{lowIn, highIn}
+use Rattle.schema.specs.Marks.{STRING, LIST, STRUCT}
 use Rattle.schema.specs.Types.{Ty, li, ro, Tys, mark, place}
 use Rattle.schema.specs.Kinds.{placeAt}
 use Rattle.schema.specs.Walk.{TypedAll}
@@ -14,7 +15,7 @@ use Rattle.layout.specs.Cells.{Cell, node}
 use Rattle.layout.specs.Layout.{kidOf, kid, kidTail, codec, content}
 use Rattle.layout.specs.Listing.{item, runGet, element, script, scripts}
 use Rattle.table.specs.Words.{Lined, placeIn}
-use Rattle.table.specs.Tables.{Table, Stands, EntryAt, schemaOf, posOf}
+use Rattle.table.specs.Tables.{Table, InTable, EntryAt, schemaOf, posOf}
 
 -- ---- what it says: in one number, where the listing goes on in the low half and the bytes in the high half, 0 where it is refused
 
@@ -78,31 +79,31 @@ pub record Goes (l : List ℕ) (from : ℕ) : Type 0 where
 -- a number of fixed width, and a text, by its entry w
 pub record FixedCan (w : ℕ) (l : List ℕ) (from : ℕ) : Type 0 where
   pub lined : Lined w
-  pub fixed : placeIn w < 7
+  pub fixed : placeIn w < STRING
   pub goes : Goes l from
 
 pub record TextCan (w : ℕ) (l : List ℕ) (from : ℕ) : Type 0 where
   pub lined : Lined w
-  pub low : 7 ≤ placeIn w
-  pub high : placeIn w < 9
+  pub low : STRING ≤ placeIn w
+  pub high : placeIn w < LIST
   pub goes : Goes l from
 
 -- a container stands at place c of the table, at most d deep
 pub record ChildCan (t : List ℕ) (c d : ℕ) (l : List ℕ) (from : ℕ) : Type 0 where
-  pub stands : Stands t c d
-  pub holds : 9 ≤ placeAt (schemaOf t) (posOf t c)
+  pub stands : InTable t c d
+  pub holds : LIST ≤ placeAt (schemaOf t) (posOf t c)
   pub goes : Goes l from
 
 -- a list or a map, whose entry is w
 pub record ListsCan (t : List ℕ) (c d w : ℕ) (l : List ℕ) (from : ℕ) : Type 0 where
-  pub stands : Stands t c d
+  pub stands : InTable t c d
   pub entry : EntryAt t c d w
-  pub low : 9 ≤ placeIn w
-  pub high : placeIn w < 11
+  pub low : LIST ≤ placeIn w
+  pub high : placeIn w < STRUCT
   pub goes : Goes l from
 
 pub record ArrayCan (t : List ℕ) (c d : ℕ) (l : List ℕ) (from n : ℕ) : Type 0 where
-  pub stands : Stands t c d
+  pub stands : InTable t c d
   pub goes : Goes l from
   pub few : n < 4294967296
 

@@ -13,8 +13,9 @@ use Rattle.io.specs.Digits.{glyph}
 use Rattle.words.specs.Bytes.{part}
 use Rattle.words.proofs.Parts.{length-part, part-snoc}
 use Rattle.chart.specs.Claims.{whatAt, held, stepsAt}
+use Rattle.chart.proofs.Claiming.{held-few}
 use Rattle.lettering.specs.Text.{hex, path, Puts}
-use Rattle.lettering.proofs.Putting.{puts-none, puts-then, puts-as}
+use Rattle.lettering.proofs.Putting.{puts-none, puts-then, puts-as, less-one}
 use Rattle.lettering.proofs.Lengths.{hex-length, path-most}
 use Rattle.picture.specs.Picture.{spaces, right, spaced, onLine, word, padding, link, linked, label, labelled, lineOf, mark, under, behind, faultOf}
 
@@ -41,9 +42,6 @@ pub spaces-all : {a b : List ℕ} {at r : ℕ} (i n : ℕ) → i ≤ n → n ≤
 spaces-all i n l g p = let e : i ≡ n = omega arith in puts-as (ap spaces e) p
 
 -- ---- a number in its columns
-
-less-one : (k : ℕ) → suc k - 1 ≡ k
-less-one k = omega arith
 
 right-of : (t : Bool) (k g h : ℕ) (l : List ℕ) → length l ≡ k → length (cond t (spaces k ++ (g ∷ [])) (l ++ (h ∷ []))) ≡ suc k
 right-of true k g h l e = length-append (spaces k) (g ∷ []) ∙ rw (spaces-length k) (omega arith)
@@ -209,19 +207,12 @@ labelled-most k w p h =
     let some = length-append (spaces (3 * (8 - k) + 2)) (label w p) in
     either-most (eqb w 0) 392 [] _ (omega arith) (omega (arith, some, spaces-length (3 * (8 - k) + 2), label-most w p h))
 
-held-most : (n : ℕ) → held n ≤ 16
-held-most n = go (ltb n 16) refl
-  where
-    go : (t : Bool) → ltb n 16 ≡ t → cond t n 16 ≤ 16
-    go true e = omega (arith, ltb-true n 16 e)
-    go false e = omega arith
-
 take-most : (n : ℕ) (l : List ℕ) → n ≤ 16 → length (take n l) ≤ 16
 take-most n l h = rw length-take (omega arith)
 
 pub steps-most : (m : List ℕ) (u : ℕ) → length (stepsAt m u) ≤ 16
 unfolding stepsAt
-steps-most m u = take-most (held (getD m (18 * u + 1) 0)) (drop (18 * u + 2) m) (held-most (getD m (18 * u + 1) 0))
+steps-most m u = take-most (held (getD m (18 * u + 1) 0)) (drop (18 * u + 2) m) (held-few (getD m (18 * u + 1) 0))
 
 -- ---- a line
 
@@ -244,7 +235,7 @@ line-most row m u h =
 
 -- ---- the mark
 
-pub mark-most : (place : ℕ) → length (mark place) ≤ 31
+mark-most : (place : ℕ) → length (mark place) ≤ 31
 unfolding mark
 mark-most place = omega (arith, length-append (spaces (7 + 3 * (place % 8))) (94 ∷ 94 ∷ 10 ∷ []), spaces-length (7 + 3 * (place % 8)))
 

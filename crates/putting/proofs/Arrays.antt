@@ -24,10 +24,9 @@ use Rattle.layout.proofs.Children.{AllLawful, all-length}
 use Rattle.layout.proofs.Containers.{repeat, element-lawful}
 use Rattle.layout.proofs.Widths.{element-wide, slot-small}
 use Rattle.table.specs.Words.{placeIn, widthIn}
-use Rattle.table.specs.Tables.{schemaOf, posOf, EntryAt}
-use Rattle.measuring.specs.Measure.{size}
+use Rattle.table.specs.Tables.{schemaOf, posOf, EntryAt, typeOf}
 use Rattle.measuring.proofs.Totals.{replicate-more, replicate-none, array-fit, array-size}
-use Rattle.putting.specs.Put.{typeIn, PutArray, ArrayWrote, FrontCan, frontOf}
+use Rattle.putting.specs.Put.{PutArray, ArrayWrote, FrontCan, frontOf}
 use Rattle.putting.proofs.Slots.{Octets}
 use Rattle.putting.proofs.Paint.{paint, body-is}
 use Rattle.putting.proofs.Paints.{size-is, cellsOf, restOf, Paints}
@@ -71,7 +70,7 @@ pub record ArrayPaints (t : List ℕ) (c d e w k n : ℕ) (l : List ℕ) (from p
   pub entry : EntryAt t c d e
   width : w ≡ elementWidth (placeIn e)
   pub kind : k ≡ placeIn e
-  paints : ArrayLeft (typeIn t c d) w n l from pos x₀ x i from₁ slot cur
+  paints : ArrayLeft (typeOf t c d) w n l from pos x₀ x i from₁ slot cur
   pub long : length x ≡ length x₀
 
 -- there is a next one
@@ -89,7 +88,7 @@ more K S {i = i} {n = n} g h =
 module _ {t : List ℕ} {c d : ℕ} {l : List ℕ} {from n pos len : ℕ} (p : PutArray t c d l from n pos len) (o : Octets l) {e w : ℕ}
     (en : EntryAt t c d e) (ew : w ≡ elementWidth (placeIn e)) where
   abbrev T : Ty
-  T = typeIn t c d
+  T = typeOf t c d
 
   width-is : w ≡ slotOf (codec T .wide)
   width-is = ew ∙ element-wide T (placeIn e) (en .place ∙ typed-place (schemaOf t) (posOf t c) d (p .stands .typed))
@@ -154,7 +153,7 @@ pub array-begins : {t : List ℕ} {c d : ℕ} {l : List ℕ} {from n pos len : �
 unfolding cellsOf restOf
 array-begins {t} {c} {d} {l} {from} {n} {pos} {len} p′ o {e} {w} {k} en ew ek {bits} {room} eb es {x₀} el =
     let z : n - 0 ≡ n = omega arith in
-    let T = typeIn t c d in
+    let T = typeOf t c d in
     let p : PutArray t c d l from n pos (length x₀) = rw el p′ in
     let a = array-at p o en ew in
     let q : ArrayLeft T w n l from pos x₀ x₀ 0 from (pos + 8 + bits) (pos + 8 + bits + room) =
@@ -175,7 +174,7 @@ array-begins {t} {c} {d} {l} {from} {n} {pos} {len} p′ o {e} {w} {k} en ew ek 
 module _ {t : List ℕ} {c d e w k n : ℕ} {l : List ℕ} {from pos : ℕ} {x₀ x : List ℕ} {i from₁ slot cur : ℕ}
     (g : ArrayPaints t c d e w k n l from pos x₀ x i from₁ slot cur) where
   abbrev itemTy : Ty
-  itemTy = typeIn t c d
+  itemTy = typeOf t c d
 
   -- a number's width is its element's
   pub array-width : k < 7 → w ≡ widthIn e

@@ -14,7 +14,6 @@ use Rattle.words.proofs.Numbers.{slice-bytes}
 use Rattle.schema.specs.Types.{Ty, ro, Tys, _then_, count, mark}
 use Rattle.schema.specs.Walk.{Typed, typeAt, TypedAll, typesAt, nextAt, StructAt}
 use Rattle.schema.proofs.Typing.{typed-more, typed-done, typed-count}
-use Rattle.schema.proofs.Places.{place-ro}
 use Rattle.layout.specs.Cells.{Cell, node}
 use Rattle.layout.specs.Layout.{kid, tails, AllFit, struct, codec, kids, content, bodyPut}
 use Rattle.layout.specs.Listing.{item, runGet, structScript, script, scripts}
@@ -22,11 +21,12 @@ use Rattle.layout.proofs.Cells.{parts-node}
 use Rattle.layout.proofs.Children.{tails-eight}
 use Rattle.layout.proofs.Containers.{kids-lawful, kids-count}
 use Rattle.layout.proofs.Widths.{slot-small}
-use Rattle.table.specs.Words.{placeIn, countIn, afterIn}
-use Rattle.table.specs.Tables.{schemaOf, posOf, EntryAt}
+use Rattle.table.specs.Words.{countIn, afterIn}
+use Rattle.table.specs.Tables.{schemaOf, posOf, EntryAt, typeOf}
+use Rattle.table.proofs.Places.{entry-struct}
 use Rattle.measuring.specs.Measure.{size}
 use Rattle.measuring.proofs.Totals.{kids-then, scripts-then, kids-end, scripts-end, fields-fit, fields-size}
-use Rattle.putting.specs.Put.{Ready, typeIn, ClearCan, Held, PutStruct}
+use Rattle.putting.specs.Put.{Ready, ClearCan, Held, PutStruct}
 use Rattle.putting.proofs.Given.{given-fields, given-two, run-first}
 use Rattle.putting.proofs.Slots.{Octets, padded-whole}
 use Rattle.putting.proofs.Paint.{paint, body-is}
@@ -76,7 +76,7 @@ pub record FieldsPaints (t : List ℕ) (c d n : ℕ) (l : List ℕ) (from pos : 
 -- there is a next one, at depth d
 module _ (t : List ℕ) (field d i n : ℕ) (all : TypedAll (schemaOf t) (posOf t field) d (n - i)) (h : i < n) where
   abbrev fieldTy : Ty
-  fieldTy = typeIn t field d
+  fieldTy = typeOf t field d
 
   abbrev others : Tys
   others = typesAt (schemaOf t) (nextAt (schemaOf t) (posOf t field) d) d (n - (i + 1))
@@ -98,9 +98,7 @@ module _ (t : List ℕ) (field d i n : ℕ) (all : TypedAll (schemaOf t) (posOf 
 -- e is the struct's entry, and n the count of its fields
 module _ {t : List ℕ} {c d : ℕ} {l : List ℕ} {from pos len : ℕ} (p : PutStruct t c d l from pos len) {e n : ℕ} (en : EntryAt t c d e) (ec : n ≡ countIn e) where
   at-struct : StructAt (schemaOf t) (posOf t c) d (posOf t (c + 1)) n
-  at-struct =
-      let k : placeIn e ≡ 11 = en .place ∙ p .struct in
-      rw (en .first k) (place-ro (schemaOf t) (posOf t c) d (p .put .stands .typed) (placeIn e) (en .place) k n (ec ∙ en .count k))
+  at-struct = entry-struct (p .put .stands) en (en .place ∙ p .struct) ec
 
   pub fields-many : n < 2 ^ 32
   fields-many = omega (arith, at-struct .high)
@@ -133,7 +131,7 @@ module _ {t : List ℕ} {c d : ℕ} {l : List ℕ} {from pos len : ℕ} (p : Put
   field-next {field} {i} all q el = record {
     answer = paints-answer q (p .put .short) (omega (arith, p .put .small));
     child = λ h.
-        let T = typeIn t field (d - 1) in
+        let T = typeOf t field (d - 1) in
         record {
           stands = record { table = p .put .stands .table; typed = law-of t field (d - 1) i n all h .1 };
           wide = slot-small T;
@@ -213,7 +211,7 @@ module _ {t : List ℕ} {c d n : ℕ} {l : List ℕ} {from pos : ℕ} {x₀ x : 
       let all : TypedAll (schemaOf t) (posOf t field₁) (d - 1) (n - (i + 1)) = rw at (law-of t field (d - 1) i n (g .typed) h .2) in
       let us = typesAt (schemaOf t) (posOf t field₁) (d - 1) (n - (i + 1)) in
       let q : FieldsLeft us (fieldTys t c d n) n l from pos x₀ y (i + 1) next (slot + 8) stop₁ =
-      rw at (paints-next (typeIn t field (d - 1)) (more t field (d - 1) i n (g .typed) h (g .paints)) h (s .wrote ey) el) in
+      rw at (paints-next (typeOf t field (d - 1)) (more t field (d - 1) i n (g .typed) h (g .paints)) h (s .wrote ey) el) in
       record {
         put = g .put;
         octets = g .octets;
@@ -226,7 +224,7 @@ module _ {t : List ℕ} {c d n : ℕ} {l : List ℕ} {from pos : ℕ} {x₀ x : 
 
   -- ---- the struct is written
 
-  fields-wrote : n ≤ i → {xx : List ℕ} → x₀ ≡ sets xx pos (zeros (bitmap n)) → Held (typeIn t c d) l from pos xx x from₁ cur
+  fields-wrote : n ≤ i → {xx : List ℕ} → x₀ ≡ sets xx pos (zeros (bitmap n)) → Held (typeOf t c d) l from pos xx x from₁ cur
   unfolding cellsOf restOf codec struct script structScript
   fields-wrote h {xx} e₀ =
       let a = fields-in (g .put) (g .octets) (g .struct) in
@@ -259,5 +257,5 @@ module _ {t : List ℕ} {c d n : ℕ} {l : List ℕ} {from pos : ℕ} {x₀ x : 
       })
 
   pub fields-done : n ≤ i → {xx : List ℕ} → x₀ ≡ sets xx pos (zeros (bitmap n)) → {r : ℕ} → Paired from₁ cur r
-      → Held (typeIn t c d) l from pos xx x (lowIn r) (highIn r)
+      → Held (typeOf t c d) l from pos xx x (lowIn r) (highIn r)
   fields-done h e₀ p = rw (p .low-is, p .high-is) (fields-wrote h e₀)

@@ -2,12 +2,12 @@
 use mathlib.Core.Path.{_≡_, refl, sym, ap, _∙_, subst}
 use mathlib.Core.Option.{Option, none, some, Option·none-ne-some, Option·some-injective}
 use mathlib.Core.List.{List, [], _∷_}
-use Prim.Native.Nat.{ℕ, _+_, _-_, _≤_, _<_}
-use native.Mathlib.Decide.{decLe, ℕ-discrete}
-use native.Mathlib.Omega.{arith}
+use Prim.Native.Nat.{ℕ, _+_, _-_, _≤_}
+use native.Mathlib.Decide.{ℕ-discrete}
+use native.Mathlib.Omega.{arith, by-contra}
 use lib.ListN.{length, drop, replicate}
 use Rattle.words.specs.Bytes.{num, part}
-use Rattle.schema.specs.Types.{Fixed, width, Text, Ty, fix, text, li, ma, ro, Tys, mark}
+use Rattle.schema.specs.Types.{Fixed, width, Text, Ty, fix, text, li, ma, ro, Tys}
 use Rattle.layout.specs.Reader.{_>>=_}
 use Rattle.layout.specs.Cells.{Cell, leaf, node}
 use Rattle.layout.specs.Layout.{limit}
@@ -19,7 +19,7 @@ use Rattle.measuring.proofs.Records.{number-short, number-high, number-good, te
 use Rattle.measuring.proofs.Bodies.{map-size}
 use Rattle.measuring.proofs.Totals.{join, run-more, run-stop}
 
-pub not-both : {A : Type 0} {o : Option A} {a : A} → o ≡ none → o ≡ some a → ⊥
+not-both : {A : Type 0} {o : Option A} {a : A} → o ≡ none → o ≡ some a → ⊥
 not-both {o = o} e f = Option·none-ne-some _ (sym e ∙ f)
 
 pub same-thing : {A : Type 0} {o : Option (A × List ℕ)} {a b : A} {r q : List ℕ} → o ≡ some (a, r) → o ≡ some (b, q) → a ≡ b
@@ -27,13 +27,6 @@ same-thing e f = ap (λ p. p .0) (Option·some-injective _ _ (sym e ∙ f))
 
 pub same-rest : {A : Type 0} {o : Option (A × List ℕ)} {a b : A} {r q : List ℕ} → o ≡ some (a, r) → o ≡ some (b, q) → r ≡ q
 same-rest e f = ap (λ p. p .1) (Option·some-injective _ _ (sym e ∙ f))
-
-sure : {n m : ℕ} → (m < n → ⊥) → n ≤ m
-sure {n} {m} f = go (decLe n m)
-  where
-    go : Dec (n ≤ m) → n ≤ m
-    go (yes p) = p
-    go (no p) = absurd (f (omega arith))
 
 -- ---- a run: its first reading and the others
 
@@ -72,7 +65,7 @@ run-first s ss b cs z e = go (s .get b) refl
 
 module _ (w : ℕ) (m : List ℕ) (s : Script) (l : List ℕ) (from : ℕ) (c : Cell) (r : List ℕ) (e : item w m s .get (drop from l) ≡ some (c, r)) where
   pub given-two : 2 ≤ length l - from
-  given-two = sure (λ h. not-both (item-short w m s l from h) e)
+  given-two = by-contra _ _ (λ h. not-both (item-short w m s l from h) e)
 
   pub given-mark : (num (part l from 2) ≡ num nu → ⊥) → num (part l from 2) ≡ num m
   given-mark ne = go (ℕ-discrete (num (part l from 2)) (num m))
@@ -89,21 +82,23 @@ module _ (w : ℕ) (m : List ℕ) (s : Script) (l : List ℕ) (from : ℕ) (c : 
 module _ (f : Fixed) (l : List ℕ) (at : ℕ) (c : Cell) (r : List ℕ) (e : script (fix f) .get (drop at l) ≡ some (c, r)) where
   pub given-wide : width f ≤ length l - at
   unfolding script
-  given-wide = sure (λ h. not-both (number-short (width f) (limit f) l at h) e)
+  given-wide = by-contra _ _ (λ h. not-both (number-short (width f) (limit f) l at h) e)
 
   pub given-number : script (fix f) .get (drop at l) ≡ some (leaf (part l at (width f)), drop (at + width f) l)
   unfolding script
-  given-number = number-good (width f) (limit f) l at given-wide (sure (λ h. not-both (number-high (width f) (limit f) l at given-wide (omega arith)) e))
+  given-number =
+      number-good (width f) (limit f) l at given-wide
+      (by-contra _ _ (λ h. not-both (number-high (width f) (limit f) l at given-wide (omega arith)) e))
 
 module _ (t : Text) (l : List ℕ) (at : ℕ) (c : Cell) (r : List ℕ) (e : script (text t) .get (drop at l) ≡ some (c, r)) where
   pub given-four : 4 ≤ length l - at
   unfolding script
-  given-four = sure (λ h. not-both (text-short l at h) e)
+  given-four = by-contra _ _ (λ h. not-both (text-short l at h) e)
 
   module _ (n : ℕ) (en : n ≡ num (part l at 4)) where
     pub given-long : n ≤ length l - at - 4
     unfolding script
-    given-long = sure (λ h. not-both (text-cut l at given-four n en h) e)
+    given-long = by-contra _ _ (λ h. not-both (text-cut l at given-four n en h) e)
 
     pub given-text : script (text t) .get (drop at l) ≡ some (leaf (part l (at + 4) n), drop (at + 4 + n) l)
     unfolding script
@@ -138,7 +133,7 @@ module _ (l : List ℕ) (at pos len : ℕ) where
   module _ (t : Ty) (g : Ready (script (li t) .get (drop at l)) (size (li t)) pos len) where
     pub list-four : 4 ≤ length l - at
     unfolding script listScript
-    list-four = sure (λ h. let z : script (li t) .get (drop at l) ≡ none = rw (cut-short 4 l at h) in not-both z (g .reads))
+    list-four = by-contra _ _ (λ h. let z : script (li t) .get (drop at l) ≡ none = rw (cut-short 4 l at h) in not-both z (g .reads))
 
     abbrev run : ℕ → Option (List Cell × List ℕ)
     run n = runGet (replicate n (element t (script t))) (drop (at + 4) l)
@@ -164,7 +159,7 @@ module _ (l : List ℕ) (at pos len : ℕ) where
   module _ (k v : Ty) (g : Ready (script (ma k v) .get (drop at l)) (size (ma k v)) pos len) where
     pub map-four : 4 ≤ length l - at
     unfolding script mapScript
-    map-four = sure (λ h. let z : script (ma k v) .get (drop at l) ≡ none = rw (cut-short 4 l at h) in not-both z (g .reads))
+    map-four = by-contra _ _ (λ h. let z : script (ma k v) .get (drop at l) ≡ none = rw (cut-short 4 l at h) in not-both z (g .reads))
 
     module _ (n : ℕ) (e : n ≡ num (part l at 4)) where
       pub given-map : Pair k v n

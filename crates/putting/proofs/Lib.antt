@@ -1,10 +1,10 @@
 -- The laws that the proofs of `putting` cite.
-pub mod Slots
-pub mod Paint
-pub mod Given
-pub mod Paints
-pub mod Placed
-pub mod Arrays
-pub mod Fields
-pub mod Valued
-pub mod Root
+mod Slots
+mod Paint
+mod Given
+mod Paints
+mod Placed
+mod Arrays
+mod Fields
+mod Valued
+mod Root

@@ -3,13 +3,13 @@
 use mathlib.Core.Path.{_≡_, refl, sym, ap, _∙_}
 use mathlib.Core.Bool.{true}
 use mathlib.Core.List.{List, [], _∷_, _++_, append-nil, append-assoc}
-use Prim.Native.Nat.{ℕ, zero, suc, _+_, _*_, _-_, _/_, _%_, _≤_, _<_}
+use Prim.Native.Nat.{ℕ, suc, _+_, _*_, _-_, _/_, _%_, _≤_, _<_}
 use native.Mathlib.Omega.{arith}
-use lib.ListN.{length, getD, set, replicate, length-append, length-replicate}
-use lib.Seq.{sets, length-sets, getD-set-other, set-append-seam}
-use Rattle.words.specs.Bytes.{le, part, zeros, pad, fill, bitmap}
+use lib.ListN.{length, getD, set, length-append, length-replicate}
+use lib.Seq.{sets, length-sets, set-append-seam}
+use Rattle.words.specs.Bytes.{le, zeros, pad, fill, bitmap}
 use Rattle.words.specs.Bits.{withBit, putBit}
-use Rattle.words.proofs.Runs.{sets-then, sets-comm, sets-last, sets-part-in, part-sets, getD-sets-in}
+use Rattle.words.proofs.Runs.{sets-then, sets-comm, sets-last, sets-part-in, part-sets, getD-sets-in, sets-low}
 use Rattle.words.proofs.Numbers.{length-le}
 use Rattle.words.proofs.NumLaws.{le-zero}
 use Rattle.layout.specs.Cells.{Cell, null, leaf, nodes, onNull, flag}
@@ -23,13 +23,9 @@ use Rattle.layout.proofs.Children.{AllLawful, kid-wide, slots-length, all-lengt
 abbrev pub flagged : List ℕ → ℕ → ℕ → Cell → List ℕ
 flagged x bm i c = onNull (λ _. putBit x bm i true) x c
 
-getD-past : (x v : List ℕ) (p j : ℕ) → j < p → getD (sets x p v) j 0 ≡ getD x j 0
-getD-past x [] p j h = refl
-getD-past x (a ∷ v) p j h = getD-past (set x p a) v (suc p) j (omega arith) ∙ getD-set-other x p j a 0 (λ e. omega arith)
-
 pub bit-past : (x v : List ℕ) (bm i p : ℕ) → bm + i / 8 < p → putBit (sets x p v) bm i true ≡ sets (putBit x bm i true) p v
 bit-past x v bm i p h =
-    ap (λ (b : ℕ). sets (sets x p v) (bm + i / 8) (withBit b (i % 8) true ∷ [])) (getD-past x v p (bm + i / 8) h)
+    ap (λ (b : ℕ). sets (sets x p v) (bm + i / 8) (withBit b (i % 8) true ∷ [])) (sets-low x p v (bm + i / 8) h)
     ∙ sets-comm x (bm + i / 8) p (withBit (getD x (bm + i / 8) 0) (i % 8) true ∷ []) v (omega arith)
 
 flag-past : (x v : List ℕ) (bm i p : ℕ) (c : Cell) → bm + i / 8 < p → flagged (sets x p v) bm i c ≡ sets (flagged x bm i c) p v

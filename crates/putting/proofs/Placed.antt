@@ -19,35 +19,24 @@ use Rattle.words.proofs.Numbers.{length-padded}
 use Rattle.words.proofs.NumLaws.{le-zero}
 use Rattle.words.proofs.Parts.{length-part}
 use Rattle.schema.specs.Marks.{line}
-use Rattle.schema.specs.Types.{Fixed, width, fixedAt, Text, textAt, Ty, fix, text, li, ma, ro, place, mark}
-use Rattle.schema.proofs.Table.{fixed-high, line-width}
+use Rattle.schema.specs.Types.{Fixed, width, fixedAt, Text, textAt, Ty, fix, text, place, mark}
+use Rattle.schema.proofs.Table.{line-width}
 use Rattle.schema.proofs.Places.{fixed-of, text-of, typed-place}
 use Rattle.layout.specs.Cells.{Cell, null, leaf, onNull, flag, bytes}
 use Rattle.layout.specs.Layout.{number, string, inside, outside, kidOf, kid, kidSlot, kidTail, slotOf, codec, content}
 use Rattle.layout.specs.Listing.{nu, item, script}
 use Rattle.layout.proofs.Cells.{present, leaf-bytes}
+use Rattle.layout.proofs.Widths.{wide-none}
 use Rattle.table.specs.Words.{placeIn, widthIn}
-use Rattle.table.specs.Tables.{schemaOf, posOf, Stands, EntryAt}
+use Rattle.table.specs.Tables.{schemaOf, posOf, InTable, EntryAt, typeOf}
 use Rattle.measuring.specs.Measure.{size}
 use Rattle.measuring.proofs.Records.{item-null, item-body}
-use Rattle.measuring.proofs.Bodies.{read-here, text-none, li-none, ma-none, ro-none}
-use Rattle.putting.specs.Put.{Ready, TextCan, TextWrote, SeatCan, typeIn, Held, PutValue}
+use Rattle.measuring.proofs.Bodies.{read-here, nu-is}
+use Rattle.putting.specs.Put.{Ready, TextCan, TextWrote, SeatCan, Held, PutValue}
 use Rattle.putting.proofs.Given.{same-thing, given-two, given-mark, given-body, given-wide, given-number, given-four, given-long, given-text}
 use Rattle.putting.proofs.Slots.{word-slot}
 use Rattle.putting.proofs.Paint.{flagged, bit-past}
 use Rattle.putting.proofs.Paints.{size-is, ChildWrote}
-
-nu-is : num nu ≡ 30062
-unfolding num
-nu-is = refl
-
-varies-none : (t : Ty) → 7 ≤ place t → codec t .wide ≡ none
-unfolding place
-varies-none (fix f) h = absurd (omega (arith, fixed-high f))
-varies-none (text t) h = text-none t
-varies-none (li t) h = li-none t
-varies-none (ma k v) h = ma-none k v
-varies-none (ro ts) h = ro-none ts
 
 -- a varying child's bytes and slot
 tail-outside : (w : ℕ) (t : Ty) (c : Cell) → codec t .wide ≡ none → flag c ≡ 0 → kidTail (kid w (codec t)) c ≡ padded (content t c)
@@ -80,10 +69,10 @@ text-content t u = leaf-bytes u
 -- a child of the type at a place of the table, the i-th of its container, which starts at base: its slot of w bytes, and its other bytes at
 -- cur of the output x
 pub record Child (t : List ℕ) (c d w : ℕ) (l : List ℕ) (from base bm i slot cur : ℕ) (x : List ℕ) : Type 0 where
-  pub stands : Stands t c d
-  pub wide : slotOf (codec (typeIn t c d) .wide) ≤ w
+  pub stands : InTable t c d
+  pub wide : slotOf (codec (typeOf t c d) .wide) ≤ w
   pub most : w ≤ 8
-  pub ready : Ready (item w (mark (typeIn t c d)) (script (typeIn t c d)) .get (drop from l)) (λ z. length (kidTail (kid w (codec (typeIn t c d))) z)) cur
+  pub ready : Ready (item w (mark (typeOf t c d)) (script (typeOf t c d)) .get (drop from l)) (λ z. length (kidTail (kid w (codec (typeOf t c d))) z)) cur
       (length x)
   pub octets : Bytes l
   pub low : base ≤ cur
@@ -114,7 +103,7 @@ pub record Seen (t : Ty) (w : ℕ) (l : List ℕ) (from base bm i slot cur : ℕ
 
 module _ {t : List ℕ} {c d w : ℕ} {l : List ℕ} {from base bm i n slot cur : ℕ} {x : List ℕ} (g : Next t c d w l from base bm i n slot cur x) where
   abbrev T : Ty
-  T = typeIn t c d
+  T = typeOf t c d
 
   -- so it is with this child, where p says where the listing goes on and where the contents end
   abbrev pub KeptHere : List ℕ → ℕ → Type 0
@@ -132,7 +121,7 @@ module _ {t : List ℕ} {c d w : ℕ} {l : List ℕ} {from base bm i n slot cur 
     p : Child t c d w l from base bm i slot cur x
     p = g .child h
 
-    pub child-stands : Stands t c d
+    pub child-stands : InTable t c d
     child-stands = p .stands
 
     pub child-two : from + 2 ≤ length l
@@ -241,7 +230,7 @@ module _ {t : List ℕ} {c d w : ℕ} {l : List ℕ} {from base bm i n slot cur 
 
         module _ (hi : 7 ≤ k) where
           none-wide : codec T .wide ≡ none
-          none-wide = varies-none T (omega (arith, kind))
+          none-wide = wide-none T (omega (arith, kind))
 
           eight : w ≡ 8
           eight = omega (arith, slots-eight T none-wide, p .wide, p .most)

@@ -1,5 +1,5 @@
 -- The whole row: the root of the table's schema is a struct, and its contents fill the room. Assumes nothing.
-use mathlib.Core.Path.{_≡_, refl, sym, ap, _∙_}
+use mathlib.Core.Path.{_≡_, sym, ap, _∙_}
 use mathlib.Core.Option.{some}
 use mathlib.Core.List.{List}
 use Prim.Native.Nat.{ℕ, _%_}
@@ -9,38 +9,25 @@ use lib.Seq.{sets}
 use Rattle.words.specs.Bytes.{padded}
 use Rattle.words.proofs.Runs.{sets-whole}
 use Rattle.words.proofs.Numbers.{slice-bytes}
-use Rattle.schema.specs.Types.{ro, place}
-use Rattle.schema.specs.Kinds.{placeAt}
-use Rattle.schema.specs.Walk.{typeAt, fieldsOf}
-use Rattle.schema.proofs.Judging.{Root, accepted-root}
-use Rattle.schema.proofs.Places.{typed-place}
+use Rattle.schema.specs.Types.{ro}
+use Rattle.schema.specs.Walk.{fieldsOf}
 use Rattle.layout.specs.Cells.{node}
 use Rattle.layout.specs.Layout.{kids, content}
 use Rattle.layout.specs.Listing.{structScript, script}
 use Rattle.layout.specs.Entries.{imageOf}
 use Rattle.layout.proofs.Children.{tails-eight}
 use Rattle.layout.proofs.Containers.{kids-lawful}
-use Rattle.table.specs.Tables.{schemaOf, posOf}
-use Rattle.measuring.specs.Measure.{size}
+use Rattle.table.specs.Tables.{schemaOf, typeOf}
+use Rattle.table.proofs.Places.{root-stands, root-whole, root-place}
 use Rattle.measuring.proofs.Totals.{fields-fit, fields-size}
-use Rattle.putting.specs.Put.{typeIn, Held, PutStruct, PutRow}
+use Rattle.putting.specs.Put.{Held, PutStruct, PutRow}
 use Rattle.putting.proofs.Given.{same-thing}
 use Rattle.putting.proofs.Slots.{Octets, padded-whole}
 use Rattle.putting.proofs.Paints.{size-is}
 
-root-at : (t : List ℕ) → posOf t 0 ≡ 0
-unfolding posOf schemaOf
-root-at t = refl
-
 module _ {t l : List ℕ} {len : ℕ} (p : PutRow t l len) where
   abbrev s : List ℕ
   s = schemaOf t
-
-  root : Root s
-  root = accepted-root s (p .table .accepted)
-
-  whole : typeIn t 0 8 ≡ ro (fieldsOf s)
-  whole = ap (λ (j : ℕ). typeAt s j 8) (root-at t) ∙ root .whole
 
   abbrev row : List ℕ
   row = content (ro (fieldsOf s)) (node (p .gives .cells))
@@ -50,24 +37,21 @@ module _ {t l : List ℕ} {len : ℕ} (p : PutRow t l len) where
   reads = rw (p .gives .reads)
 
   pub row-can : PutStruct t 0 8 l 2 0 len
-  unfolding place
-  row-can =
-      let k : placeAt s (posOf t 0) ≡ 11 = ap (placeAt s) (root-at t) ∙ typed-place s 0 8 (root .typed) ∙ ap place (root .whole) in
-      record {
-        put = record {
-          stands = record { table = p .table; typed = rw (root-at t) (root .typed) };
-          holds = omega (arith, k);
-          ready = rw whole (record {
-            thing = node (p .gives .cells);
-            rest = p .gives .rest;
-            reads = reads;
-            room = omega (arith, p .gives .is, size-is (ro (fieldsOf s)) (node (p .gives .cells)));
-          });
-          small = p .small;
-          short = p .gives .short;
-        };
-        struct = k;
-      }
+  row-can = record {
+    put = record {
+      stands = root-stands (p .table);
+      holds = omega (arith, root-place (p .table));
+      ready = rw (root-whole (p .table)) (record {
+        thing = node (p .gives .cells);
+        rest = p .gives .rest;
+        reads = reads;
+        room = omega (arith, p .gives .is, size-is (ro (fieldsOf s)) (node (p .gives .cells)));
+      });
+      small = p .small;
+      short = p .gives .short;
+    };
+    struct = root-place (p .table);
+  }
 
   row-eight : Octets l → length row % 8 ≡ 0
   row-eight o =
@@ -76,9 +60,9 @@ module _ {t l : List ℕ} {len : ℕ} (p : PutRow t l len) where
       let f = fields-fit ts l 2 cs (p .gives .rest) (slice-bytes o) (p .gives .reads) in
       omega (arith, size-is (ro ts) (node cs), fields-size ts cs f, tails-eight 8 (kids ts) cs (kids-lawful ts))
 
-  pub row-image : Octets l → {x y : List ℕ} {next stop : ℕ} → length x ≡ len → Held (typeIn t 0 8) l 2 0 x y next stop → some y ≡ imageOf s l
+  pub row-image : Octets l → {x y : List ℕ} {next stop : ℕ} → length x ≡ len → Held (typeOf t 0 8) l 2 0 x y next stop → some y ≡ imageOf s l
   row-image o {x} {y} {next} {stop} el w =
-      let v : Held (ro (fieldsOf s)) l 2 0 x y next stop = rw whole at w in
+      let v : Held (ro (fieldsOf s)) l 2 0 x y next stop = rw (root-whole (p .table)) at w in
       let c : node (p .gives .cells) ≡ v .thing = same-thing reads (v .reads) in
       let q : content (ro (fieldsOf s)) (v .thing) ≡ row = ap (content (ro (fieldsOf s))) (sym c) in
       let long : length row ≡ length x = omega (arith, p .gives .is) in

@@ -24,7 +24,7 @@ abbrev pub Octets : List ℕ → Type 0
 Octets l = (i : ℕ) → Fits w8 (getD l i 0)
 
 -- fewer than 8 bytes of a word: what a shift makes of 1 is no more than the word holds
-pub short-power : (k : ℕ) → k < 8 → 1 * 2 ^ (8 * k) % 2 ^ 64 ≡ 2 ^ (8 * k)
+short-power : (k : ℕ) → k < 8 → 1 * 2 ^ (8 * k) % 2 ^ 64 ≡ 2 ^ (8 * k)
 short-power k h =
     let m : 2 ^ (8 * k) ≤ 2 ^ 56 = pow-mono {i = 8 * k} {j = 56} (omega arith) in
     rw one-mul (mod-eq-of-lt (lt-of-le-of-lt m (lit< tt)))

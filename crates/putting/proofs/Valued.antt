@@ -16,21 +16,20 @@ use Rattle.words.proofs.Runs.{sets-then, sets-comm}
 use Rattle.schema.specs.Types.{Ty, li, ma, place}
 use Rattle.schema.specs.Kinds.{placeAt}
 use Rattle.schema.specs.Walk.{typeAt, nextAt, ListAt, MapAt}
-use Rattle.schema.proofs.Places.{place-li, place-ma}
 use Rattle.schema.proofs.Typing.{typed-deep}
 use Rattle.layout.specs.Cells.{Cell, node}
-use Rattle.layout.specs.Layout.{slotOf, kid, tails, pair, codec, content}
+use Rattle.layout.specs.Layout.{slotOf, kid, pair, codec, content}
 use Rattle.layout.specs.Listing.{runGet, listScript, mapScript, element, script}
 use Rattle.layout.proofs.Cells.{parts-node}
 use Rattle.layout.proofs.Children.{tails-eight}
 use Rattle.layout.proofs.Containers.{repeat, element-lawful}
 use Rattle.table.specs.Words.{placeIn, afterIn}
-use Rattle.table.specs.Tables.{schemaOf, posOf, Stands, EntryAt}
-use Rattle.table.proofs.Places.{place-room, table-short}
+use Rattle.table.specs.Tables.{schemaOf, posOf, InTable, EntryAt, typeOf}
+use Rattle.table.proofs.Places.{place-room, table-short, entry-list, entry-map}
 use Rattle.measuring.specs.Measure.{size}
 use Rattle.measuring.proofs.Records.{cut-at}
 use Rattle.measuring.proofs.Totals.{array-fit, array-size}
-use Rattle.putting.specs.Put.{Ready, typeIn, Held, PutValue, PutStruct, PutArray, ArrayWrote}
+use Rattle.putting.specs.Put.{Ready, Held, PutValue, PutStruct, PutArray, ArrayWrote}
 use Rattle.putting.proofs.Given.{same-thing, same-rest, list-four, given-list, Pair, map-four, given-map}
 use Rattle.putting.proofs.Slots.{Octets, padded-whole}
 use Rattle.putting.proofs.Paints.{size-is}
@@ -58,10 +57,6 @@ array-eight t from {l} {n} {cs} {r} hb few e =
     let f = array-fit t l from n cs r hb (omega arith) e in
     omega (arith, size-is (li t) (node cs), array-size t n cs f, tails-eight w (replicate n k) cs (repeat w n k (element-lawful t)))
 
--- the measure falls from a value to it as a struct, and from an array to a value of it
-pub struct-rank : (d : ℕ) {m : ℕ} → 3 * d + 2 ≡ m → 3 * d + 1 < m
-struct-rank d e = omega arith
-
 pub element-rank : (d : ℕ) {m : ℕ} → 3 * d + 3 ≡ m → 3 * d + 2 < m
 element-rank d e = omega arith
 
@@ -76,7 +71,7 @@ module _ {t : List ℕ} {c d : ℕ} {l : List ℕ} {from pos len : ℕ} (p : Put
   pub value-child : Fits w64 (c + 1)
   value-child = let s = p .stands in omega (arith, place-room t (s .table) c d (s .typed), table-short t (s .table))
 
-  ready-as : {u : Ty} → typeIn t c d ≡ u → Ready (script u .get (drop from l)) (size u) pos len
+  ready-as : {u : Ty} → typeOf t c d ≡ u → Ready (script u .get (drop from l)) (size u) pos len
   ready-as e = rw e at (p .ready)
 
 -- e is the entry of its type, and k the type's place in the table of types
@@ -88,24 +83,21 @@ module _ {t : List ℕ} {c d : ℕ} {l : List ℕ} {from pos len : ℕ} (p : Put
   pub struct-can : k ≡ 11 → PutStruct t c d l from pos len
   struct-can z = record { put = p; struct = sym place-is ∙ z }
 
-  held-as : {u : Ty} → typeIn t c d ≡ u → {x y : List ℕ} {next stop : ℕ} → Held u l from pos x y next stop → Held (typeIn t c d) l from pos x y next stop
+  held-as : {u : Ty} → typeOf t c d ≡ u → {x y : List ℕ} {next stop : ℕ} → Held u l from pos x y next stop → Held (typeOf t c d) l from pos x y next stop
   held-as z w = rw z w
 
   -- what a list and a map hold stands one place on
   abbrev keyTy : Ty
-  keyTy = typeIn t (c + 1) (d - 1)
+  keyTy = typeOf t (c + 1) (d - 1)
 
   abbrev valueTy : Ty
   valueTy = typeAt (schemaOf t) (nextAt (schemaOf t) (posOf t (c + 1)) (d - 1)) (d - 1)
 
-  child-at : (k ≡ 11 → ⊥) → posOf t (c + 1) ≡ posOf t c + 2
-  child-at ne = en .child (λ z. ne (ek ∙ z))
-
   list-at : k ≡ 9 → ListAt (schemaOf t) (posOf t c) d (posOf t (c + 1))
-  list-at q = rw (child-at (λ z. omega arith)) (place-li (schemaOf t) (posOf t c) d (p .stands .typed) k place-is q)
+  list-at q = entry-list (p .stands) en (sym ek ∙ q)
 
   map-at : k ≡ 10 → MapAt (schemaOf t) (posOf t c) d (posOf t (c + 1)) (nextAt (schemaOf t) (posOf t (c + 1)) (d - 1))
-  map-at q = rw (child-at (λ z. omega arith)) (place-ma (schemaOf t) (posOf t c) d (p .stands .typed) k place-is q)
+  map-at q = entry-map (p .stands) en (sym ek ∙ q)
 
   module _ (n11 : k ≡ 11 → ⊥) where
     ten : (k ≡ 9 → ⊥) → k ≡ 10
@@ -138,7 +130,7 @@ module _ {t : List ℕ} {c d : ℕ} {l : List ℕ} {from pos len : ℕ} (p : Put
       short = p .short;
     }
 
-    pub list-held : Octets l → {x y : List ℕ} {next stop : ℕ} → ArrayWrote keyTy l (from + 4) n pos x y next stop → Held (typeIn t c d) l from pos x y next stop
+    pub list-held : Octets l → {x y : List ℕ} {next stop : ℕ} → ArrayWrote keyTy l (from + 4) n pos x y next stop → Held (typeOf t c d) l from pos x y next stop
     unfolding script listScript
     list-held o {x} w =
         let four : 4 ≤ length l - from = omega (arith, list-head) in
@@ -158,7 +150,7 @@ module _ {t : List ℕ} {c d : ℕ} {l : List ℕ} {from pos len : ℕ} (p : Put
     at-map : MapAt (schemaOf t) (posOf t c) d (posOf t (c + 1)) (nextAt (schemaOf t) (posOf t (c + 1)) (d - 1))
     at-map = map-at (ten n11 n9)
 
-    pub keys-stand : Stands t (c + 1) (d - 1)
+    pub keys-stand : InTable t (c + 1) (d - 1)
     keys-stand = record { table = p .stands .table; typed = at-map .keys }
 
     module _ {n : ℕ} (r : Reads l from 4 n) where
@@ -211,7 +203,7 @@ module _ {t : List ℕ} {c d : ℕ} {l : List ℕ} {from pos len : ℕ} (p : Put
               })
 
           pub map-held : Octets l → {x₂ y : List ℕ} {next last : ℕ} → x₂ ≡ sets x₁ pos (le 8 (stop₁ - (pos + 8)))
-              → ArrayWrote (typeIn t v (d - 1)) l mid₁ n stop₁ x₂ y next last → Held (typeIn t c d) l from pos x y next last
+              → ArrayWrote (typeOf t v (d - 1)) l mid₁ n stop₁ x₂ y next last → Held (typeOf t c d) l from pos x y next last
           unfolding script mapScript
           map-held o {x₂} {y} {next} {last} e₂ b′ =
               let b : ArrayWrote valueTy l mid n stop x₂ y next last = rw (values-at, em, es) at b′ in

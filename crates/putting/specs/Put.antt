@@ -6,19 +6,15 @@ use Prim.Native.Nat.{ℕ, _+_, _*_, _-_, _≤_, _<_}
 use lib.ListN.{length, drop, replicate}
 use lib.Seq.{sets}
 use Rattle.words.specs.Bytes.{le, num, part, zeros, pad, padded, bitmap}
+use Rattle.schema.specs.Marks.{LIST, STRUCT}
 use Rattle.schema.specs.Types.{Ty, li}
 use Rattle.schema.specs.Kinds.{placeAt}
-use Rattle.schema.specs.Walk.{typeAt}
 use Rattle.layout.specs.Cells.{Cell, node}
 use Rattle.layout.specs.Layout.{content}
 use Rattle.layout.specs.Listing.{runGet, element, script}
-use Rattle.table.specs.Tables.{schemaOf, posOf, Table, Stands}
+use Rattle.table.specs.Tables.{schemaOf, posOf, Table, InTable, typeOf}
 use Rattle.measuring.specs.Measure.{size}
 use Rattle.measuring.specs.Row.{RowGives}
-
--- the type at a place of a table
-abbrev pub typeIn : List ℕ → ℕ → ℕ → Ty
-typeIn t c d = typeAt (schemaOf t) (posOf t c) d
 
 -- a reading yields a thing, and from pos on there is room for its bytes
 pub record Ready {A : Type 0} (o : Option (A × List ℕ)) (f : A → ℕ) (pos len : ℕ) : Type 0 where
@@ -92,21 +88,21 @@ pub record Held (t : Ty) (l : List ℕ) (from pos : ℕ) (x y : List ℕ) (next 
 
 -- the contents of a container's type behind their mark
 pub record PutValue (t : List ℕ) (c d : ℕ) (l : List ℕ) (from pos len : ℕ) : Type 0 where
-  pub stands : Stands t c d
-  pub holds : 9 ≤ placeAt (schemaOf t) (posOf t c)
-  pub ready : Ready (script (typeIn t c d) .get (drop from l)) (size (typeIn t c d)) pos len
+  pub stands : InTable t c d
+  pub holds : LIST ≤ placeAt (schemaOf t) (posOf t c)
+  pub ready : Ready (script (typeOf t c d) .get (drop from l)) (size (typeOf t c d)) pos len
   pub small : len ≤ 16384
   pub short : length l ≤ 65536
 
 pub record PutStruct (t : List ℕ) (c d : ℕ) (l : List ℕ) (from pos len : ℕ) : Type 0 where
   pub put : PutValue t c d l from pos len
-  pub struct : placeAt (schemaOf t) (posOf t c) ≡ 11
+  pub struct : placeAt (schemaOf t) (posOf t c) ≡ STRUCT
 
 pub record PutArray (t : List ℕ) (c d : ℕ) (l : List ℕ) (from n pos len : ℕ) : Type 0 where
-  pub stands : Stands t c d
+  pub stands : InTable t c d
   pub inside : from ≤ length l
   pub few : n < 4294967296
-  pub ready : Ready (runGet (replicate n (element (typeIn t c d) (script (typeIn t c d)))) (drop from l)) (λ cs. size (li (typeIn t c d)) (node cs)) pos len
+  pub ready : Ready (runGet (replicate n (element (typeOf t c d) (script (typeOf t c d)))) (drop from l)) (λ cs. size (li (typeOf t c d)) (node cs)) pos len
   pub small : len ≤ 16384
   pub short : length l ≤ 65536
 

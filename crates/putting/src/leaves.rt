@@ -10,7 +10,7 @@ ghost use Rattle.putting.specs.Put.{TextCan, TextWrote, PaddedCan, SeatC
 use words::pairs;
 
 // The number of fewer than 8 bytes: by one read of a word where the listing has one.
-pub fn short_number(l: &[u8], at: usize, k: usize) -> u64
+fn short_number(l: &[u8], at: usize, k: usize) -> u64
     requires { ⌜ (at + k ≤ length (now l)) × (k < 8) ⌝ }
     ensures { λ r. ⌜ Reads (now (l .entry)) at k r ⌝ }
 {
@@ -51,7 +51,7 @@ pub fn put_slot(out: &mut [u8], slot: usize, w: usize, x: u64)
 }
 
 // n bytes of the listing, and zeros up to Pad: whole words, since the room is padded too.
-pub fn put_padded(out: &mut [u8], to: usize, l: &[u8], from: usize, n: usize)
+fn put_padded(out: &mut [u8], to: usize, l: &[u8], from: usize, n: usize)
     requires { ⌜ PaddedCan (now l) from n to (length (now out)) ⌝ }
     ensures { λ _. ⌜ now (out .exit) ≡ sets (now (out .entry)) to (padded (part (now (l .entry)) from n)) ⌝ }
 {

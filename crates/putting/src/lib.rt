@@ -5,8 +5,8 @@ ghost use mathlib.Core.Option.{some};
 ghost use lib.ListN.{length};
 ghost use Rattle.words.specs.Pairs.{lowIn, highIn};
 ghost use Rattle.layout.specs.Entries.{imageOf};
-ghost use Rattle.table.specs.Tables.{schemaOf};
-ghost use Rattle.putting.specs.Put.{typeIn, Held, PutValue, PutStruct, PutArray, ArrayWrote, PutRow};
+ghost use Rattle.table.specs.Tables.{schemaOf, typeOf};
+ghost use Rattle.putting.specs.Put.{Held, PutValue, PutStruct, PutArray, ArrayWrote, PutRow};
 use crate::leaves::clear_bits;
 use crate::leaves::held_end;
 use crate::leaves::held_slot;
@@ -16,7 +16,7 @@ use crate::leaves::put_slot;
 use crate::leaves::put_text;
 use words::pairs;
 
-pub mod leaves;
+mod leaves;
 
 // The mark of a null.
 const NULL: usize = 0x756E;
@@ -32,7 +32,7 @@ fn put_value(
     pos: usize,
 ) -> u64
     requires { ⌜ PutValue (now t) c depth (now l) from pos (length (now out)) ⌝ }
-    ensures { λ r. ⌜ Held (typeIn (now (t .entry)) c depth) (now (l .entry)) from pos (now (out .entry)) (now (out .exit)) (lowIn r) (highIn r) ⌝ }
+    ensures { λ r. ⌜ Held (typeOf (now (t .entry)) c depth) (now (l .entry)) from pos (now (out .entry)) (now (out .exit)) (lowIn r) (highIn r) ⌝ }
 {
     let kind = table::place(table::entry_at(t, c, depth));
     if kind == table::STRUCT {
@@ -66,7 +66,7 @@ fn put_array(
     pos: usize,
 ) -> u64
     requires { ⌜ PutArray (now t) c depth (now l) from n pos (length (now out)) ⌝ }
-    ensures { λ r. ⌜ ArrayWrote (typeIn (now (t .entry)) c depth) (now (l .entry)) from n pos (now (out .entry)) (now (out .exit)) (lowIn r) (highIn r) ⌝ }
+    ensures { λ r. ⌜ ArrayWrote (typeOf (now (t .entry)) c depth) (now (l .entry)) from n pos (now (out .entry)) (now (out .exit)) (lowIn r) (highIn r) ⌝ }
 {
     let e = table::entry_at(t, c, depth);
     let w = table::element_width(e);
@@ -114,7 +114,7 @@ fn put_fields(
     pos: usize,
 ) -> u64
     requires { ⌜ PutStruct (now t) c depth (now l) from pos (length (now out)) ⌝ }
-    ensures { λ r. ⌜ Held (typeIn (now (t .entry)) c depth) (now (l .entry)) from pos (now (out .entry)) (now (out .exit)) (lowIn r) (highIn r) ⌝ }
+    ensures { λ r. ⌜ Held (typeOf (now (t .entry)) c depth) (now (l .entry)) from pos (now (out .entry)) (now (out .exit)) (lowIn r) (highIn r) ⌝ }
 {
     let n = table::count(table::entry_at(t, c, depth));
     let d = depth - 1;

@@ -3,5 +3,5 @@ pub mod Pointing
 pub mod Opening
 pub mod Rules
 pub mod Moving
-pub mod OnPath
+mod OnPath
 pub mod Shown

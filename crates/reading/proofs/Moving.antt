@@ -21,14 +21,14 @@ use Rattle.layout.specs.Layout.{front, slotOf, codec}
 use Rattle.layout.specs.Refusals.{numbered}
 use Rattle.layout.specs.Walk as W
 use Rattle.layout.specs.Walk.{stop, stepIn}
-use Rattle.layout.specs.Reading.{typeAt as typeOn}
+use Rattle.layout.specs.Reading.{typeAlong as typeOn}
 use Rattle.table.specs.Words.{widthIn, countIn}
 use Rattle.table.specs.Tables.{schemaOf, posOf}
 use Rattle.reading.specs.Children.{seatAs, wideOf, childAs, ChildIn, IsChild, Comes}
 use Rattle.reading.specs.Opening.{heldTy, valuesTy, openTy, Kinded, Kin, OfKind, OfMap, OfStruct}
-use Rattle.reading.specs.Places.{slotWidth, holdsOf, structHolds, placeTy, bytesOf, Sized, Rests, Stands, nextAs, Tells, Enters, Entered, Steps, From}
+use Rattle.reading.specs.Places.{slotWidth, holdsOf, structHolds, placeTy, bytesOf, Sized, Rests, PlaceHolds, nextAs, Tells, Enters, Entered, Steps, From}
 use Rattle.reading.specs.Places.{arrayPlace, arrayAt}
-use Rattle.reading.specs.declared.Opened.{Opened}
+use Rattle.reading.specs.declared.TypeParts.{TypeParts}
 use Rattle.reading.specs.declared.Seat.{Seat}
 use Rattle.reading.specs.declared.Place.{Place}
 use Rattle.reading.specs.declared.Child.{Child}
@@ -42,11 +42,11 @@ use Rattle.reading.proofs.Rules.{fixed-some, list-says, map-says, heade
 
 -- ---- a child
 
-sized-at : {y : Opened} → Kinded y → (k : ℕ) → (widthIn (y .entry) ≡ 0) ⊎ (k ≡ widthIn (y .entry)) → Sized y k
+sized-at : {y : TypeParts} → Kinded y → (k : ℕ) → (widthIn (y .entry) ≡ 0) ⊎ (k ≡ widthIn (y .entry)) → Sized y k
 sized-at K k (inr q) = λ h. q
 sized-at {y} K k (inl q) = λ h. absurd (omega (arith, leaf-width K (λ e. omega arith), fixed-some (y .kind) h))
 
-module _ (y : Opened) (c : Child) where
+module _ (y : TypeParts) (c : Child) where
   pub enter-broken : (j : ℕ) → c ≡ CBroken j → Entered y c (Broken j)
   unfolding nextAs childAs
   enter-broken j q t row E = rw q (record { means = refl; lands = tt; tells = tt })
@@ -91,7 +91,7 @@ no-kin (ma k v) (suc zero) z o b e = let x : _≡_ {A = ℕ} 0 1 = cc in absurd 
 no-kin (ma k v) (suc (suc i)) z o b e = refl
 no-kin (ro ts) i z o b e = step-no (decLt i (count ts)) (numbered 5) _ (assert-none (decLt i (count ts)) _ e)
 
-module _ {t row : List ℕ} {p : Place} (S : Stands t row p) (i : ℕ) where
+module _ {t row : List ℕ} {p : Place} (S : PlaceHolds t row p) (i : ℕ) where
   pub leaf-stop : p .opened .kind < 9 → Steps t row p i Nowhere
   leaf-stop h = stopped t row p i (no-kin (placeTy t p) i _ _ _ (no-leaf (S .rests .is) i h))
 
@@ -107,7 +107,7 @@ some-one : {A : Type 0} {a b : A} → some a ≡ some b → a ≡ b
 some-one e = cc
 
 -- a child's type has the child's bytes
-module _ {t : List ℕ} {x : Opened} {i : ℕ} {y : Opened} (K : Kin t x i y) {v : ℕ} (u : v ≡ widthIn (y .entry)) where
+module _ {t : List ℕ} {x : TypeParts} {i : ℕ} {y : TypeParts} (K : Kin t x i y) {v : ℕ} (u : v ≡ widthIn (y .entry)) where
   wide-is : wideOf (openTy t y) ≡ v
   wide-is = sym (u ∙ wide-open (K .is .kinded) t)
 
@@ -142,7 +142,7 @@ module _ {t row : List ℕ} {p : Place} (F : From t row 9 p) where
     unfolding stepIn W.child
     list-stop {i} h = stopped t row p i (rw (list-ty, counted) (step-no (decLt i n) (numbered 5) _ (λ l. omega arith)))
 
-    module _ {i : ℕ} (h : i < n) {y : Opened} (K : Kin t (p .opened) i y) {v : ℕ} (u : v ≡ widthIn (y .entry)) {w : ℕ} (g : w ≡ slotWidth v) where
+    module _ {i : ℕ} (h : i < n) {y : TypeParts} (K : Kin t (p .opened) i y) {v : ℕ} (u : v ≡ widthIn (y .entry)) {w : ℕ} (g : w ≡ slotWidth v) where
       same-ty : openTy t y ≡ heldTy t (p .opened .first)
       unfolding typeOn
       same-ty = some-one (rw list-ty at (K .same))
@@ -196,7 +196,7 @@ module _ {t row : List ℕ} {p : Place} (F : From t row 11 p) {n : ℕ} (q : n �
     pub struct-of : OfStruct t (p .opened) i
     struct-of = of-struct (F .stands .rests .is) (F .kind) q h
 
-    module _ {y : Opened} (K : Kin t (p .opened) i y) {v : ℕ} (u : v ≡ widthIn (y .entry)) where
+    module _ {y : TypeParts} (K : Kin t (p .opened) i y) {v : ℕ} (u : v ≡ widthIn (y .entry)) where
       field-ty : openTy t y ≡ field types i
       unfolding typeOn
       field-ty = assert-same (decLt i _) _ _ (rw struct-ty at (K .same))
@@ -235,14 +235,14 @@ Holder (li t) = Unit {0}
 Holder (ma k v) = Unit {0}
 Holder (ro ts) = Unit {0}
 
-pub holder : (t : List ℕ) (y : Opened) → Holder (openTy t y) → y .kind < 9 → ⊥
+pub holder : (t : List ℕ) (y : TypeParts) → Holder (openTy t y) → y .kind < 9 → ⊥
 holder t y h l = go (decLt (y .kind) 7)
   where
     go : Dec (y .kind < 7) → ⊥
     go (yes g) = rw (ty-fixed t y g) at h
     go (no g) = rw (ty-text t y (omega arith) l) at h
 
-pub held-kind : {y : Opened} → Kinded y → (t : List ℕ) → 9 ≤ y .kind → Holder (openTy t y)
+pub held-kind : {y : TypeParts} → Kinded y → (t : List ℕ) → 9 ≤ y .kind → Holder (openTy t y)
 held-kind {y} k t h = go (ℕ-discrete (y .kind) 9) (ℕ-discrete (y .kind) 10)
   where
     go : Dec (y .kind ≡ 9) → Dec (y .kind ≡ 10) → Holder (openTy t y)
@@ -285,7 +285,7 @@ module _ {t row : List ℕ} {p : Place} (F : From t row 10 p) where
     pub values-fits : Fits w64 (p .start + (8 + z))
     values-fits = omega (arith, keys-room, F .stands .rests .within, F .stands .rests .short)
 
-    module _ {i : ℕ} {y : Opened} (K : Kin t (p .opened) i y) where
+    module _ {i : ℕ} {y : TypeParts} (K : Kin t (p .opened) i y) where
       arrays : ((i ≡ 0) × (openTy t y ≡ li (heldTy t (p .opened .first)))) ⊎ ((i ≡ 1) × (openTy t y ≡ li (valuesTy t (p .opened .first))))
       arrays = map-kin (openTy t y) _ _ i (rw map-ty at (K .same))
 

@@ -18,17 +18,17 @@ use Rattle.layout.specs.Reader.{_>>_, assert}
 use Rattle.layout.specs.Refusals.{Refusal, numbered, brokenAt}
 use Rattle.layout.specs.Walk as W
 use Rattle.layout.specs.Walk.{Seen, bad, seen, stop, into, own, stepIn, goOn, walk}
-use Rattle.layout.specs.Reading.{typeAt as typeOn, placed}
+use Rattle.layout.specs.Reading.{typeAlong as typeOn, placed}
 use Rattle.layout.specs.Setting.{isSome}
-use Rattle.layout.proofs.Reader.{assert-yes}
+use Rattle.layout.proofs.Reader.{assert-yes, assert-no}
 use Rattle.answers.specs.declared.Path.{Path}
 use Rattle.answers.specs.Paths.{pathOf}
 use Rattle.answers.proofs.PathLaws.{length-path, path-at}
 use Rattle.reading.specs.Children.{seatAs}
 use Rattle.reading.specs.Opening.{openTy, OpenIs, Opens, Lots}
-use Rattle.reading.specs.Places.{holdsOf, brokenIn, placeTy, bytesOf, Rests, Stands, Breaks, NullIn, nextAs, Steps}
+use Rattle.reading.specs.Places.{holdsOf, brokenIn, placeTy, bytesOf, Rests, PlaceHolds, Breaks, NullIn, nextAs, Steps}
 use Rattle.reading.specs.Finding.{foundAs, FoundTells, FoundLands, Open, Asked, Asks, isOn, orNoPlace, seenIn, Goes, rootTy, Finds}
-use Rattle.reading.specs.declared.Opened.{Opened}
+use Rattle.reading.specs.declared.TypeParts.{TypeParts}
 use Rattle.reading.specs.declared.Seat.{Seat}
 use Rattle.reading.specs.declared.Place.{Place}
 use Rattle.reading.specs.declared.Lot.{Lot}
@@ -37,14 +37,14 @@ use Rattle.reading.specs.declared.Next.{Next}
 use Rattle.reading.specs.declared.Next.the-variants.{Nowhere, Broken, Null, To}
 use Rattle.reading.specs.declared.Found.{Found}
 use Rattle.reading.specs.declared.Found.the-variants.{NoPlace, NullBefore, Broken as FBroken, Null as FNull, At}
-use Rattle.reading.proofs.Opening.{assert-no, root-type}
+use Rattle.reading.proofs.Opening.{root-type}
 use Rattle.reading.proofs.Rules.{own-is}
 use Rattle.reading.proofs.Moving.{holder}
 
 -- ---- one step more, by the schema
 
 -- the type of step i, and the rest of the path from there
-pub type-on : (t u : Ty) (i : ℕ) (p : List ℕ) → some u ≡ typeOn (i ∷ []) t → typeOn (i ∷ p) t ≡ typeOn p u
+type-on : (t u : Ty) (i : ℕ) (p : List ℕ) → some u ≡ typeOn (i ∷ []) t → typeOn (i ∷ p) t ≡ typeOn p u
 unfolding typeOn assert
 type-on (fix f) u i p e = let z : _≡_ {A = ℕ} 0 1 = cc in absurd (omega arith)
 type-on (text f) u i p e = let z : _≡_ {A = ℕ} 0 1 = cc in absurd (omega arith)
@@ -58,7 +58,7 @@ type-on (ro ts) u i p e = go (decLt i (count ts)) e
     go (yes h) e = let z : u ≡ field ts i = cc in rw z
     go (no h) e = let z : _≡_ {A = ℕ} 0 1 = cc in absurd (omega arith)
 
-pub type-off : (t : Ty) (i : ℕ) (p : List ℕ) → none ≡ typeOn (i ∷ []) t → typeOn (i ∷ p) t ≡ none
+type-off : (t : Ty) (i : ℕ) (p : List ℕ) → none ≡ typeOn (i ∷ []) t → typeOn (i ∷ p) t ≡ none
 unfolding typeOn assert
 type-off (fix f) i p e = refl
 type-off (text f) i p e = refl
@@ -75,23 +75,23 @@ type-off (ro ts) i p e = go (decLt i (count ts)) e
 -- ---- the path's steps
 
 module _ (path : Path) (k : ℕ) where
-  pub step-on : k < path .len → (i : ℕ) → i ≡ getD (path .steps) k 0 → drop k (pathOf path) ≡ i ∷ drop (suc k) (pathOf path)
+  step-on : k < path .len → (i : ℕ) → i ≡ getD (path .steps) k 0 → drop k (pathOf path) ≡ i ∷ drop (suc k) (pathOf path)
   step-on h i q = drop-cons (pathOf path) k 0 (rw (length-path path) h) ∙ rw (path-at path k h, ← q)
 
-  pub step-end : path .len ≤ k → drop k (pathOf path) ≡ []
+  step-end : path .len ≤ k → drop k (pathOf path) ≡ []
   step-end h = drop-of-length-le (pathOf path) {i = k} (rw (length-path path) h)
 
 -- ---- the walk by the schema: the invariant, its start, its step and its end
 
-pub record OnKin (t : List ℕ) (path : Path) (from : Opened) (done : ℕ) (x : Opened) (k : ℕ) : Type 0 where
+pub record OnKin (t : List ℕ) (path : Path) (from : TypeParts) (done : ℕ) (x : TypeParts) (k : ℕ) : Type 0 where
   pub few : path .len ≤ 16
   pub is : OpenIs t x
   pub same : typeOn (drop done (pathOf path)) (openTy t from) ≡ typeOn (drop k (pathOf path)) (openTy t x)
 
-pub kin-start : {t : List ℕ} {path : Path} {from : Opened} → Asked t from path → (done : ℕ) → OnKin t path from done from done
+pub kin-start : {t : List ℕ} {path : Path} {from : TypeParts} → Asked t from path → (done : ℕ) → OnKin t path from done from done
 kin-start A done = record { few = A .few; is = A .is; same = refl }
 
-module _ {t : List ℕ} {path : Path} {from : Opened} {done : ℕ} {x : Opened} {k : ℕ} (O : OnKin t path from done x k) where
+module _ {t : List ℕ} {path : Path} {from : TypeParts} {done : ℕ} {x : TypeParts} {k : ℕ} (O : OnKin t path from done x k) where
   pub kin-end : path .len ≤ k → true ≡ isOn t from path done
   unfolding typeOn
   kin-end h = rw (O .same, step-end path k h)
@@ -107,7 +107,7 @@ module _ {t : List ℕ} {path : Path} {from : Opened} {done : ℕ} {x : Opened} 
           let z : typeOn (drop done (pathOf path)) (openTy t from) ≡ none = O .same ∙ rw (step-on path k h i q) n in
           rw z
 
-      pub kin-on : {y : Opened} → r ≡ Of y → OnKin t path from done y (k + 1)
+      pub kin-on : {y : TypeParts} → r ≡ Of y → OnKin t path from done y (k + 1)
       kin-on {y} u = record {
         few = O .few;
         is = rw u at (l .is);
@@ -129,7 +129,7 @@ own-yes t z o b s e = own-is t z o b s ∙ rw e
 own-no : (t : Ty) (z : W.Seat) (o : ℕ) (b : List ℕ) (s : Seen) → holdsOf t b ≡ false → own t z o b s ≡ bad (brokenAt (brokenIn t z o b))
 own-no t z o b s e = own-is t z o b s ∙ rw e
 
-pub walk-no : (p : List ℕ) (t : Ty) (z : W.Seat) (o : ℕ) (b : List ℕ) → holdsOf t b ≡ false → walk p t z o b ≡ bad (brokenAt (brokenIn t z o b))
+walk-no : (p : List ℕ) (t : Ty) (z : W.Seat) (o : ℕ) (b : List ℕ) → holdsOf t b ≡ false → walk p t z o b ≡ bad (brokenAt (brokenIn t z o b))
 unfolding walk
 walk-no [] t z o b e = own-no t z o b _ e
 walk-no (i ∷ p) t z o b e = own-no t z o b _ e
@@ -169,7 +169,7 @@ pub record OnWalk (t row : List ℕ) (path : Path) (from at : Place) (k : ℕ) :
 -- at a step: the place's own rules hold, and the path goes on
 pub record OnStep (t row : List ℕ) (path : Path) (from at : Place) (k : ℕ) : Type 0 where
   pub walk : OnWalk t row path from at k
-  pub stands : Stands t row at
+  pub stands : PlaceHolds t row at
   pub more : k < path .len
 
 pub walk-start : {t row : List ℕ} {path : Path} {from : Place} → Asks t row from path → OnWalk t row path from from 0
@@ -206,7 +206,7 @@ module _ {t row : List ℕ} {path : Path} {from at : Place} {k : ℕ} (O : OnWal
       refused _ e (λ _. tt) tt (ap (λ (n : ℕ). bad (brokenAt n)) (u t row (O .rests)) ∙ sym (O .same ∙ w))
 
   module _ {b : Bool} (g : b ≡ holdsOf (placeTy t at) (bytesOf row at)) (h : not b ≡ false) where
-    stands : Stands t row at
+    stands : PlaceHolds t row at
     stands = record { rests = O .rests; holds = sym g ∙ not-false _ h }
 
     pub walk-done : path .len ≤ k → Goes t row from (pathOf path) (At at)
@@ -240,7 +240,7 @@ module _ {t row : List ℕ} {path : Path} {from at : Place} {k : ℕ} (S : OnSte
     unfolding foundAs nextAs
     walk-broken {j} u e = refused (S .walk) _ e (λ _. tt) tt (sym (goes ∙ rw u (on-stop _ (brokenAt j))))
 
-    module _ {x : Opened} {z : Seat} (u : r ≡ Null x z) where
+    module _ {x : TypeParts} {z : Seat} (u : r ≡ Null x z) where
       null-in : NullIn t row x z
       null-in = rw u at (m .lands)
 
@@ -276,9 +276,9 @@ module _ {t row : List ℕ} {path : Path} {from at : Place} {k : ℕ} (S : OnSte
 pub find-long : (t row : List ℕ) (path : Path) → 16 < path .len → Finds t row (pathOf path) NoPlace
 unfolding foundAs placed
 find-long t row path h =
-    record { means = rw (← (assert-no (decLe (length (pathOf path)) 16) _ (λ l. omega (arith, length-path path)))); tells = tt; lands = tt }
+    record { means = rw (assert-no (decLe (length (pathOf path)) 16) _ (λ l. omega (arith, length-path path))); tells = tt; lands = tt }
 
-module _ (path : Path) {t row : List ℕ} (O : Open t row) (h : path .len ≤ 16) {x : Opened} (o : Opens t 0 x) where
+module _ (path : Path) {t row : List ℕ} (O : Open t row) (h : path .len ≤ 16) {x : TypeParts} (o : Opens t 0 x) where
   abbrev pub rootPlace : Place
   rootPlace = record { opened = x; seat = record { bits = 0; number = 0; slot = 0; wide = 0 }; start = 0; len = length row }
 

@@ -12,26 +12,26 @@ use mir.Syntax.{w64}
 use mir.Val.{Fits}
 use Rattle.schema.specs.Marks.{types, line}
 use Rattle.schema.specs.Kinds.{pick}
-use Rattle.schema.specs.Types.{Ty, fix, text, li, ma, ro, Tys, width, count, field, fixedAt, textAt, fixedPlace, place}
+use Rattle.schema.specs.Types.{Ty, fix, text, li, ma, ro, Tys, width, count, field, fixedAt, textAt, place}
 use Rattle.schema.specs.Walk.{Typed, typeAt, typesAt, nextAt, fieldsOf, ListAt, MapAt, StructAt}
 use Rattle.schema.proofs.Typing.{typed-count, typed-deeper, field-typed, OnWay, way-start, way-typed, way-step, way-end}
-use Rattle.schema.proofs.Places.{typed-place, fixed-of, text-of, place-li, place-ma, place-ro}
-use Rattle.schema.proofs.Judging.{accepted-root}
+use Rattle.schema.proofs.Places.{typed-place, fixed-of, text-of}
+use Rattle.schema.proofs.Table.{line-width}
 use Rattle.layout.specs.Reader.{_>>_, assert}
-use Rattle.layout.specs.Reading.{typeAt as typeOn}
-use Rattle.layout.proofs.Reader.{assert-yes}
+use Rattle.layout.specs.Reading.{typeAlong as typeOn}
+use Rattle.layout.proofs.Reader.{assert-yes, assert-no}
 use Rattle.table.specs.Words.{placeIn, widthIn, countIn, afterIn}
-use Rattle.table.specs.Tables.{Table, schemaOf, posOf, Stands, EntryAt}
-use Rattle.table.proofs.Places.{place-room, table-short}
+use Rattle.table.specs.Tables.{Table, schemaOf, posOf, InTable, EntryAt}
+use Rattle.table.proofs.Places.{place-room, table-short, entry-list, entry-map, entry-struct, root-whole}
 use Rattle.reading.specs.Children.{wideOf}
 use Rattle.reading.specs.Opening.{heldTy, valuesTy, openTy, Kinded, Both, Fields, OpenIs, Opens, FieldIn, IsField, eitherOf, IsEither, Lots}
 use Rattle.reading.specs.Opening.{Kin, OfKind, OfMap, OfStruct}
-use Rattle.reading.specs.declared.Opened.{Opened}
+use Rattle.reading.specs.declared.TypeParts.{TypeParts}
 use Rattle.reading.specs.declared.Lot.the-variants.{Nowhere, Of}
 
 -- ---- its type by its kind
 
-module _ (t : List ℕ) (x : Opened) where
+module _ (t : List ℕ) (x : TypeParts) where
   pub ty-fixed : x .kind < 7 → openTy t x ≡ fix (fixedAt (x .kind))
   unfolding openTy
   ty-fixed h = rw (lt-ltb (x .kind) 7 h)
@@ -53,21 +53,10 @@ module _ (t : List ℕ) (x : Opened) where
   ty-struct e = rw e
 
 -- what is left where it is no other
-pub struct-left : {x : Opened} → Kinded x → 9 ≤ x .kind → (x .kind ≡ 9 → ⊥) → (x .kind ≡ 10 → ⊥) → x .kind ≡ 11
+pub struct-left : {x : TypeParts} → Kinded x → 9 ≤ x .kind → (x .kind ≡ 9 → ⊥) → (x .kind ≡ 10 → ⊥) → x .kind ≡ 11
 struct-left k a b c = omega (arith, k .few)
 
 -- ---- its width
-
-pub fixed-line : (k : ℕ) → k < 7 → line k .width ≡ width (fixedAt k)
-unfolding width fixedAt fixedPlace types
-fixed-line zero h = refl
-fixed-line (suc zero) h = refl
-fixed-line (suc (suc zero)) h = refl
-fixed-line (suc (suc (suc zero))) h = refl
-fixed-line (suc (suc (suc (suc zero)))) h = refl
-fixed-line (suc (suc (suc (suc (suc zero))))) h = refl
-fixed-line (suc (suc (suc (suc (suc (suc zero)))))) h = refl
-fixed-line (suc (suc (suc (suc (suc (suc (suc k))))))) h = absurd (omega arith)
 
 none-line : (k : ℕ) → 7 ≤ k → line k .width ≡ 0
 unfolding types
@@ -85,7 +74,7 @@ none-line (suc (suc (suc (suc (suc (suc (suc (suc (suc (suc zero)))))))))) h = r
 none-line (suc (suc (suc (suc (suc (suc (suc (suc (suc (suc (suc zero))))))))))) h = refl
 none-line (suc (suc (suc (suc (suc (suc (suc (suc (suc (suc (suc (suc k)))))))))))) h = refl
 
-module _ {x : Opened} (k : Kinded x) where
+module _ {x : TypeParts} (k : Kinded x) where
   -- a leaf's kind is its entry's
   pub leaf-place : x .kind < 9 → placeIn (x .entry) ≡ x .kind
   leaf-place h = k .own (λ e. omega arith)
@@ -117,39 +106,39 @@ module _ {x : Opened} (k : Kinded x) where
   wide-open t = go (decLt (x .kind) 7)
     where
       go : Dec (x .kind < 7) → widthIn (x .entry) ≡ wideOf (openTy t x)
-      go (yes h) = leaf-width (λ e. omega arith) ∙ fixed-line (x .kind) h ∙ rw (ty-fixed t x h)
+      go (yes h) = leaf-width (λ e. omega arith) ∙ line-width (x .kind) h ∙ rw (ty-fixed t x h)
       go (no h) = no-width (omega arith) ∙ sym (varied t (omega arith))
 
 -- ---- the type at a place
 
-pub deeper : (t : List ℕ) (c : ℕ) → Table t → Typed (schemaOf t) (posOf t c) 7 → Stands t c 8
+pub deeper : (t : List ℕ) (c : ℕ) → Table t → Typed (schemaOf t) (posOf t c) 7 → InTable t c 8
 deeper t c T h = record { table = T; typed = typed-deeper (schemaOf t) (posOf t c) 7 8 h (omega arith) .typed }
 
 same-deep : (t : List ℕ) (c : ℕ) → Typed (schemaOf t) (posOf t c) 7 → typeAt (schemaOf t) (posOf t c) 8 ≡ heldTy t c
 same-deep t c h = typed-deeper (schemaOf t) (posOf t c) 7 8 h (omega arith) .same
 
 -- a place's number is small
-pub place-fits : {t : List ℕ} {c : ℕ} → Stands t c 8 → Fits w64 (c + 1)
+pub place-fits : {t : List ℕ} {c : ℕ} → InTable t c 8 → Fits w64 (c + 1)
 place-fits {t} {c} S = omega (arith, place-room t (S .table) c 8 (S .typed), table-short t (S .table))
 
-module _ {t : List ℕ} {c w : ℕ} (S : Stands t c 8) (E : EntryAt t c 8 w) where
+module _ {t : List ℕ} {c w : ℕ} (S : InTable t c 8) (E : EntryAt t c 8 w) where
   abbrev s : List ℕ
   s = schemaOf t
 
   abbrev at : ℕ
   at = posOf t c
 
-  abbrev pub opening : Opened
+  abbrev pub opening : TypeParts
   opening = record { kind = placeIn w; first = c + 1; entry = w }
 
   at-list : placeIn w ≡ 9 → ListAt s at 8 (posOf t (c + 1))
-  at-list e = rw (E .child (λ n. omega arith)) (place-li s at 8 (S .typed) (placeIn w) (E .place) e)
+  at-list = entry-list S E
 
   at-map : placeIn w ≡ 10 → MapAt s at 8 (posOf t (c + 1)) (nextAt s (posOf t (c + 1)) 7)
-  at-map e = rw (E .child (λ n. omega arith)) (place-ma s at 8 (S .typed) (placeIn w) (E .place) e)
+  at-map = entry-map S E
 
   at-struct : placeIn w ≡ 11 → StructAt s at 8 (posOf t (c + 1)) (countIn w)
-  at-struct e = rw (E .first e) (place-ro s at 8 (S .typed) (placeIn w) (E .place) e (countIn w) (E .count e))
+  at-struct e = entry-struct S E e refl
 
   open-kinded : Kinded opening
   open-kinded = record {
@@ -187,11 +176,11 @@ module _ {t : List ℕ} {c w : ℕ} (S : Stands t c 8) (E : EntryAt t c 8 w) whe
 
 -- ---- what a type holds
 
-module _ {t : List ℕ} {x : Opened} (O : OfKind t 9 x) where
-  pub element-stands : Stands t (x .first) 8
+module _ {t : List ℕ} {x : TypeParts} (O : OfKind t 9 x) where
+  pub element-stands : InTable t (x .first) 8
   element-stands = deeper t (x .first) (O .is .table) (O .is .list (O .kind))
 
-  pub element-kin : {r : Opened} → Opens t (x .first) r → (i : ℕ) → Kin t x i r
+  pub element-kin : {r : TypeParts} → Opens t (x .first) r → (i : ℕ) → Kin t x i r
   unfolding typeOn
   element-kin o i = record {
     is = o .is;
@@ -214,11 +203,11 @@ either-typed : (s : List ℕ) (a b : ℕ) (q : Bool) → Typed s a 7 → Typed s
 either-typed s a b true x y = x
 either-typed s a b false x y = y
 
-module _ {t : List ℕ} {x : Opened} {i : ℕ} (O : OfMap t x i) where
+module _ {t : List ℕ} {x : TypeParts} {i : ℕ} (O : OfMap t x i) where
   both : Both t (x .first)
   both = O .of .is .map (O .of .kind)
 
-  pub keys-stand : Stands t (x .first) 7
+  pub keys-stand : InTable t (x .first) 7
   keys-stand = record { table = O .of .is .table; typed = both .keys }
 
   pub array-kin : (c : ℕ) → IsEither t (x .first) i c → Kin t x i (record { kind = 9; first = c; entry = x .entry })
@@ -242,7 +231,7 @@ module _ {t : List ℕ} {x : Opened} {i : ℕ} (O : OfMap t x i) where
       k : Kinded x
       k = O .of .is .kinded
 
-module _ {t : List ℕ} {x : Opened} {i : ℕ} (O : OfStruct t x i) where
+module _ {t : List ℕ} {x : TypeParts} {i : ℕ} (O : OfStruct t x i) where
   fields : Fields t (x .first) (countIn (x .entry))
   fields = O .of .is .struct (O .of .kind)
 
@@ -256,10 +245,10 @@ module _ {t : List ℕ} {x : Opened} {i : ℕ} (O : OfStruct t x i) where
     field-held : Typed (schemaOf t) (posOf t c) 7
     field-held = rw e (field-typed (schemaOf t) i (posOf t (x .first)) 7 (countIn (x .entry)) (fields .types) (O .within) .typed)
 
-    pub field-stands : Stands t c 8
+    pub field-stands : InTable t c 8
     field-stands = deeper t c (O .of .is .table) field-held
 
-    pub field-kin : {r : Opened} → Opens t c r → Kin t x i r
+    pub field-kin : {r : TypeParts} → Opens t c r → Kin t x i r
     unfolding typeOn
     field-kin {r} o =
         let n = typed-count (schemaOf t) (posOf t (x .first)) 7 (countIn (x .entry)) (fields .types) in
@@ -278,7 +267,7 @@ pub field-start : {t : List ℕ} {first i : ℕ} → FieldIn t first i → Field
 field-start f = record { table = f .table; way = way-start _ _ _ _ (f .has) }
 
 module _ {t : List ℕ} {first i c j : ℕ} (W : FieldWay t first i c j) where
-  pub field-here : j < i → Stands t c 7
+  pub field-here : j < i → InTable t c 7
   field-here l = record { table = W .table; typed = way-typed _ _ _ _ _ _ (W .way) l }
 
   pub field-on : j < i → {w x : ℕ} → EntryAt t c 7 w → x ≡ afterIn w → FieldWay t first i x (j + 1)
@@ -295,11 +284,6 @@ either-values {t} i n e q = rw (ne-eqb i 0 n) (ap (posOf t) q ∙ e .next)
 
 -- ---- a step by the schema alone
 
-pub assert-no : {P : Type 0} (q : Dec P) (m : Option Ty) → (P → ⊥) → none ≡ (assert q >> m)
-unfolding assert
-assert-no (yes p) m n = absurd (n p)
-assert-no (no x) m n = refl
-
 -- where something comes out, it is what comes after; where nothing does, P does not hold
 pub assert-same : {P : Type 0} (q : Dec P) (u y : Ty) → some u ≡ (assert q >> some y) → u ≡ y
 unfolding assert
@@ -311,7 +295,7 @@ unfolding assert
 assert-none (yes p) y e h = let z : _≡_ {A = ℕ} 0 1 = cc in omega arith
 assert-none (no x) y e h = x h
 
-module _ {t : List ℕ} {x : Opened} (O : OpenIs t x) (i : ℕ) where
+module _ {t : List ℕ} {x : TypeParts} (O : OpenIs t x) (i : ℕ) where
   pub no-leaf : x .kind < 9 → none ≡ typeOn (i ∷ []) (openTy t x)
   unfolding typeOn
   no-leaf h = go (decLt (x .kind) 7)
@@ -327,23 +311,18 @@ module _ {t : List ℕ} {x : Opened} (O : OpenIs t x) (i : ℕ) where
   unfolding typeOn
   no-count e q h =
       let n = typed-count (schemaOf t) (posOf t (x .first)) 7 (countIn (x .entry)) (O .struct e .types) in
-      rw (ty-struct t x e) (assert-no (decLt i (count _)) _ (λ l. omega (arith, n, q)))
+      rw (ty-struct t x e) (sym (assert-no (decLt i (count _)) _ (λ l. omega (arith, n, q))))
 
-pub of-struct : {t : List ℕ} {x : Opened} → OpenIs t x → x .kind ≡ 11 → {n i : ℕ} → n ≡ countIn (x .entry) → i < n → OfStruct t x i
+pub of-struct : {t : List ℕ} {x : TypeParts} → OpenIs t x → x .kind ≡ 11 → {n i : ℕ} → n ≡ countIn (x .entry) → i < n → OfStruct t x i
 of-struct O e q h = record { of = record { is = O; kind = e }; within = rw (← q) h }
 
 pub lot-none : {t : List ℕ} {o : Option Ty} → none ≡ o → Lots t Nowhere o
 lot-none e = record { means = e; is = tt }
 
-pub lot-kin : {t : List ℕ} {x r : Opened} {i : ℕ} → Kin t x i r → Lots t (Of r) (typeOn (i ∷ []) (openTy t x))
+pub lot-kin : {t : List ℕ} {x r : TypeParts} {i : ℕ} → Kin t x i r → Lots t (Of r) (typeOn (i ∷ []) (openTy t x))
 lot-kin k = record { means = k .same; is = k .is }
 
 -- ---- the root
 
-pub root-stands : {t : List ℕ} → Table t → Stands t 0 8
-unfolding posOf schemaOf
-root-stands {t} T = record { table = T; typed = accepted-root (schemaOf t) (T .accepted) .typed }
-
-pub root-type : {t : List ℕ} {x : Opened} → Table t → Opens t 0 x → openTy t x ≡ ro (fieldsOf (schemaOf t))
-unfolding posOf schemaOf
-root-type {t} T o = o .same ∙ accepted-root (schemaOf t) (T .accepted) .whole
+pub root-type : {t : List ℕ} {x : TypeParts} → Table t → Opens t 0 x → openTy t x ≡ ro (fieldsOf (schemaOf t))
+root-type T o = o .same ∙ root-whole T

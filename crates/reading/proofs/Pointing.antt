@@ -22,16 +22,12 @@ use Rattle.layout.specs.Layout.{front, slotOf, number, string, array, pair, str
 use Rattle.layout.specs.Refusals.{Refusal, numbered, brokenAt}
 use Rattle.layout.specs.Walk as W
 use Rattle.layout.specs.Walk.{stop, mustStep, bySlot, byFlag, seatOf}
+use Rattle.layout.proofs.Slotted.{must-step}
 use Rattle.reading.specs.Children.{wideOf, childAs, SeatIn, ChildIn, SlotOf, Points, IsChild, Comes}
 use Rattle.reading.specs.Places.{slotWidth}
 use Rattle.reading.specs.declared.Seat.{Seat}
 use Rattle.reading.specs.declared.Child.{Child}
 use Rattle.reading.specs.declared.Child.the-variants.{Broken, Null, At}
-
-pub step-yes : {P : Type 0} (q : Dec P) (n : Refusal) (s : W.Step) → P → mustStep q n s ≡ s
-unfolding mustStep
-step-yes (yes p) n s h = refl
-step-yes (no x) n s h = absurd (x h)
 
 pub step-no : {P : Type 0} (q : Dec P) (n : Refusal) (s : W.Step) → (P → ⊥) → mustStep q n s ≡ stop n
 unfolding mustStep
@@ -98,14 +94,14 @@ module _ {row : List ℕ} {base size : ℕ} {s : Seat} (P : SlotOf row base size
   pub pointed-odd : {f : ℕ} → f ≤ off → (off % 8 ≡ 0 → ⊥) → Points row base size f s (Broken (s .slot))
   unfolding childAs bySlot
   pointed-odd h k =
-      record { means = λ t. rw (slot-number, ← o, ← l) (sym (step-yes _ (brokenAt (s .slot)) _ h ∙ step-no _ (brokenAt (s .slot)) _ k)); lands = tt }
+      record { means = λ t. rw (slot-number, ← o, ← l) (sym (must-step _ (brokenAt (s .slot)) _ h ∙ step-no _ (brokenAt (s .slot)) _ k)); lands = tt }
 
   pub pointed-long : {f : ℕ} → f ≤ off → off % 8 ≡ 0 → size < off + len → Points row base size f s (Broken (s .slot))
   unfolding childAs bySlot
   pointed-long h k m =
       record {
         means = λ t. rw (slot-number, ← o, ← l, whole)
-            (sym (step-yes _ (brokenAt (s .slot)) _ h ∙ step-yes _ (brokenAt (s .slot)) _ k ∙ step-no _ (brokenAt (s .slot)) _ (λ q. omega arith)));
+            (sym (must-step _ (brokenAt (s .slot)) _ h ∙ must-step _ (brokenAt (s .slot)) _ k ∙ step-no _ (brokenAt (s .slot)) _ (λ q. omega arith)));
         lands = tt;
       }
 
@@ -113,7 +109,7 @@ module _ {row : List ℕ} {base size : ℕ} {s : Seat} (P : SlotOf row base size
   unfolding childAs bySlot
   pointed-at h k m = record {
     means = λ t. rw (slot-number, ← o, ← l, whole, part-part row base size off len m)
-        (sym (step-yes _ (brokenAt (s .slot)) _ h ∙ step-yes _ (brokenAt (s .slot)) _ k ∙ step-yes _ (brokenAt (s .slot)) _ m));
+        (sym (must-step _ (brokenAt (s .slot)) _ h ∙ must-step _ (brokenAt (s .slot)) _ k ∙ must-step _ (brokenAt (s .slot)) _ m));
     lands = record { within = omega (arith, P .within); sized = inl refl; seated = P .seated };
   }
 
@@ -146,7 +142,7 @@ module _ {row : List ℕ} {base size h n w v i : ℕ} (s : IsChild row base size
     pub front-is : {k : ℕ} → k ≡ pad (n * w) → h + m + k ≡ front h w n
     front-is f = rw (q, f)
 
-    pub seated : SeatIn row v (seatIn m)
+    seated : SeatIn row v (seatIn m)
     seated = record { flag = omega (arith, s .within, s .child, s .fixed); room = omega (arith, s .within, slot-room); wide = s .slot }
 
     pub slot-of : v ≡ 0 → SlotOf row base size (seatIn m)
@@ -169,7 +165,7 @@ module _ {row : List ℕ} {base size h n w v i : ℕ} (s : IsChild row base size
       unfolding childAs W.child byFlag
       null-child g =
           let z : num (part (part row base size) h (bitmap n)) / 2 ^ i % 2 ≡ 1 = eqb-true _ 1 (flag-is b _ e ∙ g) in
-          record { means = λ y u. rw (q, z) (sym (step-yes (decLt i n) (numbered 5) _ (s .child))); lands = seated }
+          record { means = λ y u. rw (q, z) (sym (must-step (decLt i n) (numbered 5) _ (s .child))); lands = seated }
 
       module _ (g : t ≡ false) where
         here : num (part (part row base size) h (bitmap n)) / 2 ^ i % 2 ≡ 0
@@ -178,7 +174,7 @@ module _ {row : List ℕ} {base size h n w v i : ℕ} (s : IsChild row base size
         child-is : (y : Ty) → bySlot (codec y .wide) y (seatOf h w n i base) (front h w n) base (h + (bitmap n + i * w)) (part row base size)
             ≡ W.child h w n y i base (part row base size)
         unfolding W.child byFlag
-        child-is y = rw here (sym (step-yes (decLt i n) (numbered 5) _ (s .child)))
+        child-is y = rw here (sym (must-step (decLt i n) (numbered 5) _ (s .child)))
 
         wide-is : (y : Ty) (k : ℕ) → wideOf y ≡ k → codec y .wide ≡ wideOpt k
         wide-is y k u = wide-codec y ∙ ap wideOpt u

@@ -18,7 +18,7 @@ use Rattle.words.proofs.NumLaws.{part-lt, num-one}
 use Rattle.schema.specs.Marks.{types, line, elementWidth}
 use Rattle.schema.specs.Kinds.{pick}
 use Rattle.schema.specs.Types.{bo, i1, i2, i4, i8, f4, f8, st, bi, Ty, fix, text, li, ma, ro, width, fixedAt, fixedPlace, textPlace, place}
-use Rattle.schema.proofs.Table.{width-pos}
+use Rattle.schema.proofs.Table.{width-pos, line-width}
 use Rattle.schema.proofs.Typing.{typed-count}
 use Rattle.schema.proofs.Places.{typed-place}
 use Rattle.layout.specs.Layout.{slotOf, front, limit, codec}
@@ -32,7 +32,7 @@ use Rattle.reading.specs.Opening.{heldTy}
 use Rattle.reading.specs.Places.{slotWidth, listHolds, mapHolds, structHolds, holdsOf, brokenIn, bySize, Row, Leaf, Rests, placeTy, bytesOf, Breaks}
 use Rattle.reading.specs.declared.Place.{Place}
 use Rattle.reading.proofs.Pointing.{wide-8, slot-codec}
-use Rattle.reading.proofs.Opening.{ty-fixed, ty-text, ty-list, ty-map, ty-struct, fixed-line, leaf-width}
+use Rattle.reading.proofs.Opening.{ty-fixed, ty-text, ty-list, ty-map, ty-struct, leaf-width}
 
 -- ---- the rules
 
@@ -126,7 +126,7 @@ slot-most zero h = omega arith
 slot-most (suc v) h = h
 
 pub fixed-some : (k : ℕ) → k < 7 → 0 < line k .width
-fixed-some k h = omega (arith, fixed-line k h, width-pos (fixedAt k))
+fixed-some k h = omega (arith, line-width k h, width-pos (fixedAt k))
 
 pub leaf-some : {row : List ℕ} {k base size : ℕ} → Leaf row k base size → base < length row
 leaf-some {row} {k} l = omega (arith, l .within, l .sized, fixed-some k (l .leaf))
@@ -147,7 +147,7 @@ element-place (li y) = refl
 element-place (ma a b) = refl
 element-place (ro ys) = refl
 
-pub element-wide : {t : List ℕ} {c w r : ℕ} → S.Stands t c 7 → EntryAt t c 7 w → r ≡ elementWidth (placeIn w) → r ≡ slotWidth (wideOf (heldTy t c))
+pub element-wide : {t : List ℕ} {c w r : ℕ} → S.InTable t c 7 → EntryAt t c 7 w → r ≡ elementWidth (placeIn w) → r ≡ slotWidth (wideOf (heldTy t c))
 element-wide {t} {c} {w} h e q =
     q ∙ ap elementWidth (e .place ∙ typed-place (schemaOf t) (posOf t c) 7 (h .typed)) ∙ element-place (heldTy t c)
 
@@ -230,7 +230,7 @@ module _ {row : List ℕ} {base size w : ℕ} (R : Row row base size × (0 < w) 
   pub front-fits : {m p : ℕ} → m ≡ bitmap n → p ≡ pad (n * w) → Fits w64 (8 + m + p)
   front-fits e f = omega (arith, list-room, e, f, h, R .0 .within, R .0 .short)
 
-pub element-fits : (t : Ty) (w : ℕ) → w ≡ slotWidth (wideOf t) → (0 < w) × (w ≤ 8)
+element-fits : (t : Ty) (w : ℕ) → w ≡ slotWidth (wideOf t) → (0 < w) × (w ≤ 8)
 element-fits t w g = (rw g (slot-some (wideOf t)), rw g (slot-most (wideOf t) (wide-8 t)))
 
 -- ---- of a place, by what it is
@@ -242,7 +242,7 @@ module _ {t row : List ℕ} {p : Place} (R : Rests t row p) where
   pub rest-row : Row row (p .start) (p .len)
   rest-row = record { within = R .within; short = R .short }
 
-  pub rest-list : p .opened .kind ≡ 9 → S.Stands t (p .opened .first) 7
+  pub rest-list : p .opened .kind ≡ 9 → S.InTable t (p .opened .first) 7
   rest-list e = record { table = R .is .table; typed = R .is .list e }
 
   pub list-fits : (c : ℕ) {w : ℕ} → w ≡ slotWidth (wideOf (heldTy t c)) → Row row (p .start) (p .len) × (0 < w) × (w ≤ 8)

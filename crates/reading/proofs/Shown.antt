@@ -37,10 +37,10 @@ use Rattle.answers.specs.declared.Refusal.the-variants as F
 use Rattle.answers.specs.Meaning.{meaning, plain, float, noAnswer}
 use Rattle.reading.specs.Children.{seatAs}
 use Rattle.reading.specs.Opening.{openTy, Kinded}
-use Rattle.reading.specs.Places.{placeTy, bytesOf, Leaf, Stands}
+use Rattle.reading.specs.Places.{placeTy, bytesOf, Leaf, PlaceHolds}
 use Rattle.reading.specs.Finding.{foundAs, Open, seenIn, rootTy, Finds}
-use Rattle.reading.specs.Texts.{countOf, Shows, showOf, InRow, Reads, PartOf, TextOf}
-use Rattle.reading.specs.declared.Opened.{Opened}
+use Rattle.reading.specs.Texts.{countOf, Showable, showOf, InRow, Reads, PartOf, TextOf}
+use Rattle.reading.specs.declared.TypeParts.{TypeParts}
 use Rattle.reading.specs.declared.Place.{Place}
 use Rattle.reading.specs.declared.Found.{Found}
 use Rattle.reading.specs.declared.Found.the-variants.{NoPlace, NullBefore, Broken, Null, At}
@@ -118,18 +118,18 @@ module _ {row : List ℕ} {at size : ℕ} where
 
 -- ---- a place
 
-module _ {t row : List ℕ} {p : Place} (S : Stands t row p) where
+module _ {t row : List ℕ} {p : Place} (S : PlaceHolds t row p) where
   list-header : p .opened .kind ≡ 9 → 8 ≤ p .len
   list-header e = rw (rest-size (S .rests)) at (list-says _ (bytesOf row p) (rw (ty-list t (p .opened) e) at (S .holds)) .header)
 
-  pub stands-shows : Shows row p
+  stands-shows : Showable row p
   stands-shows = record { leaf = rest-leaf (S .rests); counts = λ e. omega (arith, list-header e, S .rests .within) }
 
   shown-list : p .opened .kind ≡ 9 → showOf row p ≡ R.container (p .start) (p .len) (num (part row (p .start) 8))
   unfolding showOf countOf
   shown-list e = rw e
 
-  pub shown-as : showOf row p ≡ answerOf (placeTy t p) (seen (seatAs (p .seat)) (p .start) (bytesOf row p))
+  shown-as : showOf row p ≡ answerOf (placeTy t p) (seen (seatAs (p .seat)) (p .start) (bytesOf row p))
   unfolding showOf countOf answerOf
   shown-as = go (decLt (p .opened .kind) 7) (decLt (p .opened .kind) 9) (ℕ-discrete (p .opened .kind) 9) (ℕ-discrete (p .opened .kind) 10)
     where
@@ -183,7 +183,7 @@ module _ (row : List ℕ) (p : Place) where
   unfolding showOf
   show-holder h e = rw (le-ltb (p .opened .kind) 7 (omega arith), le-ltb (p .opened .kind) 9 h, e)
 
-module _ (row : List ℕ) (x : Opened) (o : ℕ) where
+module _ (row : List ℕ) (x : TypeParts) (o : ℕ) where
   pub count-list : x .kind ≡ 9 → {n : ℕ} → n ≡ num (part row o 8) → n ≡ countOf row x o
   unfolding countOf
   count-list e q = q ∙ rw e
@@ -247,17 +247,17 @@ module _ {t row p : List ℕ} (O : Open t row) {r : Found} (G : Finds t row p r)
   null-is (ma k v) z = refl
   null-is (ro ts) z = refl
 
-  pub read-null : {x : Opened} {z : _} → r ≡ Null x z → Reads s row p A.Null
+  pub read-null : {x : TypeParts} {z : _} → r ≡ Null x z → Reads s row p A.Null
   unfolding foundAs
   read-null {x} {z} e =
       let q : readOf s row p ≡ R.null = finds (openTy t x) (rw e at (G .tells)) ∙ rw e (null-is (openTy t x) (seatAs z)) in
       record { means = sym q; within = rw q tt }
 
   module _ {y : Place} (e : r ≡ At y) where
-    found-stands : Stands t row y
+    found-stands : PlaceHolds t row y
     found-stands = rw e at (G .lands)
 
-    pub found-shows : Shows row y
+    pub found-shows : Showable row y
     found-shows = stands-shows found-stands
 
     pub read-at : {a : Answer} → meaning a ≡ showOf row y → Reads s row p a

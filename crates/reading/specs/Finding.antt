@@ -10,15 +10,15 @@ use Rattle.schema.specs.Types.{Ty, ro}
 use Rattle.schema.specs.Walk.{fieldsOf}
 use Rattle.layout.specs.Refusals.{numbered, brokenAt}
 use Rattle.layout.specs.Walk.{Seen, bad, nullAt, seen, rootSeat, walk}
-use Rattle.layout.specs.Reading.{typeAt as typeOn, placed}
+use Rattle.layout.specs.Reading.{typeAlong as typeOn, placed}
 use Rattle.layout.specs.Setting.{isSome}
 use Rattle.answers.specs.declared.Path.{Path}
 use Rattle.answers.specs.Paths.{pathOf}
 use Rattle.table.specs.Tables.{Table, schemaOf}
 use Rattle.reading.specs.Children.{seatAs}
 use Rattle.reading.specs.Opening.{openTy, OpenIs}
-use Rattle.reading.specs.Places.{placeTy, bytesOf, NullIn, Rests, Stands}
-use Rattle.reading.specs.declared.Opened.{Opened}
+use Rattle.reading.specs.Places.{placeTy, bytesOf, NullIn, Rests, PlaceHolds}
+use Rattle.reading.specs.declared.TypeParts.{TypeParts}
 use Rattle.reading.specs.declared.Place.{Place}
 use Rattle.reading.specs.declared.Found.{Found}
 use Rattle.reading.specs.declared.Found.the-variants.{NoPlace, NullBefore, Broken, Null, At}
@@ -47,7 +47,7 @@ FoundLands t row NoPlace = Unit {0}
 FoundLands t row NullBefore = Unit {0}
 FoundLands t row (Broken q) = Unit {0}
 FoundLands t row (Null x z) = NullIn t row x z
-FoundLands t row (At p) = Stands t row p
+FoundLands t row (At p) = PlaceHolds t row p
 
 -- ---- what is asked
 
@@ -57,7 +57,7 @@ pub record Open (t row : List ℕ) : Type 0 where
   pub short : length row ≤ 16384
 
 -- a path of at most 16 steps, of which the first are done, from a type on
-pub record Asked (t : List ℕ) (x : Opened) (path : Path) : Type 0 where
+pub record Asked (t : List ℕ) (x : TypeParts) (path : Path) : Type 0 where
   pub is : OpenIs t x
   pub few : path .len ≤ 16
 
@@ -69,7 +69,7 @@ pub record Asks (t row : List ℕ) (p : Place) (path : Path) : Type 0 where
 -- ---- what is answered
 
 -- what the schema alone shows comes before all that the row shows: whether the rest of a path is a place from a type on
-abbrev pub isOn : List ℕ → Opened → Path → ℕ → Bool
+abbrev pub isOn : List ℕ → TypeParts → Path → ℕ → Bool
 isOn t x path done = isSome (typeOn (drop done (pathOf path)) (openTy t x))
 
 -- and f, or that there is no such place

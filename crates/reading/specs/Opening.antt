@@ -4,13 +4,14 @@ use mathlib.Core.Option.{Option, none, some}
 use mathlib.Core.List.{List, [], _∷_}
 use Prim.Native.Nat.{ℕ, _≤_, _<_}
 use lib.Dec.{eqb, ltb}
+use Rattle.schema.specs.Marks.{STRING, LIST, MAP, STRUCT}
 use Rattle.schema.specs.Kinds.{pick}
 use Rattle.schema.specs.Types.{Ty, fix, text, li, ma, ro, fixedAt, textAt}
 use Rattle.schema.specs.Walk.{Typed, TypedAll, typeAt, typesAt, nextAt, HasField, fieldAt}
-use Rattle.layout.specs.Reading.{typeAt as typeOn}
+use Rattle.layout.specs.Reading.{typeAlong as typeOn}
 use Rattle.table.specs.Words.{Lined, placeIn, widthIn, countIn}
 use Rattle.table.specs.Tables.{Table, schemaOf, posOf}
-use Rattle.reading.specs.declared.Opened.{Opened}
+use Rattle.reading.specs.declared.TypeParts.{TypeParts}
 use Rattle.reading.specs.declared.Lot.{Lot}
 use Rattle.reading.specs.declared.Lot.the-variants.{Nowhere, Of}
 
@@ -23,20 +24,20 @@ abbrev pub valuesTy : List ℕ → ℕ → Ty
 valuesTy t c = typeAt (schemaOf t) (nextAt (schemaOf t) (posOf t c) 7) 7
 
 -- and the type that was taken apart, by its kind
-unfoldable pub openTy : List ℕ → Opened → Ty
+unfoldable pub openTy : List ℕ → TypeParts → Ty
 openTy t x =
-    pick (ltb (x .kind) 7) (fix (fixedAt (x .kind)))
-    (pick (ltb (x .kind) 9) (text (textAt (x .kind)))
-    (pick (eqb (x .kind) 9) (li (heldTy t (x .first)))
-    (pick (eqb (x .kind) 10) (ma (heldTy t (x .first)) (valuesTy t (x .first)))
+    pick (ltb (x .kind) STRING) (fix (fixedAt (x .kind)))
+    (pick (ltb (x .kind) LIST) (text (textAt (x .kind)))
+    (pick (eqb (x .kind) LIST) (li (heldTy t (x .first)))
+    (pick (eqb (x .kind) MAP) (ma (heldTy t (x .first)) (valuesTy t (x .first)))
     (ro (typesAt (schemaOf t) (posOf t (x .first)) 7 (countIn (x .entry)))))))
 
 -- its kind is that of its entry; a map's array is a list with the map's entry, whose bytes vary too
-pub record Kinded (x : Opened) : Type 0 where
+pub record Kinded (x : TypeParts) : Type 0 where
   pub lined : Lined (x .entry)
   pub few : x .kind < 12
-  pub own : (x .kind ≡ 9 → ⊥) → placeIn (x .entry) ≡ x .kind
-  pub varies : x .kind ≡ 9 → widthIn (x .entry) ≡ 0
+  pub own : (x .kind ≡ LIST → ⊥) → placeIn (x .entry) ≡ x .kind
+  pub varies : x .kind ≡ LIST → widthIn (x .entry) ≡ 0
 
 -- the types of a map, and the fields of a struct, stand in the table
 pub record Both (t : List ℕ) (c : ℕ) : Type 0 where
@@ -49,15 +50,15 @@ pub record Fields (t : List ℕ) (c n : ℕ) : Type 0 where
   pub high : n ≤ 128
 
 -- what it holds stands in the table
-pub record OpenIs (t : List ℕ) (x : Opened) : Type 0 where
+pub record OpenIs (t : List ℕ) (x : TypeParts) : Type 0 where
   pub table : Table t
   pub kinded : Kinded x
-  pub list : x .kind ≡ 9 → Typed (schemaOf t) (posOf t (x .first)) 7
-  pub map : x .kind ≡ 10 → Both t (x .first)
-  pub struct : x .kind ≡ 11 → Fields t (x .first) (countIn (x .entry))
+  pub list : x .kind ≡ LIST → Typed (schemaOf t) (posOf t (x .first)) 7
+  pub map : x .kind ≡ MAP → Both t (x .first)
+  pub struct : x .kind ≡ STRUCT → Fields t (x .first) (countIn (x .entry))
 
 -- the type at a place, taken apart
-pub record Opens (t : List ℕ) (c : ℕ) (r : Opened) : Type 0 where
+pub record Opens (t : List ℕ) (c : ℕ) (r : TypeParts) : Type 0 where
   pub is : OpenIs t r
   pub same : openTy t r ≡ typeAt (schemaOf t) (posOf t c) 8
 
@@ -94,19 +95,19 @@ pub record Lots (t : List ℕ) (r : Lot) (o : Option Ty) : Type 0 where
   pub is : LotIs t r
 
 -- it is the type that step i leads to from x
-pub record Kin (t : List ℕ) (x : Opened) (i : ℕ) (r : Opened) : Type 0 where
+pub record Kin (t : List ℕ) (x : TypeParts) (i : ℕ) (r : TypeParts) : Type 0 where
   pub is : OpenIs t r
   pub same : some (openTy t r) ≡ typeOn (i ∷ []) (openTy t x)
 
 -- step i can be taken from a list, a map, a struct
-pub record OfKind (t : List ℕ) (k : ℕ) (x : Opened) : Type 0 where
+pub record OfKind (t : List ℕ) (k : ℕ) (x : TypeParts) : Type 0 where
   pub is : OpenIs t x
   pub kind : x .kind ≡ k
 
-pub record OfMap (t : List ℕ) (x : Opened) (i : ℕ) : Type 0 where
+pub record OfMap (t : List ℕ) (x : TypeParts) (i : ℕ) : Type 0 where
   pub of : OfKind t 10 x
   pub within : i < 2
 
-pub record OfStruct (t : List ℕ) (x : Opened) (i : ℕ) : Type 0 where
+pub record OfStruct (t : List ℕ) (x : TypeParts) (i : ℕ) : Type 0 where
   pub of : OfKind t 11 x
   pub within : i < countIn (x .entry)

@@ -7,18 +7,18 @@ use Prim.Native.Nat.{ℕ, zero, suc, _+_, _%_, _≤_, _<_}
 use lib.Dec.{eqb, leb, ltb}
 use lib.ListN.{length, take}
 use Rattle.words.specs.Bytes.{num, part}
-use Rattle.schema.specs.Marks.{line}
+use Rattle.schema.specs.Marks.{line, STRING, LIST}
 use Rattle.schema.specs.Kinds.{pick}
 use Rattle.schema.specs.Types.{Ty, fix, text, li, ma, ro, count}
 use Rattle.layout.specs.Layout.{slotOf, front, limit, codec}
 use Rattle.layout.specs.Refusals.{numbered, brokenAt}
 use Rattle.layout.specs.Walk as W
 use Rattle.layout.specs.Walk.{stop, toNull, into, stepIn}
-use Rattle.layout.specs.Reading.{typeAt as typeOn}
+use Rattle.layout.specs.Reading.{typeAlong as typeOn}
 use Rattle.table.specs.Words.{widthIn}
 use Rattle.reading.specs.Children.{seatAs, SeatIn, ChildIn, childAs}
 use Rattle.reading.specs.Opening.{openTy, OpenIs}
-use Rattle.reading.specs.declared.Opened.{Opened}
+use Rattle.reading.specs.declared.TypeParts.{TypeParts}
 use Rattle.reading.specs.declared.Child.{Child}
 use Rattle.reading.specs.declared.Seat.{Seat}
 use Rattle.reading.specs.declared.Place.{Place}
@@ -66,7 +66,7 @@ pub record Row (row : List ℕ) (base size : ℕ) : Type 0 where
 
 pub record Leaf (row : List ℕ) (k base size : ℕ) : Type 0 where
   pub within : base + size ≤ length row
-  pub leaf : k < 7
+  pub leaf : k < STRING
   pub sized : size ≡ line k .width
 
 -- ---- a place
@@ -78,11 +78,11 @@ abbrev pub bytesOf : List ℕ → Place → List ℕ
 bytesOf row p = part row (p .start) (p .len)
 
 -- a leaf of a fixed width has the table's bytes; a leaf's seat lies in the row, and has room for it
-abbrev pub Sized : Opened → ℕ → Type 0
-Sized x n = x .kind < 7 → n ≡ widthIn (x .entry)
+abbrev pub Sized : TypeParts → ℕ → Type 0
+Sized x n = x .kind < STRING → n ≡ widthIn (x .entry)
 
-abbrev pub Seated : List ℕ → Opened → Seat → Type 0
-Seated row x z = x .kind < 9 → SeatIn row (widthIn (x .entry)) z
+abbrev pub Seated : List ℕ → TypeParts → Seat → Type 0
+Seated row x z = x .kind < LIST → SeatIn row (widthIn (x .entry)) z
 
 -- its types stand in the table, its bytes and a leaf's seat in the row; its own rules are not yet judged
 pub record Rests (t row : List ℕ) (p : Place) : Type 0 where
@@ -93,7 +93,7 @@ pub record Rests (t row : List ℕ) (p : Place) : Type 0 where
   pub seated : Seated row (p .opened) (p .seat)
 
 -- and its own rules hold
-pub record Stands (t row : List ℕ) (p : Place) : Type 0 where
+pub record PlaceHolds (t row : List ℕ) (p : Place) : Type 0 where
   pub rests : Rests t row p
   pub holds : holdsOf (placeTy t p) (bytesOf row p) ≡ true
 
@@ -110,7 +110,7 @@ nextAs t row (Null x z) = toNull (seatAs z)
 nextAs t row (To p) = into (placeTy t p) (seatAs (p .seat)) (p .start) (bytesOf row p)
 
 -- a null's type stands in the table, its seat in the row
-pub record NullIn (t row : List ℕ) (x : Opened) (z : Seat) : Type 0 where
+pub record NullIn (t row : List ℕ) (x : TypeParts) (z : Seat) : Type 0 where
   pub is : OpenIs t x
   pub seated : SeatIn row (widthIn (x .entry)) z
 
@@ -134,12 +134,12 @@ pub record Moves (t row : List ℕ) (r : Next) (z : W.Step) (o : Option Ty) : Ty
   pub tells : Tells t r o
 
 -- a child that was found, of the type y, by any table and row that they stand in
-pub record Enters (t row : List ℕ) (y : Opened) (c : Child) : Type 0 where
+pub record Enters (t row : List ℕ) (y : TypeParts) (c : Child) : Type 0 where
   pub is : OpenIs t y
   pub short : length row ≤ 16384
   pub lands : ChildIn row (widthIn (y .entry)) c
 
-abbrev pub Entered : Opened → Child → Next → Type 0
+abbrev pub Entered : TypeParts → Child → Next → Type 0
 Entered y c r = (t row : List ℕ) → Enters t row y c → Moves t row r (childAs (openTy t y) row c) (some (openTy t y))
 
 -- step i from a place
@@ -148,12 +148,12 @@ Steps t row p i r = Moves t row r (stepIn (placeTy t p) i (seatAs (p .seat)) (p 
 
 -- a place of the kind k, from which a step may be taken
 pub record From (t row : List ℕ) (k : ℕ) (p : Place) : Type 0 where
-  pub stands : Stands t row p
+  pub stands : PlaceHolds t row p
   pub kind : p .opened .kind ≡ k
 
 -- an array of a map, as a place
-abbrev pub arrayPlace : Opened → ℕ → ℕ → Place
+abbrev pub arrayPlace : TypeParts → ℕ → ℕ → Place
 arrayPlace y o n = record { opened = y; seat = record { bits = 0; number = 0; slot = o; wide = 0 }; start = o; len = n }
 
-abbrev pub arrayAt : Opened → ℕ → ℕ → Next
+abbrev pub arrayAt : TypeParts → ℕ → ℕ → Next
 arrayAt y o n = To (arrayPlace y o n)

@@ -6,6 +6,7 @@ use denote.Ref.{RefT, now}
 use lib.Dec.{eqb, ltb}
 use lib.ListN.{length}
 use Rattle.words.specs.Bytes.{num, part}
+use Rattle.schema.specs.Marks.{STRING, LIST, MAP}
 use Rattle.schema.specs.Kinds.{pick}
 use Rattle.schema.specs.Types.{fixedAt}
 use Rattle.layout.specs.Reading as R
@@ -15,27 +16,27 @@ use Rattle.answers.specs.declared.Answer.{Answer}
 use Rattle.answers.specs.Meaning.{meaning}
 use Rattle.table.specs.Words.{countIn}
 use Rattle.reading.specs.Places.{Leaf}
-use Rattle.reading.specs.declared.Opened.{Opened}
+use Rattle.reading.specs.declared.TypeParts.{TypeParts}
 use Rattle.reading.specs.declared.Place.{Place}
 
 -- a list's header is there
-abbrev pub Counts : List ℕ → Opened → ℕ → Type 0
-Counts row x o = x .kind ≡ 9 → o + 8 ≤ length row
+abbrev pub Counts : List ℕ → TypeParts → ℕ → Type 0
+Counts row x o = x .kind ≡ LIST → o + 8 ≤ length row
 
 -- how many a container holds: a list's elements, 2 for a map, a struct's fields
-unfoldable pub countOf : List ℕ → Opened → ℕ → ℕ
-countOf row x o = pick (eqb (x .kind) 9) (num (part row o 8)) (pick (eqb (x .kind) 10) 2 (countIn (x .entry)))
+unfoldable pub countOf : List ℕ → TypeParts → ℕ → ℕ
+countOf row x o = pick (eqb (x .kind) LIST) (num (part row o 8)) (pick (eqb (x .kind) MAP) 2 (countIn (x .entry)))
 
 -- the bytes that an answer is made of are there: a leaf's by the table, a list's header
-pub record Shows (row : List ℕ) (p : Place) : Type 0 where
-  pub leaf : p .opened .kind < 7 → Leaf row (p .opened .kind) (p .start) (p .len)
+pub record Showable (row : List ℕ) (p : Place) : Type 0 where
+  pub leaf : p .opened .kind < STRING → Leaf row (p .opened .kind) (p .start) (p .len)
   pub counts : Counts row (p .opened) (p .start)
 
 -- a place as an answer
 unfoldable pub showOf : List ℕ → Place → R.Answer
 showOf row p =
-    pick (ltb (p .opened .kind) 7) (valueOf (fixedAt (p .opened .kind)) (part row (p .start) (p .len)))
-    (pick (ltb (p .opened .kind) 9) (R.bytes (p .start) (p .len)) (R.container (p .start) (p .len) (countOf row (p .opened) (p .start))))
+    pick (ltb (p .opened .kind) STRING) (valueOf (fixedAt (p .opened .kind)) (part row (p .start) (p .len)))
+    (pick (ltb (p .opened .kind) LIST) (R.bytes (p .start) (p .len)) (R.container (p .start) (p .len) (countOf row (p .opened) (p .start))))
 
 -- a byte range lies in the row
 abbrev pub InRow : List ℕ → R.Answer → Type 0

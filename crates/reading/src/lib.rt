@@ -8,14 +8,14 @@ ghost use Rattle.reading.specs.Finding.{Open, Finds};
 ghost use Rattle.reading.specs.Texts.{Reads};
 
 pub mod own;
-pub mod slots;
-pub mod steps;
-pub mod types;
+mod slots;
+mod steps;
+mod types;
 pub mod values;
-pub mod walk;
+mod walk;
 
 // A type taken apart: its kind, the place of the first that it holds, and its entry. A map's array is a list, with the map's entry.
-pub struct Opened {
+pub struct TypeParts {
     pub kind: usize,
     pub first: usize,
     pub entry: u64,
@@ -32,30 +32,30 @@ pub struct Seat {
 
 // A place of the row: its type, its seat, and where its bytes start and how many they are.
 pub struct Place {
-    pub opened: Opened,
+    pub opened: TypeParts,
     pub seat: Seat,
     pub start: usize,
     pub len: usize,
 }
 
 // Where a child's bytes are: its slot breaks the layout, at a byte of the row; it is null; or its start and size in the row.
-pub enum Child {
+enum Child {
     Broken(usize),
     Null(Seat),
     At(Seat, usize, usize),
 }
 
 // The type that a step leads to by the schema alone.
-pub enum Lot {
+enum Lot {
     Nowhere,
-    Of(Opened),
+    Of(TypeParts),
 }
 
 // What a step comes to: no such place, a slot that breaks the layout, at a byte of the row, a null of a type, or a place.
-pub enum Next {
+enum Next {
     Nowhere,
     Broken(usize),
-    Null(Opened, Seat),
+    Null(TypeParts, Seat),
     To(Place),
 }
 
@@ -65,7 +65,7 @@ pub enum Found {
     NoPlace,
     NullBefore,
     Broken(usize),
-    Null(Opened, Seat),
+    Null(TypeParts, Seat),
     At(Place),
 }
 

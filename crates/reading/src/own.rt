@@ -3,7 +3,7 @@ ghost use mathlib.Core.Path.{_≡_};
 ghost use Prim.Native.Nat.{_+_, _≤_, _<_};
 ghost use Rattle.words.specs.Bytes.{part};
 ghost use Rattle.schema.specs.Types.{fix, fixedAt};
-ghost use Rattle.table.specs.Tables.{Stands};
+ghost use Rattle.table.specs.Tables.{InTable};
 ghost use Rattle.reading.specs.Children.{wideOf};
 ghost use Rattle.reading.specs.Opening.{heldTy};
 ghost use Rattle.reading.specs.Places.{slotWidth, Leaf, Row, listHolds, mapHolds, structHolds, holdsOf, placeTy, bytesOf, Rests};
@@ -69,7 +69,7 @@ fn struct_holds(n: usize, size: usize) -> bool
 
 // The slot's bytes of a list's elements, whose type stands at a place of the table.
 pub fn element_width(t: &[u64], c: usize) -> usize
-    requires { ⌜ Stands (now t) c 7 ⌝ }
+    requires { ⌜ InTable (now t) c 7 ⌝ }
     ensures { λ r. ⌜ r ≡ slotWidth (wideOf (heldTy (now (t .entry)) c)) ⌝ }
 {
     table::element_width(table::entry_at(t, c, 7))

@@ -1,17 +1,17 @@
 // One step of a path in the row.
-ghost use Rattle.reading.specs.Places.{Entered, arrayAt, From, Steps, Stands};
+ghost use Rattle.reading.specs.Places.{Entered, arrayAt, From, Steps, PlaceHolds};
 ghost use mathlib.Core.Path.{_≡_};
 use crate::Child;
 use crate::Next;
-use crate::Opened;
 use crate::Place;
 use crate::Seat;
+use crate::TypeParts;
 use crate::own;
 use crate::slots;
 use crate::types;
 
 // A child of the type y, as a step.
-fn enter(y: Opened, c: Child) -> Next
+fn enter(y: TypeParts, c: Child) -> Next
     ensures { λ r. ⌜ Entered y c r ⌝ }
 {
     match c {
@@ -42,7 +42,7 @@ fn in_list(t: &[u64], row: &[u8], p: Place, i: usize) -> Next
 }
 
 // An array of a map has its first byte for a slot.
-fn array_at(y: Opened, start: usize, len: usize) -> Next
+fn array_at(y: TypeParts, start: usize, len: usize) -> Next
     ensures { λ r. ⌜ r ≡ arrayAt y start len ⌝ }
 {
     let seat = Seat {
@@ -95,7 +95,7 @@ fn in_struct(t: &[u64], row: &[u8], p: Place, i: usize) -> Next
 
 // Step i from a place whose own rules hold.
 pub fn step(t: &[u64], row: &[u8], p: Place, i: usize) -> Next
-    requires { ⌜ Stands (now t) (now row) p ⌝ }
+    requires { ⌜ PlaceHolds (now t) (now row) p ⌝ }
     ensures { λ r. ⌜ Steps (now (t .entry)) (now (row .entry)) p i r ⌝ }
 {
     let x = p.opened;

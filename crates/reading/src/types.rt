@@ -1,19 +1,19 @@
 // A type taken apart by the table, and a step from it by the schema alone. No type is more than eight deep, and what one holds seven.
 ghost use mathlib.Core.List.{[], _∷_};
 ghost use Prim.Native.Nat.{ℕ};
-ghost use Rattle.layout.specs.Reading.{typeAt as typeOn};
-ghost use Rattle.table.specs.Tables.{Stands};
+ghost use Rattle.layout.specs.Reading.{typeAlong as typeOn};
+ghost use Rattle.table.specs.Tables.{InTable};
 ghost use Rattle.reading.specs.Opening.{openTy, OpenIs, Opens, FieldIn, IsField, IsEither, OfKind, OfMap, OfStruct, Kin, Lots};
 use crate::Lot;
-use crate::Opened;
+use crate::TypeParts;
 
 // The type at a place of the table.
-pub fn open(t: &[u64], c: usize) -> Opened
-    requires { ⌜ Stands (now t) c 8 ⌝ }
+pub fn open(t: &[u64], c: usize) -> TypeParts
+    requires { ⌜ InTable (now t) c 8 ⌝ }
     ensures { λ r. ⌜ Opens (now (t .entry)) c r ⌝ }
 {
     let w = table::entry_at(t, c, 8);
-    Opened {
+    TypeParts {
         kind: table::place(w),
         first: c + 1,
         entry: w,
@@ -36,7 +36,7 @@ fn field_at(t: &[u64], first: usize, i: usize) -> usize
 
 // The place of a map's keys' type, which stands first, for 0, and of its values' type for all else.
 fn either(t: &[u64], first: usize, i: usize) -> usize
-    requires { ⌜ Stands (now t) first 7 ⌝ }
+    requires { ⌜ InTable (now t) first 7 ⌝ }
     ensures { λ r. ⌜ IsEither (now (t .entry)) first i r ⌝ }
 {
     if i == 0 {
@@ -46,7 +46,7 @@ fn either(t: &[u64], first: usize, i: usize) -> usize
 }
 
 // The type of a list's elements, whatever their number.
-pub fn element(t: &[u64], x: Opened) -> Opened
+pub fn element(t: &[u64], x: TypeParts) -> TypeParts
     requires { ⌜ OfKind (now t) 9 x ⌝ }
     ensures { λ r. ⌜ ((i : ℕ) → Kin (now (t .entry)) x i r) ⌝ }
 {
@@ -54,11 +54,11 @@ pub fn element(t: &[u64], x: Opened) -> Opened
 }
 
 // A map's keys (0) or values (1) as a list.
-pub fn array(t: &[u64], x: Opened, i: usize) -> Opened
+pub fn array(t: &[u64], x: TypeParts, i: usize) -> TypeParts
     requires { ⌜ OfMap (now t) x i ⌝ }
     ensures { λ r. ⌜ Kin (now (t .entry)) x i r ⌝ }
 {
-    Opened {
+    TypeParts {
         kind: table::LIST,
         first: either(t, x.first, i),
         entry: x.entry,
@@ -66,7 +66,7 @@ pub fn array(t: &[u64], x: Opened, i: usize) -> Opened
 }
 
 // The type of a struct's field i.
-pub fn field(t: &[u64], x: Opened, i: usize) -> Opened
+pub fn field(t: &[u64], x: TypeParts, i: usize) -> TypeParts
     requires { ⌜ OfStruct (now t) x i ⌝ }
     ensures { λ r. ⌜ Kin (now (t .entry)) x i r ⌝ }
 {
@@ -74,7 +74,7 @@ pub fn field(t: &[u64], x: Opened, i: usize) -> Opened
 }
 
 // The type that step i leads to by the schema alone.
-pub fn kin(t: &[u64], x: Opened, i: usize) -> Lot
+pub fn kin(t: &[u64], x: TypeParts, i: usize) -> Lot
     requires { ⌜ OpenIs (now t) x ⌝ }
     ensures { λ r. ⌜ Lots (now (t .entry)) r (typeOn (i ∷ []) (openTy (now (t .entry)) x)) ⌝ }
 {

@@ -6,9 +6,9 @@ ghost use Rattle.schema.specs.Types.{fixedAt};
 ghost use Rattle.layout.specs.Reading.{valueOf};
 ghost use Rattle.answers.specs.Meaning.{meaning};
 ghost use Rattle.reading.specs.Places.{Leaf};
-ghost use Rattle.reading.specs.Texts.{Counts, countOf, Shows, showOf};
-use crate::Opened;
+ghost use Rattle.reading.specs.Texts.{Counts, countOf, Showable, showOf};
 use crate::Place;
+use crate::TypeParts;
 
 // The leaf of the kind k, which has `size` bytes at `at`: a bool, a signed number, or a float by its bits.
 pub fn value(row: &[u8], k: usize, at: usize, size: usize) -> Answer
@@ -28,7 +28,7 @@ pub fn value(row: &[u8], k: usize, at: usize, size: usize) -> Answer
 }
 
 // A container's count is a struct's fields, a list's elements, 2 for a map.
-fn count(row: &[u8], x: Opened, start: usize) -> usize
+fn count(row: &[u8], x: TypeParts, start: usize) -> usize
     requires { ⌜ Counts (now row) x start ⌝ }
     ensures { λ r. ⌜ r ≡ countOf (now (row .entry)) x start ⌝ }
 {
@@ -44,7 +44,7 @@ fn count(row: &[u8], x: Opened, start: usize) -> usize
 
 // A place as an answer.
 pub fn answer(row: &[u8], p: Place) -> Answer
-    requires { ⌜ Shows (now row) p ⌝ }
+    requires { ⌜ Showable (now row) p ⌝ }
     ensures { λ r. ⌜ meaning r ≡ showOf (now (row .entry)) p ⌝ }
 {
     let x = p.opened;

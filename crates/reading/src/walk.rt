@@ -6,14 +6,14 @@ ghost use Rattle.reading.specs.Finding.{Asked, Asks, Goes, isOn, orNoPla
 use crate::Found;
 use crate::Lot;
 use crate::Next;
-use crate::Opened;
 use crate::Place;
+use crate::TypeParts;
 use crate::own;
 use crate::steps;
 use crate::types;
 
 // Whether the schema alone shows a place at the path's end, from a type that its first steps led to.
-fn is_place(t: &[u64], from: Opened, path: Path, done: usize) -> bool
+fn is_place(t: &[u64], from: TypeParts, path: Path, done: usize) -> bool
     requires { ⌜ Asked (now t) from path ⌝ }
     ensures { λ r. ⌜ r ≡ isOn (now (t .entry)) from path done ⌝ }
 {
@@ -38,7 +38,7 @@ fn is_place(t: &[u64], from: Opened, path: Path, done: usize) -> bool
 
 // What the schema alone shows comes before all that the row shows: f, or that there is no such place. It is asked only where the row has
 // a fault or a null on the way, since a path that was walked to its end leads to a place.
-fn refused(t: &[u64], x: Opened, path: Path, done: usize, f: Found) -> Found
+fn refused(t: &[u64], x: TypeParts, path: Path, done: usize, f: Found) -> Found
     requires { ⌜ Asked (now t) x path ⌝ }
     ensures { λ r. ⌜ r ≡ orNoPlace (isOn (now (t .entry)) x path done) f ⌝ }
 {

@@ -8,12 +8,12 @@ use native.Mathlib.Nat.{mul-le-mul-right}
 use native.Mathlib.Omega.{arith}
 use lib.ListN.{length, take, drop, length-take, length-drop}
 use Rattle.words.specs.Bytes.{num, part, bitmap}
-use Rattle.schema.specs.Types.{Ty, fix, text, li, ma, ro, Tys, count, field}
+use Rattle.schema.specs.Types.{Ty, fix, text, li, ma, ro, count, field}
 use Rattle.layout.specs.Faults.{slot, byte, Read, fault, got, inRow, faultIn}
 use Rattle.layout.specs.Refusals.{Refusal, numbered, brokenAt}
 use Rattle.layout.specs.Layout.{slotOf, front, limit, codec, faultAt}
 use Rattle.layout.specs.Walk.{Seat, seatAt, Seen, bad, nullAt, seen, Step, stop, toNull, into, must, mustStep, own, bySlot, byFlag, seatOf, child, stepIn}
-use Rattle.layout.specs.Walk.{goOn, rootSeat, walk}
+use Rattle.layout.specs.Walk.{goOn, walk}
 use Rattle.layout.proofs.Near.{Near, faulty, codec-near}
 
 -- ---- a check

@@ -13,7 +13,7 @@ use Rattle.schema.specs.Walk.{fieldsOf}
 use Rattle.schema.specs.Types.{Fixed, bo, i1, i2, i4, i8, f4, f8, Ty, fix, text, li, ma, ro}
 use Rattle.layout.specs.Refusals.{Refusal, numbered, brokenAt}
 use Rattle.layout.specs.Layout.{faultAt}
-use Rattle.layout.specs.Walk.{Seen, rootSeat, walk}
+use Rattle.layout.specs.Walk.{Seen, rootSeat}
 use Rattle.layout.specs.Reading.{Answer, valueOf, placed, answerOf, found, readIn}
 use Rattle.layout.specs.Setting.{Setting, isSome, orEmpty, unless, _or_, refusalIn, suits, keeps, judgeAt, Outcome, outcome, setIn}
 use Rattle.layout.specs.Entries.{verdict, isAccepted, schemaBad, rowLong, broken, layoutBad, listingBad, judgeOf, checkOf, readAfter, readOf}

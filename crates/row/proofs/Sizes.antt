@@ -15,14 +15,13 @@ use Rattle.schema.specs.Walk.{fieldsOf}
 use Rattle.schema.specs.declared.Judged.{Judged}
 use Rattle.schema.specs.declared.Judged.the-variants.{Accepted, Refused}
 use Rattle.layout.specs.Cells.{Cell}
-use Rattle.layout.specs.Faults.{Read, fault, got, faultIn}
+use Rattle.layout.specs.Faults.{Read, fault, got, yielded, faultIn}
 use Rattle.layout.specs.Refusals.{numbered}
 use Rattle.layout.specs.Layout.{codec}
 use Rattle.layout.proofs.Faults.{got-some}
-use Rattle.layout.specs.Setting.{orEmpty}
 use Rattle.layout.specs.Entries.{takes, refusedWith, writeOf, imageOf, listOf, listingOf}
 use Rattle.row.specs.Outcomes.{lengthIn}
-use Rattle.row.proofs.Demand2.{relisted}
+use Rattle.layout.proofs.Demand2.{listing-below}
 
 either : (b : Bool) (n : ℕ) → lengthIn (cond b (takes n) (refusedWith (numbered 4) n)) ≡ n
 either true n = refl
@@ -30,15 +29,15 @@ either false n = refl
 
 -- a listing is at most three times its row
 pub list-below : (s row : List ℕ) (room : ℕ) → Bytes row → lengthIn (listOf s row room) ≤ 49152
-unfolding listOf faultIn
+unfolding listOf listingOf faultIn yielded
 list-below s row room hb = by-schema (judged s) refl
   where
     by-row : judged s ≡ Accepted → leb (length row) 16384 ≡ true → (m : Read Cell) → codec (ro (fieldsOf s)) .get row ≡ m → lengthIn (listOf s row room) ≤ 49152
     by-row a h (fault p) d = rw (a, h, d) (omega arith)
     by-row a h (got c) d =
-        let z = relisted s a row hb (leb-true (length row) 16384 h) c (got-some d) in
-        let m : length (orEmpty (listingOf s row)) ≡ length (z .listed) = rw (z .lists) in
-        rw (a, h, d, m, either) (omega (arith, z .short, leb-true (length row) 16384 h))
+        let short = leb-true (length row) 16384 h in
+        let z = listing-below s row a (record { bytes = hb; size = short; tree = c; reads = got-some d }) in
+        rw (a, h, d, either) (omega (arith, z, short))
 
     by-length : judged s ≡ Accepted → (v : Bool) → leb (length row) 16384 ≡ v → lengthIn (listOf s row room) ≤ 49152
     by-length a true h = by-row a h (codec (ro (fieldsOf s)) .get row) refl

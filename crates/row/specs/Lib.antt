@@ -1,7 +1,5 @@
--- The demands as statements over definitions alone. `proofs/` proves them.
+-- What the entries promise together, as statements over definitions alone. `proofs/` proves them; demands 2 and 3 stand in `layout`.
 pub mod Demand1
-pub mod Demand2
-pub mod Demand3
 pub mod Outcomes
 pub mod Unique
 pub mod Table

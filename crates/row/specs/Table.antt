@@ -146,7 +146,7 @@ N = zeros 8 ++ slot 16 8 ++ in8 0
 -- ---- the table
 
 -- writing the listing l gives exactly the row, check accepts it, and listing it gives l again
-pub record Stands (s l row : List ℕ) : Type 0 where
+pub record Case (s l row : List ℕ) : Type 0 where
   pub writes : writeOf s l (length row) ≡ takes (length row)
   pub written : writtenOf s l (zeros (length row)) ≡ row
   pub checks : checkOf s row ≡ done
@@ -154,16 +154,17 @@ pub record Stands (s l row : List ℕ) : Type 0 where
   pub listed : listedOf s row (zeros (length l)) ≡ l
 
 pub record Table : Type 0 where
-  pub a : Stands numbers (ro (i4 minus2 ++ i8 (in8 1))) A × (length A ≡ 24)
-  pub b : Stands numbers (ro (i4 minus2 ++ nu)) B
-  pub c : Stands string (ro (st (in4 3 ++ STK))) C
-  pub d : Stands string (ro (st (in4 0))) D × (length D ≡ 16)
-  pub e : Stands bytelist (ro (li (in4 10 ++ times 10 (i1 (7 ∷ []))))) E × (length E ≡ 48) × (part E 8 4 ≡ in4 32)
-  pub f : Stands map (ro (ma (in4 3 ++ i8 (in8 1) ++ i8 (in8 2) ++ i8 (in8 3) ++ i8 (in8 4) ++ i8 (in8 5) ++ i8 (in8 6)))) F × (length F ≡ 104) ×
+  pub a : Case numbers (ro (i4 minus2 ++ i8 (in8 1))) A × (length A ≡ 24)
+  pub b : Case numbers (ro (i4 minus2 ++ nu)) B
+  pub c : Case string (ro (st (in4 3 ++ STK))) C
+  pub d : Case string (ro (st (in4 0))) D × (length D ≡ 16)
+  pub e : Case bytelist (ro (li (in4 10 ++ times 10 (i1 (7 ∷ []))))) E × (length E ≡ 48) × (part E 8 4 ≡ in4 32)
+  pub f : Case map (ro (ma (in4 3 ++ i8 (in8 1) ++ i8 (in8 2) ++ i8 (in8 3) ++ i8 (in8 4) ++ i8 (in8 5) ++ i8 (in8 6)))) F × (length F ≡ 104) ×
       (part F 8 4 ≡ in4 88) × (part F 16 8 ≡ in8 40)
-  pub g : Stands nested (ro (ro (i8 (in8 9) ++ f8 one))) G × (length G ≡ 40)
-  -- the second offset, at byte 20, changed from 32 to 24
-  pub h : Stands strings (ro (st (in4 3 ++ STK) ++ st (in4 3 ++ PWR))) STK-PWR × (checkOf strings (set STK-PWR 20 24) ≡ refused (brokenAt 16))
+  pub g : Case nested (ro (ro (i8 (in8 9) ++ f8 one))) G × (length G ≡ 40)
+  -- the second offset, at byte 20, changed from 32 to 24; the first string of that row is read all the same
+  pub h : Case strings (ro (st (in4 3 ++ STK) ++ st (in4 3 ++ PWR))) STK-PWR × (checkOf strings (set STK-PWR 20 24) ≡ refused (brokenAt 16))
+      × (readOf strings (set STK-PWR 20 24) (0 ∷ []) ≡ R.bytes 24 3)
   -- the size, at byte 8, changed
   pub i : (checkOf string (set C 8 8) ≡ done) × (checkOf string (set C 8 9) ≡ refused (brokenAt 8))
   pub j : readOf string J (0 ∷ []) ≡ R.refused (brokenAt 8)
@@ -173,7 +174,7 @@ pub record Table : Type 0 where
   pub l : setOf numbers A (0 ∷ []) S.null ≡ becomes (in8 1 ++ zeros 8 ++ in8 1)
   pub m : (setOf string C (0 ∷ []) (S.bytes TPH) ≡ becomes (zeros 8 ++ slot 16 3 ++ (TPH ++ zeros 5)))
       × (setOf string C (0 ∷ []) (S.bytes (take 2 TPH)) ≡ refuses (numbered 9)) × (setOf string C (0 ∷ []) S.null ≡ refuses (numbered 9))
-  pub n : Stands bytelist (ro (li (in4 0))) N × (length N ≡ 24)
+  pub n : Case bytelist (ro (li (in4 0))) N × (length N ≡ 24)
   -- strings in another order than their fields: accepted, listed as in field order, read and set where they stand
   pub any-order : (checkOf strings turned ≡ done) × (listedOf strings turned (zeros 20) ≡ ro (st (in4 3 ++ STK) ++ st (in4 3 ++ PWR)))
       × (readOf strings turned (0 ∷ []) ≡ R.bytes 32 3)

@@ -254,10 +254,10 @@ pub fn open<'a>(schema: &'a [u8], row: &'a [u8]) -> Opened<'a>
 }
 
 // The plain read of two slices at one lifetime, as an opened row holds them.
-fn read_both<'a>(schema: &'a [u8], row: &'a [u8], p: Path) -> Answer
-    ensures { λ r. ⌜ meaning r ≡ readOf (now (schema .entry)) (now (row .entry)) (pathOf p) ⌝ }
+fn read_both<'a>(schema: &'a [u8], row: &'a [u8], path: Path) -> Answer
+    ensures { λ r. ⌜ meaning r ≡ readOf (now (schema .entry)) (now (row .entry)) (pathOf path) ⌝ }
 {
-    read(schema, row, p)
+    read(schema, row, path)
 }
 
 // A question to an opened row.

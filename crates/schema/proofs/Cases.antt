@@ -7,8 +7,8 @@ use Rattle.schema.specs.Marks.{types, markAt}
 use Rattle.schema.specs.Types.{fix, text, li, ma, ro, end, _then_, bo, i1, i2, i4, i8, f4, f8, st, bi, count}
 use Rattle.schema.specs.Types.{fixedPlace, textPlace, fixedAt, textAt, place, width, mark}
 use Rattle.schema.specs.House.{schema, depth}
-use Rattle.schema.specs.Kinds.{find, placeOf, kindOf, placed, headKind}
-use Rattle.schema.specs.Reading.{parse, parseAll, parseRo, parseKind, after, root, judged}
+use Rattle.schema.specs.Kinds.{find, placeOf, kindOf, kindOfPlace, headKind}
+use Rattle.schema.specs.Reading.{parseType, parseAll, parseRo, parseKind, after, root, judged}
 use Rattle.schema.specs.Walk.{typeAt, fieldsOf}
 use Rattle.schema.specs.declared.Judged.the-variants.{Accepted, Refused}
 
@@ -17,7 +17,7 @@ unfolding types markAt count fixedPlace textPlace fixedAt textAt place width mar
 lays = tt
 
 computes : Unit {0}
-unfolding lays find placeOf kindOf placed headKind parse parseAll parseRo parseKind judged typeAt fieldsOf
+unfolding lays find placeOf kindOf kindOfPlace headKind parseType parseAll parseRo parseKind judged typeAt fieldsOf
 computes = tt
 
 times : ℕ → List ℕ → List ℕ
@@ -120,6 +120,6 @@ unfolding computes times row too-long
 too-long-refused = refl
 
 -- by its length alone: it is read to its end
-too-long-read : after (parse 8 too-long) Refused root ≡ Accepted
+too-long-read : after (parseType 8 too-long) Refused root ≡ Accepted
 unfolding computes times row too-long
 too-long-read = refl

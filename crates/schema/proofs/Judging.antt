@@ -1,7 +1,7 @@
 -- When a schema is accepted: what the judge finds is what document 01 asks. Assumes nothing.
 use mathlib.Core.Path.{_≡_, refl, ap, sym, _∙_, subst}
 use mathlib.Core.Bool.{Bool, true, false}
-use mathlib.Core.List.{List, [], _∷_, _++_, append-nil}
+use mathlib.Core.List.{List, [], _∷_, append-nil}
 use Prim.Native.Nat.{ℕ, _+_, _<_, _≤_}
 use native.Mathlib.Omega.{arith}
 use borrow.Author.Tests.{le-leb, lt-leb, leb-true}
@@ -10,7 +10,7 @@ use lib.ListN.{length, length-append}
 use Rattle.schema.specs.Types.{Ty, fix, text, li, ma, ro, Tys, count}
 use Rattle.schema.specs.House.{schema, depth, Right, Schema}
 use Rattle.schema.specs.Kinds.{pick, kindAt, headKind, kindTy, structKind}
-use Rattle.schema.specs.Reading.{Parsed, none, some, after, parse, root, judged}
+use Rattle.schema.specs.Reading.{Parsed, none, some, after, parseType, root, judged}
 use Rattle.schema.specs.Walk.{size, Typed, typeAt, fieldsOf}
 use Rattle.schema.specs.declared.Judged.{Judged}
 use Rattle.schema.specs.declared.Judged.the-variants.{Accepted, Refused}
@@ -41,14 +41,14 @@ module _ (s : List ℕ) where
   module _ (h : length s ≤ 1024) where
     pub judged-other : (kindAt s 0 ≡ structKind → ⊥) → judged s ≡ Refused
     unfolding judged
-    judged-other n = rw (le-leb _ _ h) (other s n (parse 8 s) (sound 8 s))
+    judged-other n = rw (le-leb _ _ h) (other s n (parseType 8 s) (sound 8 s))
 
-    pub judged-none : parse 8 s ≡ none → judged s ≡ Refused
+    pub judged-none : parseType 8 s ≡ none → judged s ≡ Refused
     unfolding judged
     judged-none e = rw (le-leb _ _ h, e)
 
     -- a struct is read
-    module _ {ts : Tys} {r : List ℕ} (e : parse 8 s ≡ some (ro ts) r) where
+    module _ {ts : Tys} {r : List ℕ} (e : parseType 8 s ≡ some (ro ts) r) where
       lengths : length s ≡ size (ro ts) + length r
       unfolding size
       lengths = ap length (subst (Sound 8 s) e (sound 8 s) .form) ∙ length-append (schema (ro ts)) r
@@ -83,29 +83,13 @@ pub accepted-schema : (s : List ℕ) → judged s ≡ Accepted → Schema s
 unfolding judged
 accepted-schema s e = go (leb (length s) 1024) refl e
   where
-    go : (t : Bool) → leb (length s) 1024 ≡ t → pick t (after (parse 8 s) Refused root) Refused ≡ Accepted → Schema s
-    go true p q = from s (leb-true _ _ p) (parse 8 s) (sound 8 s) q
+    go : (t : Bool) → leb (length s) 1024 ≡ t → pick t (after (parseType 8 s) Refused root) Refused ≡ Accepted → Schema s
+    go true p q = from s (leb-true _ _ p) (parseType 8 s) (sound 8 s) q
     go false p q = let z : _≡_ {A = ℕ} 0 1 = cc in absurd (omega arith)
 
 pub schema-accepted : (s : List ℕ) → Schema s → judged s ≡ Accepted
 unfolding judged
 schema-accepted s c = rw (le-leb _ _ (c .short), c .form ∙ sym (append-nil (schema (ro (c .fields)))), complete (ro (c .fields)) 8 [] (c .right) (c .deep))
-
--- reading and the house form are inverse
-pub parse-bytes : (d : ℕ) (X : Ty) (r : List ℕ) → Right X → depth X ≤ d → parse d (schema X ++ r) ≡ some X r
-parse-bytes d X r = complete X d r
-
-pub bytes-parse : (d : ℕ) (s : List ℕ) (X : Ty) (r : List ℕ) → parse d s ≡ some X r → s ≡ schema X ++ r
-bytes-parse d s X r e = subst (Sound d s) e (sound d s) .form
-
--- a type has one house form that no other has
-pub schema-one : (X Y : Ty) → Right X → Right Y → schema X ≡ schema Y → X ≡ Y
-schema-one X Y h k e =
-    let d = depth X + depth Y in
-    let p : parse d (schema X ++ []) ≡ some X [] = complete X d [] h (omega arith) in
-    let q : parse d (schema Y ++ []) ≡ some Y [] = complete Y d [] k (omega arith) in
-    let r : parse d (schema X ++ []) ≡ parse d (schema Y ++ []) = ap (λ l. parse d (l ++ [])) e in
-    cc
 
 -- what an accepted schema is: a struct of 1 to 128 fields at its start
 pub record Root (s : List ℕ) : Type 0 where
@@ -119,10 +103,10 @@ pub record Root (s : List ℕ) : Type 0 where
   pub low : 1 ≤ count (fieldsOf s)
   pub high : count (fieldsOf s) ≤ 128
 
-read-whole : (s : List ℕ) (c : Schema s) → parse 8 s ≡ some (ro (c .fields)) []
-read-whole s c = ap (parse 8) (c .form ∙ sym (append-nil (schema (ro (c .fields))))) ∙ complete (ro (c .fields)) 8 [] (c .right) (c .deep)
+read-whole : (s : List ℕ) (c : Schema s) → parseType 8 s ≡ some (ro (c .fields)) []
+read-whole s c = ap (parseType 8) (c .form ∙ sym (append-nil (schema (ro (c .fields))))) ∙ complete (ro (c .fields)) 8 [] (c .right) (c .deep)
 
-pub schema-fields : (s : List ℕ) (c : Schema s) → c .fields ≡ fieldsOf s
+schema-fields : (s : List ℕ) (c : Schema s) → c .fields ≡ fieldsOf s
 unfolding fieldsOf typeAt
 schema-fields s c = rw (schema-accepted s c, read-whole s c)
 

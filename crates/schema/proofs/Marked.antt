@@ -9,7 +9,7 @@ use borrow.Author.Tests.{ltb-true, ltb-false}
 use lib.Dec.{ltb}
 use lib.ListN.{drop}
 use Rattle.schema.specs.Marks.{types, line, markAt}
-use Rattle.schema.specs.Kinds.{find, placed, kindOf, placeOf, headKind, Kind, fixedKind, textKind, listKind, mapKind, structKind, noKind}
+use Rattle.schema.specs.Kinds.{find, kindOfPlace, kindOf, placeOf, headKind, Kind, fixedKind, textKind, listKind, mapKind, structKind, noKind}
 use Rattle.schema.proofs.Table.{each, agree}
 use Rattle.schema.proofs.Search.{place-marks, placed-out}
 
@@ -36,41 +36,41 @@ Small mapKind = Unit {0}
 Small structKind = Unit {0}
 Small noKind = ⊥
 
-pub place-kind : (k : ℕ) → k < 12 → placeOfKind (placed k) ≡ k
-unfolding placed types kindOf
-place-kind = agree (λ k. placeOfKind (placed k)) (λ k. k) 12 refl
+pub place-kind : (k : ℕ) → k < 12 → placeOfKind (kindOfPlace k) ≡ k
+unfolding kindOfPlace types kindOf
+place-kind = agree (λ k. placeOfKind (kindOfPlace k)) (λ k. k) 12 refl
 
-pub fixed-placed : (k : ℕ) → k < 7 → placed k ≡ fixedKind k
-unfolding placed types kindOf
-fixed-placed = agree placed fixedKind 7 refl
+pub fixed-placed : (k : ℕ) → k < 7 → kindOfPlace k ≡ fixedKind k
+unfolding kindOfPlace types kindOf
+fixed-placed = agree kindOfPlace fixedKind 7 refl
 
-text-from : (j : ℕ) → j < 2 → placed (7 + j) ≡ textKind (7 + j)
-unfolding placed types kindOf
-text-from = agree (λ j. placed (7 + j)) (λ j. textKind (7 + j)) 2 refl
+text-from : (j : ℕ) → j < 2 → kindOfPlace (7 + j) ≡ textKind (7 + j)
+unfolding kindOfPlace types kindOf
+text-from = agree (λ j. kindOfPlace (7 + j)) (λ j. textKind (7 + j)) 2 refl
 
-pub text-placed : (k : ℕ) → 7 ≤ k → k < 9 → placed k ≡ textKind k
+pub text-placed : (k : ℕ) → 7 ≤ k → k < 9 → kindOfPlace k ≡ textKind k
 text-placed k l h =
     let e : 7 + (k - 7) ≡ k = omega arith in
-    subst (λ (n : ℕ). placed n ≡ textKind n) e (text-from (k - 7) (omega arith))
+    subst (λ (n : ℕ). kindOfPlace n ≡ textKind n) e (text-from (k - 7) (omega arith))
 
-holder-kind : (j : ℕ) → j < 3 → Small (placed (9 + j))
-unfolding placed types kindOf
-holder-kind = each (λ j. Small (placed (9 + j))) 3 (tt, (tt, (tt, tt)))
+holder-kind : (j : ℕ) → j < 3 → Small (kindOfPlace (9 + j))
+unfolding kindOfPlace types kindOf
+holder-kind = each (λ j. Small (kindOfPlace (9 + j))) 3 (tt, (tt, (tt, tt)))
 
-small-kind : (k : ℕ) → k < 12 → Small (placed k)
+small-kind : (k : ℕ) → k < 12 → Small (kindOfPlace k)
 small-kind k h = go (decLt k 7) (decLt k 9)
   where
-    go : Dec (k < 7) → Dec (k < 9) → Small (placed k)
+    go : Dec (k < 7) → Dec (k < 9) → Small (kindOfPlace k)
     go (yes p) q = subst Small (sym (fixed-placed k p)) p
     go (no p) (yes q) = subst Small (sym (text-placed k (omega arith) q)) (record { low = omega arith; high = q })
     go (no p) (no q) =
         let e : 9 + (k - 9) ≡ k = omega arith in
-        subst (λ (n : ℕ). Small (placed n)) e (holder-kind (k - 9) (omega arith))
+        subst (λ (n : ℕ). Small (kindOfPlace n)) e (holder-kind (k - 9) (omega arith))
 
 -- the kind of a mark's list is that of its place
-pub mark-kind : (r : List ℕ) (k : ℕ) → k < 12 → headKind (markAt k ++ r) ≡ placed k
+pub mark-kind : (r : List ℕ) (k : ℕ) → k < 12 → headKind (markAt k ++ r) ≡ kindOfPlace k
 unfolding headKind markAt types find placeOf
-mark-kind r = agree (λ k. headKind (markAt k ++ r)) placed 12 refl
+mark-kind r = agree (λ k. headKind (markAt k ++ r)) kindOfPlace 12 refl
 
 abbrev pub Real : Kind → Type 0
 Real (fixedKind k) = Unit {0}

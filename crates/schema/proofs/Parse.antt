@@ -10,8 +10,8 @@ use lib.ListN.{drop, getD}
 use Rattle.schema.specs.Marks.{types, markAt}
 use Rattle.schema.specs.Types.{Ty, fix, text, li, ma, ro, Tys, end, _then_, count, fixedPlace, textPlace, fixedAt, textAt, place, mark}
 use Rattle.schema.specs.House.{schema, schemas, depth, depths, Right, Rights}
-use Rattle.schema.specs.Kinds.{pick, placed, kindOf, headKind, kindTy, Kind, fixedKind, textKind, listKind, mapKind, structKind, noKind}
-use Rattle.schema.specs.Reading.{Parsed, none, some, ParsedAll, nones, somes, after, afters, parse, parseAll, parseRo, parseKind}
+use Rattle.schema.specs.Kinds.{pick, kindOfPlace, kindOf, headKind, kindTy, Kind, fixedKind, textKind, listKind, mapKind, structKind, noKind}
+use Rattle.schema.specs.Reading.{Parsed, none, some, ParsedAll, nones, somes, after, afters, parseType, parseAll, parseRo, parseKind}
 use Rattle.schema.proofs.Table.{fixed-at, text-at, fixed-high, text-low, text-high, place-fixed, place-text}
 use Rattle.schema.proofs.Marked.{headed, mark-kind, fixed-placed, text-placed}
 
@@ -111,42 +111,43 @@ module _ (d : ℕ) (p : List ℕ → Parsed) (h : (s : List ℕ) → Sound d s (
   kind-sound noKind e = tt
 
 -- what is read is the type's house form, and after what is left
-pub sound : (d : ℕ) (s : List ℕ) → Sound d s (parse d s)
-unfolding parse
+pub sound : (d : ℕ) (s : List ℕ) → Sound d s (parseType d s)
+unfolding parseType
 sound zero s = tt
-sound (suc d) s = kind-sound d (parse d) (sound d) s (headKind s) refl
+sound (suc d) s = kind-sound d (parseType d) (sound d) s (headKind s) refl
 
 -- a step of the reading at each mark
 module _ (d : ℕ) (r : List ℕ) where
-  step : (k : ℕ) (κ : Kind) → k < 12 → placed k ≡ κ → parse (suc d) (markAt k ++ r) ≡ parseKind (parse d) κ (markAt k ++ r)
-  unfolding parse
+  step : (k : ℕ) (κ : Kind) → k < 12 → kindOfPlace k ≡ κ → parseType (suc d) (markAt k ++ r) ≡ parseKind (parseType d) κ (markAt k ++ r)
+  unfolding parseType
   step k κ h e = rw (mark-kind r k h, e)
 
-  step-fixed : (k : ℕ) → k < 7 → parse (suc d) (markAt k ++ r) ≡ some (fix (fixedAt k)) r
+  step-fixed : (k : ℕ) → k < 7 → parseType (suc d) (markAt k ++ r) ≡ some (fix (fixedAt k)) r
   unfolding parseKind markAt
   step-fixed k h = step k (fixedKind k) (omega arith) (fixed-placed k h)
 
-  step-text : (k : ℕ) → 7 ≤ k → k < 9 → parse (suc d) (markAt k ++ r) ≡ some (text (textAt k)) r
+  step-text : (k : ℕ) → 7 ≤ k → k < 9 → parseType (suc d) (markAt k ++ r) ≡ some (text (textAt k)) r
   unfolding parseKind markAt
   step-text k l h = step k (textKind k) (omega arith) (text-placed k l h)
 
-  step-li : parse (suc d) (markAt 9 ++ r) ≡ after (parse d r) none (λ T q. some (li T) q)
-  unfolding parseKind markAt placed types kindOf
+  step-li : parseType (suc d) (markAt 9 ++ r) ≡ after (parseType d r) none (λ T q. some (li T) q)
+  unfolding parseKind markAt kindOfPlace types kindOf
   step-li = step 9 listKind (lit< tt) refl
 
-  step-ma : parse (suc d) (markAt 10 ++ r) ≡ after (parse d r) none (λ K q. after (parse d q) none (λ U o. some (ma K U) o))
-  unfolding parseKind markAt placed types kindOf
+  step-ma : parseType (suc d) (markAt 10 ++ r) ≡ after (parseType d r) none (λ K q. after (parseType d q) none (λ U o. some (ma K U) o))
+  unfolding parseKind markAt kindOfPlace types kindOf
   step-ma = step 10 mapKind (lit< tt) refl
 
-step-ro : (d : ℕ) (n : ℕ) (r : List ℕ) → 1 ≤ n → n ≤ 128 → parse (suc d) (markAt 11 ++ (n ∷ r)) ≡ afters (parseAll (parse d) n r) none (λ ts q. some (ro ts) q)
-unfolding parseKind markAt placed types kindOf parseRo
+step-ro : (d : ℕ) (n : ℕ) (r : List ℕ) → 1 ≤ n → n ≤ 128 → parseType (suc d) (markAt 11 ++ (n ∷ r))
+    ≡ afters (parseAll (parseType d) n r) none (λ ts q. some (ro ts) q)
+unfolding parseKind markAt kindOfPlace types kindOf parseRo
 step-ro d n r h k = step d (n ∷ r) 11 structKind (lit< tt) refl ∙ rw (le-leb 1 n h, le-leb n 128 k)
 
 -- a type's house form is read as the type
 mutual
   unfolding schema depth Right count parseAll mark place
 
-  pub complete : (T : Ty) (d : ℕ) (r : List ℕ) → Right T → depth T ≤ d → parse d (schema T ++ r) ≡ some T r
+  pub complete : (T : Ty) (d : ℕ) (r : List ℕ) → Right T → depth T ≤ d → parseType d (schema T ++ r) ≡ some T r
   complete (fix f) zero r h e = absurd (omega arith)
   complete (text t) zero r h e = absurd (omega arith)
   complete (li T) zero r h e = absurd (omega arith)
@@ -170,7 +171,7 @@ mutual
         complete-all ts d r (h .1) (omega arith),
       )
 
-  complete-all : (ts : Tys) (d : ℕ) (r : List ℕ) → Rights ts → depths ts ≤ d → parseAll (parse d) (count ts) (schemas ts ++ r) ≡ somes ts r
+  complete-all : (ts : Tys) (d : ℕ) (r : List ℕ) → Rights ts → depths ts ≤ d → parseAll (parseType d) (count ts) (schemas ts ++ r) ≡ somes ts r
   complete-all end d r h e = refl
   complete-all (T then ts) d r h e = rw (
     append-assoc (schema T) (schemas ts) r,
@@ -181,7 +182,7 @@ mutual
 
 -- the kind that a type's house form begins with
 pub schema-kind : (X : Ty) (r : List ℕ) → headKind (schema X ++ r) ≡ kindTy X
-unfolding schema mark place placed types kindOf
+unfolding schema mark place kindOfPlace types kindOf
 schema-kind (fix f) r = mark-kind r (fixedPlace f) (omega (arith, fixed-high f)) ∙ fixed-placed (fixedPlace f) (fixed-high f)
 schema-kind (text t) r = mark-kind r (textPlace t) (omega (arith, text-high t)) ∙ text-placed (textPlace t) (text-low t) (text-high t)
 schema-kind (li X) r = rw (append-assoc (markAt 9) (schema X) r) (mark-kind _ 9 (lit< tt))

@@ -7,7 +7,7 @@ use native.Mathlib.Omega.{arith}
 use lib.ListN.{length, getD}
 use Rattle.schema.specs.Marks.{types}
 use Rattle.schema.specs.Types.{Ty, fix, text, li, ma, ro, Tys, fixedAt, textAt, place}
-use Rattle.schema.specs.Kinds.{placed, kindOf, kindAt, kindTy, placeAt, noKind}
+use Rattle.schema.specs.Kinds.{kindOfPlace, kindOf, kindAt, kindTy, placeAt, noKind}
 use Rattle.schema.specs.Walk.{Typed, typeAt, nextAt, ListAt, MapAt, StructAt}
 use Rattle.schema.proofs.Table.{fixed-at, text-at, fixed-high, text-low, text-high}
 use Rattle.schema.proofs.Marked.{placeOfKind, Real, place-kind}
@@ -46,7 +46,7 @@ module _ (s : List ℕ) (at d : ℕ) (h : Typed s at d) where
       go (yes p) = p
       go (no n) = absurd (past (decLt at (length s)) n)
 
-  kind-is : placed (placeAt s at) ≡ kindTy (typeAt s at d)
+  kind-is : kindOfPlace (placeAt s at) ≡ kindTy (typeAt s at d)
   unfolding placeAt
   kind-is = sym (kind-two s at mark-two) ∙ typed-kind s at d h
 
@@ -60,20 +60,20 @@ module _ (s : List ℕ) (at d : ℕ) (h : Typed s at d) where
   pub typed-place : placeAt s at ≡ place (typeAt s at d)
   typed-place = sym (place-kind (placeAt s at) place-small) ∙ ap placeOfKind kind-is ∙ kind-place (typeAt s at d)
 
-  kind-of : (k : ℕ) → k ≡ placeAt s at → kindAt s at ≡ placed k
+  kind-of : (k : ℕ) → k ≡ placeAt s at → kindAt s at ≡ kindOfPlace k
   unfolding placeAt
-  kind-of k e = kind-two s at mark-two ∙ ap placed (sym e)
+  kind-of k e = kind-two s at mark-two ∙ ap kindOfPlace (sym e)
 
   pub place-li : (k : ℕ) → k ≡ placeAt s at → k ≡ 9 → ListAt s at d (at + 2)
-  unfolding placed types kindOf
+  unfolding kindOfPlace types kindOf
   place-li k e n = typed-li s at d h (kind-of 9 (sym n ∙ e))
 
   pub place-ma : (k : ℕ) → k ≡ placeAt s at → k ≡ 10 → MapAt s at d (at + 2) (nextAt s (at + 2) (d - 1))
-  unfolding placed types kindOf
+  unfolding kindOfPlace types kindOf
   place-ma k e n = typed-ma s at d h (kind-of 10 (sym n ∙ e))
 
   pub place-ro : (k : ℕ) → k ≡ placeAt s at → k ≡ 11 → (n : ℕ) → n ≡ getD s (at + 2) 0 → StructAt s at d (at + 3) n
-  unfolding placed types kindOf
+  unfolding kindOfPlace types kindOf
   place-ro k e n = typed-ro s at d h (kind-of 11 (sym n ∙ e))
 
 -- ---- what a place says of a type

@@ -10,7 +10,7 @@ use lib.Seq.{drop-cons}
 use lib.Dec.{eqb}
 use borrow.Author.Tests.{eqb-true, le-ltb}
 use Rattle.schema.specs.Marks.{fixed, Entry, entry, types, line}
-use Rattle.schema.specs.Kinds.{find, pick, isMark, placed, placeOf, headKind, kindAt, noKind}
+use Rattle.schema.specs.Kinds.{find, pick, isMark, kindOfPlace, placeOf, headKind, kindAt, noKind}
 
 -- a line that has the mark a b
 pub record Marks (e : Entry) (a b : ℕ) : Type 0 where
@@ -48,8 +48,8 @@ place-marks a b h = marks (line (placeOf a b)) a b (place-is a b h)
 
 -- ---- from a place to a kind
 
-pub placed-out : (k : ℕ) → 12 ≤ k → placed k ≡ noKind
-unfolding placed
+pub placed-out : (k : ℕ) → 12 ≤ k → kindOfPlace k ≡ noKind
+unfolding kindOfPlace
 placed-out k h = rw (le-ltb k 12 h)
 
 module _ (s : List ℕ) (at : ℕ) where
@@ -61,6 +61,6 @@ module _ (s : List ℕ) (at : ℕ) where
   unfolding headKind kindAt
   kind-short h k = rw (drop-cons s at 0 h, drop-of-length-le s {i = suc at} (omega arith))
 
-  pub kind-two : at + 1 < length s → kindAt s at ≡ placed (placeOf (getD s at 0) (getD s (at + 1) 0))
+  pub kind-two : at + 1 < length s → kindAt s at ≡ kindOfPlace (placeOf (getD s at 0) (getD s (at + 1) 0))
   unfolding headKind kindAt
   kind-two h = rw (drop-cons s at 0 (omega arith), ← add-one at, drop-cons s (at + 1) 0 h)

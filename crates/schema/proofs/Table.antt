@@ -134,3 +134,16 @@ place-text k l h =
 pub line-width : (k : ℕ) → k < 7 → line k .width ≡ width (fixedAt k)
 unfolding width
 line-width k h = sym (ap (λ n. line n .width) (place-fixed k h))
+
+-- of kind 0, bool
+pub bool-at : (k : ℕ) → k ≡ 0 → fixedAt k ≡ bo
+unfolding fixedAt
+bool-at k e = rw e
+
+pub bool-one : (k : ℕ) → k ≡ 0 → width (fixedAt k) ≡ 1
+unfolding width types fixedPlace
+bool-one k e = ap width (bool-at k e)
+
+pub mark-two : (k : ℕ) → length (markAt k) ≡ 2
+unfolding markAt
+mark-two k = refl

@@ -9,7 +9,7 @@ use lib.Dec.{T, leb}
 use lib.ListN.{length, drop, getD}
 use Rattle.schema.specs.Types.{Ty, text, li, ma, ro, Tys, end, _then_, st, count, field}
 use Rattle.schema.specs.Kinds.{pick, kindAt, headKind, kindTy, listKind, mapKind, structKind}
-use Rattle.schema.specs.Reading.{Parsed, none, some, ParsedAll, nones, somes, after, afters, parse, parseAll, parseRo}
+use Rattle.schema.specs.Reading.{Parsed, none, some, ParsedAll, nones, somes, after, afters, parseType, parseAll, parseRo}
 use Rattle.schema.specs.Walk.{size, Typed, typeAt, TypedAll, typesAt, nextAt, ListAt, MapAt, StructAt, HasField, fieldAt}
 use Rattle.schema.proofs.Parse.{Sound, SoundAll, sound, all-sound, complete, schema-kind}
 use Rattle.schema.proofs.Laws.{Left, left, step-li, step-ma, step-ro, all-none, all-more}
@@ -50,17 +50,17 @@ pub record FieldsLaw (s : List ℕ) (at d n : ℕ) : Type 0 where
 
 module _ (s : List ℕ) (at d : ℕ) (h : Typed s at d) where
   pub typed-deep : 0 < d
-  unfolding Typed parse
+  unfolding Typed parseType
   typed-deep = go d h
     where
-      go : (d : ℕ) → T (good (parse d (drop at s))) → 0 < d
+      go : (d : ℕ) → T (good (parseType d (drop at s))) → 0 < d
       go zero k = absurd k
       go (suc d) k = omega arith
 
   -- the mark that stands there is the type's
   pub typed-kind : kindAt s at ≡ kindTy (typeAt s at d)
   unfolding Typed typeAt kindAt
-  typed-kind = go (parse d (drop at s)) (sound d (drop at s)) h
+  typed-kind = go (parseType d (drop at s)) (sound d (drop at s)) h
     where
       go : (x : Parsed) → Sound d (drop at s) x → T (good x) → headKind (drop at s) ≡ kindTy (ty x)
       go none k g = absurd g
@@ -69,7 +69,7 @@ module _ (s : List ℕ) (at d : ℕ) (h : Typed s at d) where
   -- the type ends within the list
   pub typed-room : nextAt s at d ≤ length s
   unfolding Typed typeAt nextAt
-  typed-room = go (parse d (drop at s)) (left s at d) h
+  typed-room = go (parseType d (drop at s)) (left s at d) h
     where
       go : (x : Parsed) → Left s at x → T (good x) → at + size (ty x) ≤ length s
       go none k g = absurd g
@@ -78,7 +78,7 @@ module _ (s : List ℕ) (at d : ℕ) (h : Typed s at d) where
   pub typed-li : kindAt s at ≡ listKind → ListLaw s at d
   unfolding Typed typeAt
   typed-li e =
-      let g = go (parse (d - 1) (drop (at + 2) s)) (subst (λ (x : Parsed). T (good x)) (step-li s at d typed-deep e) h) in
+      let g = go (parseType (d - 1) (drop (at + 2) s)) (subst (λ (x : Parsed). T (good x)) (step-li s at d typed-deep e) h) in
       record { whole = rw (step-li s at d typed-deep e) (g .0); deep = typed-deep; element = g .1 }
     where
       go : (x : Parsed) → T (good (after x none (λ X r. some (li X) r))) → (ty (after x none (λ X r. some (li X) r)) ≡ li (ty x)) × T (good x)
@@ -88,27 +88,27 @@ module _ (s : List ℕ) (at d : ℕ) (h : Typed s at d) where
   pub typed-ma : kindAt s at ≡ mapKind → MapLaw s at d
   unfolding Typed typeAt nextAt
   typed-ma e =
-      let g = go (parse (d - 1) (drop (at + 2) s)) (left s (at + 2) (d - 1)) (subst (λ (x : Parsed). T (good x)) (step-ma s at d typed-deep e) h) in
+      let g = go (parseType (d - 1) (drop (at + 2) s)) (left s (at + 2) (d - 1)) (subst (λ (x : Parsed). T (good x)) (step-ma s at d typed-deep e) h) in
       record { whole = rw (step-ma s at d typed-deep e) (g .0); deep = typed-deep; keys = g .1; values = g .2 }
     where
       two : (K : Ty) (y : Parsed) → T (good (both K y)) → (ty (both K y) ≡ ma K (ty y)) × T (good y)
       two K none g = absurd g
       two K (some U q) g = (refl, tt)
 
-      go : (x : Parsed) → Left s (at + 2) x → T (good (after x none (λ K r. both K (parse (d - 1) r))))
-          → (ty (after x none (λ K r. both K (parse (d - 1) r))) ≡ ma (ty x) (ty (parse (d - 1) (drop (at + 2 + size (ty x)) s))))
-          × T (good x) × T (good (parse (d - 1) (drop (at + 2 + size (ty x)) s)))
+      go : (x : Parsed) → Left s (at + 2) x → T (good (after x none (λ K r. both K (parseType (d - 1) r))))
+          → (ty (after x none (λ K r. both K (parseType (d - 1) r))) ≡ ma (ty x) (ty (parseType (d - 1) (drop (at + 2 + size (ty x)) s))))
+          × T (good x) × T (good (parseType (d - 1) (drop (at + 2 + size (ty x)) s)))
       go none l g = absurd g
       go (some K r) l g =
-          let t = two K (parse (d - 1) r) g in
+          let t = two K (parseType (d - 1) r) g in
           rw (← l .form) (t .0, tt, t .1)
 
   -- of a struct, n is the byte after the mark
   pub typed-ro : kindAt s at ≡ structKind → (n : ℕ) → n ≡ getD s (at + 2) 0 → StructLaw s at d n
   unfolding Typed typeAt TypedAll typesAt parseRo
   typed-ro e n c =
-      let p : parse d (drop at s) ≡ parseRo (parse (d - 1)) n (drop (at + 3) s) = step-ro s at d typed-deep e ∙ rw (← c) in
-      let g = go (leb 1 n) (leb n 128) refl refl (parseAll (parse (d - 1)) n (drop (at + 3) s)) (subst (λ (x : Parsed). T (good x)) p h) in
+      let p : parseType d (drop at s) ≡ parseRo (parseType (d - 1)) n (drop (at + 3) s) = step-ro s at d typed-deep e ∙ rw (← c) in
+      let g = go (leb 1 n) (leb n 128) refl refl (parseAll (parseType (d - 1)) n (drop (at + 3) s)) (subst (λ (x : Parsed). T (good x)) p h) in
       record { whole = rw p (g .0); deep = typed-deep; fields = g .1; low = g .2; high = g .3 }
     where
       go : (t u : Bool) → leb 1 n ≡ t → leb n 128 ≡ u → (x : ParsedAll)
@@ -125,19 +125,20 @@ module _ (s : List ℕ) (at d n : ℕ) (h : TypedAll s at d n) where
   unfolding Typed typeAt TypedAll typesAt nextAt
   typed-more k =
       let p = all-more s at d n k in
-      let g = go (parse d (drop at s)) (left s at d) (subst (λ (x : ParsedAll). T (goods x)) p h) in
+      let g = go (parseType d (drop at s)) (left s at d) (subst (λ (x : ParsedAll). T (goods x)) p h) in
       record { whole = rw p (g .0); first = g .1; others = g .2 }
     where
       two : (X : Ty) (y : ParsedAll) → T (goods (more X y)) → (tys (more X y) ≡ X then tys y) × T (goods y)
       two X nones g = absurd g
       two X (somes Xs q) g = (refl, tt)
 
-      go : (x : Parsed) → Left s at x → T (goods (after x nones (λ X r. more X (parseAll (parse d) (n - 1) r))))
-          → (tys (after x nones (λ X r. more X (parseAll (parse d) (n - 1) r))) ≡ ty x then tys (parseAll (parse d) (n - 1) (drop (at + size (ty x)) s)))
-          × T (good x) × T (goods (parseAll (parse d) (n - 1) (drop (at + size (ty x)) s)))
+      go : (x : Parsed) → Left s at x → T (goods (after x nones (λ X r. more X (parseAll (parseType d) (n - 1) r))))
+          → (tys (after x nones (λ X r. more X (parseAll (parseType d) (n - 1) r)))
+          ≡ ty x then tys (parseAll (parseType d) (n - 1) (drop (at + size (ty x)) s)))
+          × T (good x) × T (goods (parseAll (parseType d) (n - 1) (drop (at + size (ty x)) s)))
       go none l g = absurd g
       go (some X r) l g =
-          let t = two X (parseAll (parse d) (n - 1) r) g in
+          let t = two X (parseAll (parseType d) (n - 1) r) g in
           rw (← l .form) (t .0, tt, t .1)
 
   pub typed-done : n ≡ 0 → typesAt s at d n ≡ end
@@ -146,7 +147,7 @@ module _ (s : List ℕ) (at d n : ℕ) (h : TypedAll s at d n) where
 
   pub typed-count : count (typesAt s at d n) ≡ n
   unfolding TypedAll typesAt
-  typed-count = go (parseAll (parse d) n (drop at s)) (all-sound d (parse d) (sound d) n (drop at s)) h
+  typed-count = go (parseAll (parseType d) n (drop at s)) (all-sound d (parseType d) (sound d) n (drop at s)) h
     where
       go : (x : ParsedAll) → SoundAll d n (drop at s) x → T (goods x) → count (tys x) ≡ n
       go nones k g = absurd g
@@ -164,13 +165,13 @@ pub record Deeper (s : List ℕ) (at d e : ℕ) : Type 0 where
 pub typed-deeper : (s : List ℕ) (at d e : ℕ) → Typed s at d → d ≤ e → Deeper s at d e
 unfolding Typed typeAt
 typed-deeper s at d e h l =
-    let g = go (parse d (drop at s)) (sound d (drop at s)) h in
+    let g = go (parseType d (drop at s)) (sound d (drop at s)) h in
     record { typed = g .0; same = g .1 }
   where
-    go : (x : Parsed) → Sound d (drop at s) x → T (good x) → T (good (parse e (drop at s))) × (ty (parse e (drop at s)) ≡ ty x)
+    go : (x : Parsed) → Sound d (drop at s) x → T (good x) → T (good (parseType e (drop at s))) × (ty (parseType e (drop at s)) ≡ ty x)
     go none k g = absurd g
     go (some X r) k g =
-        let p : parse e (drop at s) ≡ some X r = ap (parse e) (k .form) ∙ complete X e r (k .right) (omega arith) in
+        let p : parseType e (drop at s) ≡ some X r = ap (parseType e) (k .form) ∙ complete X e r (k .right) (omega arith) in
         (subst (λ (x : Parsed). T (good x)) (sym p) tt, ap ty p)
 
 -- fields by number: the i-th stands at `fieldAt`, and is the i-th of the struct's types
@@ -194,7 +195,7 @@ pub record FieldStep (s : List ℕ) (at d i : ℕ) : Type 0 where
   pub on : HasField s (nextAt s at d) d (i - 1)
   pub same : fieldAt s at d i ≡ fieldAt s (nextAt s at d) d (i - 1)
 
-pub field-step : (s : List ℕ) (at d i : ℕ) → HasField s at d i → 0 < i → FieldStep s at d i
+field-step : (s : List ℕ) (at d i : ℕ) → HasField s at d i → 0 < i → FieldStep s at d i
 unfolding fieldAt
 field-step s at d zero h l = absurd (omega arith)
 field-step s at d (suc i) h l =

@@ -36,14 +36,14 @@ kindOf k map = mapKind
 kindOf k struct = structKind
 
 -- the kind of the type at a place of the table
-unfoldable pub placed : ℕ → Kind
-placed k = pick (ltb k 12) (kindOf k (line k .kind)) noKind
+unfoldable pub kindOfPlace : ℕ → Kind
+kindOfPlace k = pick (ltb k 12) (kindOf k (line k .kind)) noKind
 
 -- the kind of what a list begins with
 unfoldable pub headKind : List ℕ → Kind
 headKind [] = noKind
 headKind (a ∷ []) = noKind
-headKind (a ∷ b ∷ s) = placed (placeOf a b)
+headKind (a ∷ b ∷ s) = kindOfPlace (placeOf a b)
 
 unfoldable pub kindAt : List ℕ → ℕ → Kind
 kindAt s at = headKind (drop at s)

@@ -36,6 +36,19 @@ types =
     ∷ entry 114 111 0 struct
     ∷ []
 
+-- places of the table by name, as the code has them: the types before a string's have a fixed width, those before a list's are leaves
+abbrev pub STRING : ℕ
+STRING = 7
+
+abbrev pub LIST : ℕ
+LIST = 9
+
+abbrev pub MAP : ℕ
+MAP = 10
+
+abbrev pub STRUCT : ℕ
+STRUCT = 11
+
 -- the line at a place of the table
 abbrev pub line : ℕ → Entry
 line k = getD types k (entry 0 0 0 fixed)
@@ -46,4 +59,4 @@ markAt k = line k .first ∷ line k .second ∷ []
 
 -- the bytes of an element of the type at a place of the table: a slot's 8 where they vary
 unfoldable pub elementWidth : ℕ → ℕ
-elementWidth k = cond (ltb k 7) (line k .width) 8
+elementWidth k = cond (ltb k STRING) (line k .width) 8

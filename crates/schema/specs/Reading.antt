@@ -44,9 +44,9 @@ parseKind p structKind s = parseRo p (getD s 2 0) (drop 3 s)
 parseKind p noKind s = none
 
 -- the type that a list begins with, at most d deep
-unfoldable pub parse : ℕ → List ℕ → Parsed
-parse zero s = none
-parse (suc d) s = parseKind (parse d) (headKind s) s
+unfoldable pub parseType : ℕ → List ℕ → Parsed
+parseType zero s = none
+parseType (suc d) s = parseKind (parseType d) (headKind s) s
 
 -- a struct and nothing after it
 abbrev pub root : Ty → List ℕ → Judged
@@ -58,4 +58,4 @@ root (li t) r = Refused
 root (ma k v) r = Refused
 
 unfoldable pub judged : List ℕ → Judged
-judged s = pick (leb (length s) 1024) (after (parse 8 s) Refused root) Refused
+judged s = pick (leb (length s) 1024) (after (parseType 8 s) Refused root) Refused

@@ -2,7 +2,7 @@
 use mathlib.Core.List.{List, [], _∷_}
 use Prim.Native.Nat.{ℕ, zero, suc, _-_}
 use lib.ListN.{getD}
-use Rattle.schema.specs.Marks.{line, markAt}
+use Rattle.schema.specs.Marks.{STRING, LIST, MAP, STRUCT, line, markAt}
 
 -- the types of a fixed width: bool, int8, int16, int32, int64, float32, float64
 pub data Fixed : Type 0 where
@@ -57,14 +57,14 @@ unfoldable pub fixedAt : ℕ → Fixed
 fixedAt k = getD (bo ∷ i1 ∷ i2 ∷ i4 ∷ i8 ∷ f4 ∷ f8 ∷ []) k bo
 
 unfoldable pub textAt : ℕ → Text
-textAt k = getD (st ∷ bi ∷ []) (k - 7) st
+textAt k = getD (st ∷ bi ∷ []) (k - STRING) st
 
 unfoldable pub place : Ty → ℕ
 place (fix f) = fixedPlace f
 place (text t) = textPlace t
-place (li t) = 9
-place (ma k v) = 10
-place (ro ts) = 11
+place (li t) = LIST
+place (ma k v) = MAP
+place (ro ts) = STRUCT
 
 unfoldable pub width : Fixed → ℕ
 width f = line (fixedPlace f) .width

@@ -7,7 +7,7 @@ use lib.Dec.{T}
 use lib.ListN.{length, drop}
 use Rattle.schema.specs.Types.{Ty, fix, text, li, ma, ro, Tys, end, st}
 use Rattle.schema.specs.House.{schema, schemas}
-use Rattle.schema.specs.Reading.{after, afters, parse, parseAll, judged}
+use Rattle.schema.specs.Reading.{after, afters, parseType, parseAll, judged}
 use Rattle.schema.specs.declared.Judged.{Judged}
 use Rattle.schema.specs.declared.Judged.the-variants.{Accepted, Refused}
 
@@ -20,17 +20,17 @@ sizes ts = length (schemas ts)
 
 -- a type, at most d deep, stands at a position; and which one
 unfoldable pub Typed : List ℕ → ℕ → ℕ → Type 0
-Typed s at d = T (after (parse d (drop at s)) false (λ t r. true))
+Typed s at d = T (after (parseType d (drop at s)) false (λ t r. true))
 
 unfoldable pub typeAt : List ℕ → ℕ → ℕ → Ty
-typeAt s at d = after (parse d (drop at s)) (text st) (λ t r. t)
+typeAt s at d = after (parseType d (drop at s)) (text st) (λ t r. t)
 
 -- n types stand one after the other from a position on; and which
 unfoldable pub TypedAll : List ℕ → ℕ → ℕ → ℕ → Type 0
-TypedAll s at d n = T (afters (parseAll (parse d) n (drop at s)) false (λ ts r. true))
+TypedAll s at d n = T (afters (parseAll (parseType d) n (drop at s)) false (λ ts r. true))
 
 unfoldable pub typesAt : List ℕ → ℕ → ℕ → ℕ → Tys
-typesAt s at d n = afters (parseAll (parse d) n (drop at s)) end (λ ts r. ts)
+typesAt s at d n = afters (parseAll (parseType d) n (drop at s)) end (λ ts r. ts)
 
 -- the position after the type at a position
 unfoldable pub nextAt : List ℕ → ℕ → ℕ → ℕ

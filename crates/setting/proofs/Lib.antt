@@ -1,5 +1,5 @@
 -- Laws that the proofs cite.
-pub mod Fits
-pub mod Written
-pub mod Settled
+mod Fits
+mod Written
+mod Settled
 pub mod Refused

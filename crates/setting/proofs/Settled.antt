@@ -7,16 +7,17 @@ use native.Mathlib.Omega.{arith}
 use lib.ListN.{length}
 use borrow.Author.Tests.{le-leb}
 use Rattle.words.proofs.Parts.{length-part}
-use Rattle.schema.specs.Types.{Fixed, bo, i1, i2, i4, i8, f4, f8, Ty, fix, Text, text, li, ma, ro, fixedAt, textAt}
+use Rattle.schema.specs.Types.{Fixed, Ty, fix, Text, text, li, ma, ro, fixedAt, textAt}
 use Rattle.table.specs.Words.{placeIn}
 use Rattle.table.specs.Tables.{schemaOf}
 use Rattle.layout.specs.Refusals.{Refusal, numbered, brokenAt}
 use Rattle.layout.specs.Walk as W
 use Rattle.layout.specs.Walk.{Seen, bad, nullAt, seen, rootSeat, walk}
-use Rattle.layout.specs.Reading.{valueOf, answerOf, found, placed, readIn}
+use Rattle.layout.specs.Reading.{answerOf, found, placed, readIn}
 use Rattle.layout.specs.Setting as S
 use Rattle.layout.specs.Setting.{Setting, suits, keepsText, keeps, _or_, refusalIn, judgeAt, write, writeAt, outcome, setIn}
 use Rattle.layout.specs.Entries.{setOf}
+use Rattle.layout.proofs.Told.{value-present}
 use Rattle.answers.specs.declared.Outcome.{Outcome}
 use Rattle.answers.specs.declared.Outcome.the-variants as O
 use Rattle.answers.specs.declared.Refusal.the-variants as F
@@ -25,9 +26,9 @@ use Rattle.answers.specs.declared.Setting.{Setting as Asked}
 use Rattle.answers.specs.Meaning.{givenMeans, settingOf}
 use Rattle.reading.specs.Children.{seatAs}
 use Rattle.reading.specs.Opening.{openTy, Kinded}
-use Rattle.reading.specs.Places.{placeTy, bytesOf, Stands, NullIn}
+use Rattle.reading.specs.Places.{placeTy, bytesOf, PlaceHolds, NullIn}
 use Rattle.reading.specs.Finding.{foundAs, seenIn, rootTy, Open, Finds}
-use Rattle.reading.specs.declared.Opened.{Opened}
+use Rattle.reading.specs.declared.TypeParts.{TypeParts}
 use Rattle.reading.specs.declared.Seat.{Seat}
 use Rattle.reading.specs.declared.Place.{Place}
 use Rattle.reading.specs.declared.Found.{Found}
@@ -70,12 +71,12 @@ module _ (x : Setting) (row : List ℕ) where
   holder-refused (ro ts) w h = record { answers = refl; after = refl }
 
 -- its type's entry says the place of a leaf's type
-fixed-type : (t : List ℕ) (x : Opened) → Kinded x → x .kind < 7 → openTy t x ≡ fix (fixedAt (placeIn (x .entry)))
+fixed-type : (t : List ℕ) (x : TypeParts) → Kinded x → x .kind < 7 → openTy t x ≡ fix (fixedAt (placeIn (x .entry)))
 fixed-type t x k l = ty-fixed t x l ∙ ap (λ (j : ℕ). fix (fixedAt j)) (sym (leaf-place k (omega arith)))
 
 -- ---- a null
 
-module _ {row : List ℕ} {x : Opened} {z : Seat} (N : NullThere row x z) where
+module _ {row : List ℕ} {x : TypeParts} {z : Seat} (N : NullThere row x z) where
   pub null-leaf : x .kind < 7 → FixedSeat row (x .entry) z
   null-leaf l = record {
     leaf = record { lined = N .known .lined; fixed = rw (leaf-place (N .known) (omega arith)) l };
@@ -160,19 +161,9 @@ null-none (li t) z = refl
 null-none (ma k v) z = refl
 null-none (ro ts) z = refl
 
-value-none : (f : Fixed) (b : List ℕ) → refusalIn (valueOf f b) ≡ none
-unfolding valueOf refusalIn
-value-none bo b = refl
-value-none i1 b = refl
-value-none i2 b = refl
-value-none i4 b = refl
-value-none i8 b = refl
-value-none f4 b = refl
-value-none f8 b = refl
-
 seen-none : (t : Ty) (z : W.Seat) (o : ℕ) (b : List ℕ) → refusalIn (answerOf t (seen z o b)) ≡ none
 unfolding answerOf refusalIn
-seen-none (fix f) z o b = value-none f b
+seen-none (fix f) z o b = value-present f b
 seen-none (text f) z o b = refl
 seen-none (li t) z o b = refl
 seen-none (ma k v) z o b = refl
@@ -231,7 +222,7 @@ module _ {t row p : List ℕ} {r : Found} (C : Checked t row) (G : Finds t row p
       → setOf (schemaOf t) row p x ≡ leafOutcome T x w row
   set-here x T e w q h = set-is x ∙ here-is x row to T view w e (sym q ∙ walk-is T e) h
 
-  module _ {y : Opened} {z : Seat} (e : r ≡ Null y z) where
+  module _ {y : TypeParts} {z : Seat} (e : r ≡ Null y z) where
     null-lies : NullIn t row y z
     null-lies = rw e at (G .lands)
 
@@ -249,7 +240,7 @@ module _ {t row p : List ℕ} {r : Found} (C : Checked t row) (G : Finds t row p
         subst (λ (o : S.Outcome). SetAs o row row′ a) (sym q) (h t u)
 
   module _ {y : Place} (e : r ≡ At y) where
-    stands : Stands t row y
+    stands : PlaceHolds t row y
     stands = rw e at (G .lands)
 
     pub place-there : PlaceThere row y

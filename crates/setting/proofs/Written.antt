@@ -1,7 +1,6 @@
 -- What is written at a leaf, and the refusals before it. Assumes nothing.
 use mathlib.Core.Path.{_≡_, refl, ap, _∙_, subst}
 use mathlib.Core.Bool.{Bool, true, false}
-use mathlib.Core.Option.{none}
 use mathlib.Core.List.{List}
 use Prim.Native.Nat.{ℕ, _+_, _-_, _^_, _≤_, _<_}
 use native.Mathlib.Nat.{sub-zero}
@@ -14,11 +13,12 @@ use Rattle.words.specs.Bits.{putBit}
 use Rattle.words.proofs.Numbers.{length-le}
 use Rattle.words.proofs.NumLaws.{le-pad}
 use Rattle.words.proofs.Parts.{part-whole}
-use Rattle.schema.specs.Types.{Fixed, bo, i1, i2, i4, i8, f4, f8, fix, fixedAt, width}
+use Rattle.schema.specs.Types.{Fixed, fix, fixedAt, width}
 use Rattle.schema.proofs.Table.{line-width}
 use Rattle.table.specs.Words.{placeIn}
 use Rattle.layout.specs.Setting as S
-use Rattle.layout.specs.Setting.{Setting, inBytes, boolBytes, signedBytes, float32Bytes, float64Bytes, suits, writeFixed}
+use Rattle.layout.specs.Setting.{Setting, suits, writeFixed}
+use Rattle.layout.proofs.Updated.{null-bytes}
 use Rattle.answers.specs.declared.Outcome.the-variants as O
 use Rattle.answers.specs.declared.Refusal.the-variants as F
 use Rattle.answers.specs.declared.Given.{Given}
@@ -52,16 +52,6 @@ module _ (row : List ℕ) (s : Seat) {row₁ row′ : List ℕ} where
 
 -- ---- a leaf of a fixed width
 
-null-bytes : (f : Fixed) → inBytes f S.null ≡ none
-unfolding inBytes boolBytes signedBytes float32Bytes float64Bytes
-null-bytes bo = refl
-null-bytes i1 = refl
-null-bytes i2 = refl
-null-bytes i4 = refl
-null-bytes i8 = refl
-null-bytes f4 = refl
-null-bytes f8 = refl
-
 -- a number's bytes with zeros up to the slot's width are its bytes at that width
 fill-le : (j w v : ℕ) → v < 256 ^ j → j ≤ w → le w v ≡ fill w (le j v)
 unfolding fill
@@ -70,16 +60,16 @@ fill-le j w v h l =
     ap (λ (n : ℕ). le n v) e ∙ le-pad j (w - j) v h ∙ rw (length-le j v)
 
 module _ (f : Fixed) (x : Setting) (s : Seat) (row : List ℕ) where
-  pub fixed-unfit : suits (fix f) x ≡ false → SetAs (fixedOutcome f x (seatAs s) row) row row (O.Refused F.Unfit)
+  fixed-unfit : suits (fix f) x ≡ false → SetAs (fixedOutcome f x (seatAs s) row) row row (O.Refused F.Unfit)
   unfolding fixedOutcome decided
   fixed-unfit e = record { answers = rw e; after = rw e }
 
-  pub fixed-null : x ≡ S.null → (row′ : List ℕ) → row′ ≡ sets (putBit row (s .bits) (s .number) true) (s .slot) (zeros (s .wide))
+  fixed-null : x ≡ S.null → (row′ : List ℕ) → row′ ≡ sets (putBit row (s .bits) (s .number) true) (s .slot) (zeros (s .wide))
       → SetAs (fixedOutcome f x (seatAs s) row) row row′ O.Done
   unfolding fixedOutcome decided suits writeFixed fill
   fixed-null e row′ q = record { answers = rw e; after = rw e (q ∙ rw (null-bytes f, sub-zero)) }
 
-  pub fixed-bits : (v : ℕ) → HasBits f x v → width f ≤ s .wide → (row′ : List ℕ) → row′ ≡ sets (putBit row (s .bits) (s .number) false) (s .slot)
+  fixed-bits : (v : ℕ) → HasBits f x v → width f ≤ s .wide → (row′ : List ℕ) → row′ ≡ sets (putBit row (s .bits) (s .number) false) (s .slot)
       (le (s .wide) v)
       → SetAs (fixedOutcome f x (seatAs s) row) row row′ O.Done
   unfolding fixedOutcome decided suits writeFixed

@@ -7,6 +7,7 @@ use Prim.Native.Nat.{ℕ, _+_, _/_, _^_, _≤_, _<_}
 use lib.ListN.{length}
 use lib.Seq.{sets}
 use Rattle.words.specs.Bytes.{le, zeros}
+use Rattle.schema.specs.Marks.{STRING}
 use Rattle.schema.specs.Types.{Fixed, Ty, fix, ro, width}
 use Rattle.schema.specs.Walk.{fieldsOf}
 use Rattle.table.specs.Words.{Lined, placeIn, widthIn}
@@ -23,7 +24,7 @@ use Rattle.answers.specs.Meaning.{outcomeMeans}
 use Rattle.reading.specs.Children.{SeatIn}
 use Rattle.reading.specs.Opening.{Kinded}
 use Rattle.reading.specs.Places.{Seated}
-use Rattle.reading.specs.declared.Opened.{Opened}
+use Rattle.reading.specs.declared.TypeParts.{TypeParts}
 use Rattle.reading.specs.declared.Seat.{Seat}
 use Rattle.reading.specs.declared.Place.{Place}
 use Rattle.setting.specs.declared.Leaf.{Leaf}
@@ -77,14 +78,14 @@ noTextOutcome x s row = decided (unless (fitsText x) 8 or unless (isNull x) 9) (
 -- the entry of a leaf of a fixed width, and its seat
 pub record FixedIn (w : ℕ) : Type 0 where
   pub lined : Lined w
-  pub fixed : placeIn w < 7
+  pub fixed : placeIn w < STRING
 
 pub record FixedSeat (row : List ℕ) (w : ℕ) (s : Seat) : Type 0 where
   pub leaf : FixedIn w
   pub seat : SeatIn row (widthIn w) s
 
 -- a null of a type that was taken apart, in its seat
-pub record NullThere (row : List ℕ) (x : Opened) (s : Seat) : Type 0 where
+pub record NullThere (row : List ℕ) (x : TypeParts) (s : Seat) : Type 0 where
   pub known : Kinded x
   pub seated : SeatIn row (widthIn (x .entry)) s
 

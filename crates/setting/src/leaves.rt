@@ -7,6 +7,7 @@ ghost use mathlib.Core.Path.{_≡_};
 ghost use mathlib.Core.List.{List};
 ghost use Prim.Native.Nat.{ℕ, _<_};
 ghost use Rattle.words.specs.Bits.{digit};
+ghost use Rattle.schema.specs.Marks.{STRING};
 ghost use Rattle.schema.specs.Types.{fixedAt};
 ghost use Rattle.table.specs.Words.{placeIn};
 ghost use Rattle.layout.specs.Setting as S;
@@ -23,7 +24,7 @@ fn digit_of(v: bool) -> u64
 }
 
 fn of_bool(k: usize, v: bool) -> Leaf
-    requires { ⌜ k < 7 ⌝ }
+    requires { ⌜ k < STRING ⌝ }
     ensures { λ r. ⌜ LeafIs (fixedAt k) (S.bool v) r ⌝ }
 {
     if k == table::BOOL {
@@ -52,7 +53,7 @@ fn of_number(w: u64, z: i64) -> Leaf
 }
 
 fn of_float32(k: usize, b: u32) -> Leaf
-    requires { ⌜ k < 7 ⌝ }
+    requires { ⌜ k < STRING ⌝ }
     ensures { λ r. ⌜ LeafIs (fixedAt k) (S.float32 b) r ⌝ }
 {
     if k == table::FLOAT32 {
@@ -62,7 +63,7 @@ fn of_float32(k: usize, b: u32) -> Leaf
 }
 
 fn of_float64(k: usize, b: u64) -> Leaf
-    requires { ⌜ k < 7 ⌝ }
+    requires { ⌜ k < STRING ⌝ }
     ensures { λ r. ⌜ LeafIs (fixedAt k) (S.float64 b) r ⌝ }
 {
     if k == table::FLOAT64 {

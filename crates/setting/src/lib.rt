@@ -11,13 +11,13 @@ ghost use Rattle.answers.specs.Meaning.{settingOf, givenMeans};
 ghost use Rattle.answers.specs.Paths.{pathOf};
 ghost use Rattle.setting.specs.Writes.{SetAs, Checked};
 
-pub mod leaves;
-pub mod nulls;
-pub mod present;
-pub mod puts;
+mod leaves;
+mod nulls;
+mod present;
+mod puts;
 
 // What a setting comes to at a leaf of a fixed width: it doesn't fit, null, or the number whose bytes are written.
-pub enum Leaf {
+enum Leaf {
     Unfit,
     Null,
     Bits(u64),

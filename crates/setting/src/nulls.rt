@@ -2,8 +2,8 @@
 use answers::Given;
 use answers::Outcome;
 use answers::Refusal;
-use reading::Opened;
 use reading::Seat;
+use reading::TypeParts;
 ghost use mathlib.Core.List.{List};
 ghost use Prim.Native.Nat.{ℕ};
 ghost use Rattle.layout.specs.Walk.{nullAt};
@@ -35,7 +35,7 @@ fn set_no_text(row: &mut [u8], seat: Seat, g: Given) -> Outcome
 }
 
 // A null of a type: a container takes nothing.
-pub fn set_null(row: &mut [u8], x: Opened, seat: Seat, g: Given) -> Outcome
+pub fn set_null(row: &mut [u8], x: TypeParts, seat: Seat, g: Given) -> Outcome
     requires { ⌜ NullThere (now row) x seat ⌝ }
     ensures { λ r. ⌜ ((t u : List ℕ) → SetAs
         (leafOutcome (openTy t x) (givenMeans g u) (nullAt (seatAs seat)) (now (row .entry)))

@@ -1,5 +1,5 @@
-pub mod Marks
-pub mod Shows
-pub mod Unfit
-pub mod Passing
+mod Marks
+mod Shows
+mod Unfit
+mod Passing
 pub mod Tabled

@@ -1,6 +1,6 @@
 -- The maps of taken units: what the loops over them do, and what their bits are then. Assumes nothing.
 use mathlib.Core.Path.{_≡_, refl, sym, ap, _∙_}
-use mathlib.Core.Bool.{Bool, true, false, cond}
+use mathlib.Core.Bool.{Bool, true, false, cond, true≢false}
 use mathlib.Core.List.{List}
 use Prim.Native.Nat.{ℕ, zero, suc, _+_, _*_, _-_, _/_, _%_, _^_, _≤_, _<_}
 use native.Mathlib.Decide.{decLt, ℕ-discrete}
@@ -15,13 +15,10 @@ use Rattle.words.specs.Bits.{bitOf, withBit, bit, putBit}
 use Rattle.words.specs.Slots.{Offset, Size}
 use Rattle.words.proofs.BitLaws.{or-bit, bit-with, with-same, with-byte, length-put}
 use Rattle.layout.specs.Tiles.{Range, ends}
-use Rattle.standing.specs.Maps.{both, clearFrom, marked, admits, taken, admitted, places, placed}
+use Rattle.standing.specs.Maps.{both, clearFrom, marked, admits, taken, admitted, places, withRange}
 use Rattle.standing.specs.Standing.{rangeAt, Placing, PlacingChild}
 use borrow.Author.Tests.{eq-eqb, ne-eqb, lt-ltb, le-ltb}
 use lib.Dec.{eqb, ltb, lit<, lit≤}
-
-pub clash : true ≡ false → ⊥
-clash e = let z : _≡_ {A = ℕ} 0 1 = cc in omega arith
 
 both-false : (x : Bool) → both x false ≡ false
 both-false true = refl
@@ -117,11 +114,11 @@ module _ (m : List ℕ) (a : ℕ) {old x : ℕ} (was : old ≡ getD m (a / 8) 0)
 -- ---- the place of a value
 
 pub place-low : {m : List ℕ} {start len : ℕ} {r : Range} {from : ℕ} → from ≡ r .start → from < start → Placing m start len r false m
-unfolding places placed admitted
+unfolding places withRange admitted
 place-low {start = start} {r = r} e h = record { is = rw (lt-ltb (r .start) start (omega arith)); maps = refl }
 
 odd : {m : List ℕ} {start len : ℕ} {r : Range} {from : ℕ} → from ≡ r .start → start ≤ from → (from % 8 ≡ 0 → ⊥) → Placing m start len r false m
-unfolding places placed admitted
+unfolding places withRange admitted
 odd {start = start} {r = r} e l h = record {
   is = rw (le-ltb (r .start) start (omega arith), ne-eqb (r .start % 8) 0 (λ z. h (ap (λ (u : ℕ). u % 8) e ∙ z)));
   maps = refl;
@@ -149,7 +146,7 @@ module _ {start : ℕ} {r : Range} {from size : ℕ} (d : Bounds start r from si
 
   module _ {m : List ℕ} {len : ℕ} where
     pub place-long : len < from + size → Placing m start len r false m
-    unfolding places placed admitted
+    unfolding places withRange admitted
     place-long h = go (ℕ-discrete (from % 8) 0)
       where
         go : Dec (from % 8 ≡ 0) → Placing m start len r false m
@@ -163,7 +160,7 @@ module _ {start : ℕ} {r : Range} {from size : ℕ} (d : Bounds start r from si
       pub place-beside : {next : ℕ} → next ≡ pad (from + size) → {v : Bool} {m′ : List ℕ}
           → (v ≡ admits m (from / 8) (next / 8)) × (m′ ≡ admitted m (from / 8) (next / 8) v)
           → Placing m start len r v m′
-      unfolding places placed
+      unfolding places withRange
       place-beside {next} n a =
           let z : next ≡ ends r = omega (arith, d .ends-is, even from f) in
           record {
@@ -185,10 +182,10 @@ slot-bounds f z l = record { from-is = f .is; ends-is = rw (f .is, z .is); low =
 -- a child that is null, and one that is there, by its bit
 module _ {m b : List ℕ} {h i slot start : ℕ} {x : Bool} (e : x ≡ bit b h i) where
   pub child-null : x ≡ true → PlacingChild m b h i slot start true m
-  child-null f = record { null = λ z. (refl, refl); there = λ z. absurd (clash (sym f ∙ e ∙ z)) }
+  child-null f = record { null = λ z. (refl, refl); there = λ z. absurd (true≢false (sym f ∙ e ∙ z)) }
 
   pub child-there : x ≡ false → {v : Bool} {m′ : List ℕ} → Placing m start (length b) (rangeAt b slot) v m′ → PlacingChild m b h i slot start v m′
-  child-there f p = record { null = λ z. absurd (clash (sym z ∙ sym e ∙ f)); there = λ z. p }
+  child-there f p = record { null = λ z. absurd (true≢false (sym z ∙ sym e ∙ f)); there = λ z. p }
 
 -- what an answer says
 pub record Beside (m : List ℕ) (start len : ℕ) (r : Range) : Type 0 where
@@ -204,10 +201,10 @@ module _ {m : List ℕ} {start len : ℕ} {r : Range} where
     where
       go : Dec (r .start < start) → Dec (r .start % 8 ≡ 0) → Dec (len < ends r) → cond (ltb (r .start) start) false
           (cond (eqb (r .start % 8) 0) (cond (ltb len (ends r)) false (admits m (r .start / 8) (ends r / 8))) false) ≡ true → Beside m start len r
-      go (yes a) b c e = absurd (clash (sym (rw (lt-ltb (r .start) start a) at e)))
-      go (no a) (no b) c e = absurd (clash (sym (rw (le-ltb (r .start) start (omega arith), ne-eqb (r .start % 8) 0 b) at e)))
+      go (yes a) b c e = absurd (true≢false (sym (rw (lt-ltb (r .start) start a) at e)))
+      go (no a) (no b) c e = absurd (true≢false (sym (rw (le-ltb (r .start) start (omega arith), ne-eqb (r .start % 8) 0 b) at e)))
       go (no a) (yes b) (yes c) e =
-          absurd (clash (sym (rw (le-ltb (r .start) start (omega arith), eq-eqb (r .start % 8) 0 b, lt-ltb len (ends r) c) at e)))
+          absurd (true≢false (sym (rw (le-ltb (r .start) start (omega arith), eq-eqb (r .start % 8) 0 b, lt-ltb len (ends r) c) at e)))
       go (no a) (yes b) (no c) e = record {
         low = omega arith;
         even = b;
@@ -218,4 +215,4 @@ module _ {m : List ℕ} {start len : ℕ} {r : Range} where
   pub places-no : places m start len r ≡ false → Beside m start len r → ⊥
   unfolding places
   places-no e s =
-      clash (sym (rw (le-ltb (r .start) start (s .low), eq-eqb (r .start % 8) 0 (s .even), le-ltb len (ends r) (s .high), s .admits)) ∙ e)
+      true≢false (sym (rw (le-ltb (r .start) start (s .low), eq-eqb (r .start % 8) 0 (s .even), le-ltb len (ends r) (s .high), s .admits)) ∙ e)

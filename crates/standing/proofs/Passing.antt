@@ -1,6 +1,6 @@
 -- The loop over a container's slots: its invariant, and one law for each way through its body. Assumes nothing.
 use mathlib.Core.Path.{_≡_, refl, sym, ap, _∙_, subst}
-use mathlib.Core.Bool.{Bool, true, false, not}
+use mathlib.Core.Bool.{Bool, true, false, not, true≢false}
 use mathlib.Core.List.{List, _∷_}
 use Prim.Native.Nat.{ℕ, _+_, _*_, _-_, _^_, _≤_, _<_}
 use native.Mathlib.Decide.{ℕ-discrete}
@@ -13,10 +13,10 @@ use Rattle.words.specs.Bytes.{zeros, bitmap}
 use Rattle.words.specs.Bits.{bit}
 use Rattle.layout.specs.Tiles.{Range}
 use Rattle.layout.proofs.Units.{AllEven}
-use Rattle.standing.specs.Maps.{placed}
+use Rattle.standing.specs.Maps.{withRange}
 use Rattle.standing.specs.Standing.{SlotsIn, rangeAt, rangesTo, StandsAt, FirstUnfit, ChildRoom, PlacingChild}
-use Rattle.standing.proofs.Marks.{clash, Beside, places-yes}
-use Rattle.standing.proofs.Shows.{Shows, shows-start, stands-beside, stands-places, shows-beside}
+use Rattle.standing.proofs.Marks.{Beside, places-yes}
+use Rattle.standing.proofs.Shows.{MapShows, shows-start, stands-beside, stands-places, shows-beside}
 use Rattle.standing.proofs.Unfit.{ranges-fixed, ranges-null, ranges-there}
 
 -- the children before number i may all stand, and the maps m show their ranges
@@ -25,7 +25,7 @@ pub record Passed (h : ℕ) (vary : ℕ → Bool) (b : List ℕ) (n slots start 
   pub slots-are : slots ≡ h + bitmap n
   pub start-is : start ≡ h + bitmap n + 8 * n
   pub most : i ≤ n
-  pub shows : Shows m (rangesTo h slots vary b i)
+  pub shows : MapShows m (rangesTo h slots vary b i)
   pub even : AllEven (rangesTo h slots vary b i)
   pub stand : (j : ℕ) → j < i → StandsAt h slots start vary b j
 
@@ -120,28 +120,28 @@ module _ {h : ℕ} {vary : ℕ → Bool} {b : List ℕ} {n slots start i : ℕ} 
         go (yes e) = subst (StandsAt h slots start vary b) (sym e) s
         go (no e) = p .stand j (omega arith)
 
-    next : (rs : List Range) → rangesTo h slots vary b (i + 1) ≡ rs → {m′ : List ℕ} → Shows m′ rs → AllEven rs → StandsAt h slots start vary b i
+    next : (rs : List Range) → rangesTo h slots vary b (i + 1) ≡ rs → {m′ : List ℕ} → MapShows m′ rs → AllEven rs → StandsAt h slots start vary b i
         → Passed h vary b n slots start (i + 1) m′
     next rs e {m′} w a s = record {
       slots-in = p .slots-in;
       slots-are = p .slots-are;
       start-is = p .start-is;
       most = omega arith;
-      shows = subst (Shows m′) (sym e) w;
+      shows = subst (MapShows m′) (sym e) w;
       even = subst AllEven (sym e) a;
       stand = more s;
     }
 
     -- a child of a fixed width
     pub passed-fixed : vary i ≡ false → Passed h vary b n slots start (i + 1) m
-    passed-fixed v = next before (ranges-fixed h slots vary b i v) (p .shows) (p .even) (λ y z. absurd (clash (sym y ∙ v)))
+    passed-fixed v = next before (ranges-fixed h slots vary b i v) (p .shows) (p .even) (λ y z. absurd (true≢false (sym y ∙ v)))
 
     module _ (v : vary i ≡ true) {fits : Bool} {m′ : List ℕ} (g : PlacingChild m b h i (slots + 8 * i) start fits m′) where
       pub passed-unfit : not fits ≡ true → FirstUnfit h (h + bitmap n) (h + bitmap n + 8 * n) vary b n i
       passed-unfit q = unfit (record { most = p .most; stand = p .stand; fault = λ f s. go s (bit b h i) refl })
         where
           go : StandsAt h slots start vary b i → (z : Bool) → bit b h i ≡ z → ⊥
-          go s true z = clash (sym (g .null z .0) ∙ not-true _ q)
+          go s true z = true≢false (sym (g .null z .0) ∙ not-true _ q)
           go s false z =
               let x = g .there z in
               stands-places (p .shows) (p .even) (p .slots-in .small) (omega arith) (sym (x .is) ∙ not-true _ q) (s v z)
@@ -151,11 +151,11 @@ module _ {h : ℕ} {vary : ℕ → Bool} {b : List ℕ} {n slots start i : ℕ} 
         where
           go : (z : Bool) → bit b h i ≡ z → Passed h vary b n slots start (i + 1) m′
           go true z =
-              next before (ranges-null h slots vary b i z) (subst (λ (x : List ℕ). Shows x before) (sym (g .null z .1)) (p .shows)) (p .even)
-              (λ y f. absurd (clash (sym z ∙ f)))
+              next before (ranges-null h slots vary b i z) (subst (λ (x : List ℕ). MapShows x before) (sym (g .null z .1)) (p .shows)) (p .even)
+              (λ y f. absurd (true≢false (sym z ∙ f)))
           go false z =
               let x = g .there z in
               let s : Beside m start (length b) own = places-yes (sym (x .is) ∙ not-false _ q) in
               next (own ∷ before) (ranges-there h slots vary b i v z)
-              (shows-beside (p .shows) (p .slots-in .small) (omega arith) s (x .maps ∙ ap (placed m own) (not-false _ q)))
+              (shows-beside (p .shows) (p .slots-in .small) (omega arith) s (x .maps ∙ ap (withRange m own) (not-false _ q)))
               ((s .even, omega arith), p .even) (λ y f. stands-beside (p .shows) (p .even) (p .slots-in .small) (omega arith) s)

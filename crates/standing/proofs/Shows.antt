@@ -2,7 +2,7 @@
 -- Assumes nothing.
 use mathlib.Core.Path.{_≡_, refl, sym, ap, _∙_, subst}
 use mathlib.Core.Logic.{_↔_, _⊎_, inl, inr}
-use mathlib.Core.Bool.{Bool, true, false, not, cond}
+use mathlib.Core.Bool.{Bool, true, false, not, cond, true≢false}
 use mathlib.Core.List.{List, [], _∷_}
 use Prim.Native.Nat.{ℕ, zero, suc, _+_, _-_, _/_, _%_, _^_, _≤_, _<_}
 use native.Mathlib.Nat.{zero-div}
@@ -16,8 +16,8 @@ use Rattle.words.specs.Bits.{bit, withBit, putBit}
 use Rattle.words.proofs.BitLaws.{bit-put, bit-put-other, bit-run, length-put}
 use Rattle.layout.specs.Tiles.{Range, ends, Aparts, Stands}
 use Rattle.layout.proofs.Units.{Covers, Inner, Empty, NoneOf, Even, AllEven, Free, free-is-apart}
-use Rattle.standing.specs.Maps.{both, clearFrom, marked, admits, taken, admitted, places, placed}
-use Rattle.standing.proofs.Marks.{clash, length-marked, Beside, places-no}
+use Rattle.standing.specs.Maps.{both, clearFrom, marked, admits, taken, admitted, places, withRange}
+use Rattle.standing.proofs.Marks.{length-marked, Beside, places-no}
 
 -- ---- the bits of a map
 
@@ -28,7 +28,7 @@ clear-all m at a (suc n) q e h k = go (bit m at a) refl (ℕ-discrete q a) e (λ
   where
     go : (v : Bool) → bit m at a ≡ v → Dec (q ≡ a) → both (not v) (clearFrom m at (suc a) n) ≡ true
         → (suc a ≤ q → clearFrom m at (suc a) n ≡ true → bit m at q ≡ false) → bit m at q ≡ false
-    go true f d x r = absurd (clash (sym x))
+    go true f d x r = absurd (true≢false (sym x))
     go false f (yes z) x r = ap (bit m at) z ∙ f
     go false f (no z) x r = r (omega arith) x
 
@@ -41,7 +41,7 @@ record Some (m : List ℕ) (at a n : ℕ) : Type 0 where
 
 clear-some : (m : List ℕ) (at a n : ℕ) → clearFrom m at a n ≡ false → Some m at a n
 unfolding clearFrom
-clear-some m at a zero e = absurd (clash e)
+clear-some m at a zero e = absurd (true≢false e)
 clear-some m at a (suc n) e = go (bit m at a) refl e (λ x. clear-some m at (suc a) n x)
   where
     go : (v : Bool) → bit m at a ≡ v → both (not v) (clearFrom m at (suc a) n) ≡ false → (clearFrom m at (suc a) n ≡ false → Some m at (suc a) n)
@@ -97,7 +97,7 @@ marked-elsewhere at to m a (suc n) q o h k l = marked-elsewhere at to (putBit m 
 abbrev Shown : (Range → ℕ → Type 0) → List ℕ → ℕ → List Range → Type 0
 Shown P m at rs = (q : ℕ) → q ≤ 2048 → (bit m at q ≡ false) ↔ NoneOf P rs q
 
-pub record Shows (m : List ℕ) (rs : List Range) : Type 0 where
+pub record MapShows (m : List ℕ) (rs : List Range) : Type 0 where
   pub long : length m ≡ 792
   pub covers : Shown Covers m 0 rs
   pub inner : Shown Inner m 264 rs
@@ -106,7 +106,7 @@ pub record Shows (m : List ℕ) (rs : List Range) : Type 0 where
 zero-bit : (n at q : ℕ) → at + q / 8 < n → bit (zeros n) at q ≡ false
 zero-bit n at q h = rw (getD-replicate {A = ℕ} n (at + q / 8) 0 0 h, zero-div (2 ^ (q % 8)))
 
-pub shows-start : Shows (zeros 792) []
+pub shows-start : MapShows (zeros 792) []
 shows-start = record {
   long = length-replicate {A = ℕ} 792 0;
   covers = λ q h. (λ e. tt, λ x. zero-bit 792 0 q (omega arith));
@@ -122,12 +122,12 @@ shown-more : (P : Range → ℕ → Type 0) (m m′ : List ℕ) (at : ℕ) (rs :
 shown-more P m m′ at rs r lo hi f g i o s q h = go (decLe lo q) (decLt q hi)
   where
     go : Dec (lo ≤ q) → Dec (q < hi) → (bit m′ at q ≡ false) ↔ NoneOf P (r ∷ rs) q
-    go (yes l) (yes u) = (λ e. absurd (clash (sym (i q h l u) ∙ e)), λ p. absurd (p .0 (g q l u)))
+    go (yes l) (yes u) = (λ e. absurd (true≢false (sym (i q h l u) ∙ e)), λ p. absurd (p .0 (g q l u)))
     go (yes l) (no u) = let b = o q h (inr (omega arith)) in (λ e. (λ p. u (f q p .1), s q h .0 (sym b ∙ e)), λ p. b ∙ s q h .1 (p .1))
     go (no l) u = let b = o q h (inl (omega arith)) in (λ e. (λ p. l (f q p .0), s q h .0 (sym b ∙ e)), λ p. b ∙ s q h .1 (p .1))
 
 -- a range that takes the units from a up to b
-module _ (m : List ℕ) (rs : List Range) (s : Shows m rs) (r : Range) (e : Even r) (a b : ℕ) (ea : a ≡ r .start / 8) (eb : b ≡ (r .start + r .size) / 8)
+module _ (m : List ℕ) (rs : List Range) (s : MapShows m rs) (r : Range) (e : Even r) (a b : ℕ) (ea : a ≡ r .start / 8) (eb : b ≡ (r .start + r .size) / 8)
     (hi : b ≤ 2048) where
   long : length m ≡ 792
   long = s .long
@@ -138,7 +138,7 @@ module _ (m : List ℕ) (rs : List Range) (s : Shows m rs) (r : Range) (e : Even
     where
       two : (x y : Bool) → both x y ≡ true → (x ≡ true) × (y ≡ true)
       two true y z = (refl, z)
-      two false y z = absurd (clash (sym z))
+      two false y z = absurd (true≢false (sym z))
 
       go : Dec (a ≡ b) → cond (eqb a b) (not (bit m 264 a)) (both (clearFrom m 0 a (b - a)) (clearFrom m 528 (suc a) (b - suc a))) ≡ true → Free r rs
       go (yes z) f =
@@ -171,32 +171,32 @@ module _ (m : List ℕ) (rs : List Range) (s : Shows m rs) (r : Range) (e : Even
           let t = clear-some m 0 a (b - a) x in
           let lo = t .low in
           let up = t .high in
-          clash (sym (t .set) ∙ s .covers (t .unit) (omega arith) .1 (g .units (t .unit) (omega (arith, e .0), omega (arith, e .0, e .1))))
+          true≢false (sym (t .set) ∙ s .covers (t .unit) (omega arith) .1 (g .units (t .unit) (omega (arith, e .0), omega (arith, e .0, e .1))))
       over g (inr x) =
           let t = clear-some m 528 (suc a) (b - suc a) x in
           let lo = t .low in
           let up = t .high in
-          clash (sym (t .set) ∙ s .empty (t .unit) (omega arith) .1 (g .bounds (t .unit) (omega (arith, e .0), omega (arith, e .0, e .1))))
+          true≢false (sym (t .set) ∙ s .empty (t .unit) (omega arith) .1 (g .bounds (t .unit) (omega (arith, e .0), omega (arith, e .0, e .1))))
 
       go : Dec (a ≡ b) → cond (eqb a b) (not (bit m 264 a)) (both (clearFrom m 0 a (b - a)) (clearFrom m 528 (suc a) (b - suc a))) ≡ false → Free r rs → ⊥
       go (yes z) f g =
           let t : bit m 264 a ≡ true = not-false _ (rw (eq-eqb a b z) at f) in
-          clash (sym t ∙ s .inner a (omega arith) .1 (g .point a (omega (arith, e .0, e .1), omega (arith, e .0))))
+          true≢false (sym t ∙ s .inner a (omega arith) .1 (g .point a (omega (arith, e .0, e .1), omega (arith, e .0))))
       go (no z) f g = over g (either _ _ (rw (ne-eqb a b z) at f))
 
   -- admitted: apart from all
-  pub admit-apart : AllEven rs → admits m a b ≡ true → Aparts r rs
+  admit-apart : AllEven rs → admits m a b ≡ true → Aparts r rs
   admit-apart es f = free-is-apart r rs e es .0 (admits-free f)
 
-  pub admit-meets : AllEven rs → admits m a b ≡ false → Aparts r rs → ⊥
+  admit-meets : AllEven rs → admits m a b ≡ false → Aparts r rs → ⊥
   admit-meets es f g = admits-not f (free-is-apart r rs e es .1 g)
 
   -- and shown from then on
-  pub shows-more : (m′ : List ℕ) → m′ ≡ taken m a b → Shows m′ (r ∷ rs)
+  shows-more : (m′ : List ℕ) → m′ ≡ taken m a b → MapShows m′ (r ∷ rs)
   unfolding taken
-  shows-more m′ f = subst (λ (x : List ℕ). Shows x (r ∷ rs)) (sym f) (go (ℕ-discrete a b))
+  shows-more m′ f = subst (λ (x : List ℕ). MapShows x (r ∷ rs)) (sym f) (go (ℕ-discrete a b))
     where
-      go : Dec (a ≡ b) → Shows (cond (eqb a b) (putBit m 528 a true) (marked (marked m 0 a (b - a)) 264 (suc a) (b - suc a))) (r ∷ rs)
+      go : Dec (a ≡ b) → MapShows (cond (eqb a b) (putBit m 528 a true) (marked (marked m 0 a (b - a)) 264 (suc a) (b - suc a))) (r ∷ rs)
       go (yes z) = rw (eq-eqb a b z) (record {
         long = length-put m 528 a true ∙ long;
         covers = shown-more Covers m (putBit m 528 a true) 0 rs r a a (λ q c. absurd (omega (arith, c .0, c .1, e .0, e .1)))
@@ -246,10 +246,10 @@ module _ (m : List ℕ) (rs : List Range) (s : Shows m rs) (r : Range) (e : Even
 
 -- ---- a range that may stand, or may not
 
-module _ {m : List ℕ} {rs : List Range} (s : Shows m rs) where
+module _ {m : List ℕ} {rs : List Range} (s : MapShows m rs) where
   module _ {start len : ℕ} {r : Range} (small : len ≤ 16384) (ez : r .size % 8 ≡ 0) (p : Beside m start len r) where
-    pub shows-beside : {m′ : List ℕ} → m′ ≡ placed m r true → Shows m′ (r ∷ rs)
-    unfolding placed admitted
+    pub shows-beside : {m′ : List ℕ} → m′ ≡ withRange m r true → MapShows m′ (r ∷ rs)
+    unfolding withRange admitted
     shows-beside {m′} f =
         shows-more m rs s r (p .even, ez) (r .start / 8) (ends r / 8) refl refl (omega (arith, p .high)) m′ f
 

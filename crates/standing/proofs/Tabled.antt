@@ -2,7 +2,7 @@
 use mathlib.Core.Path.{_≡_, refl, sym, ap, _∙_, subst}
 use mathlib.Core.Bool.{Bool, true, false, not}
 use mathlib.Core.List.{List}
-use Prim.Native.Nat.{ℕ, zero, suc, _+_, _*_, _-_, _/_, _≤_, _<_}
+use Prim.Native.Nat.{ℕ, zero, suc, _+_, _*_, _-_, _≤_, _<_}
 use native.Mathlib.Numerals.{add-one}
 use native.Mathlib.Omega.{arith}
 use mir.Val.{Fits}
@@ -15,7 +15,7 @@ use Rattle.schema.proofs.Table.{fixed-high, text-low}
 use Rattle.schema.proofs.Typing.{FieldLaw, field-typed, field-here}
 use Rattle.schema.proofs.Places.{typed-place}
 use Rattle.table.specs.Words.{placeIn, afterIn}
-use Rattle.table.specs.Tables.{schemaOf, posOf, Stands, EntryAt}
+use Rattle.table.specs.Tables.{schemaOf, posOf, InTable, EntryAt}
 use Rattle.standing.specs.Standing.{varies, fieldVaries, FieldsFrom, ChildRoom, FirstUnfit, PlacingChild}
 use Rattle.standing.proofs.Passing.{
   Passed,
@@ -85,10 +85,10 @@ fields-all p l = headless (passed-all (p .passed) l)
 
 module _ {t : List ℕ} {first d n : ℕ} {b : List ℕ} {slots start at i : ℕ} {m : List ℕ} (p : FieldsPassed t first d n b slots start at i m)
     (l : i < n) where
-  pub field-law : FieldLaw (schemaOf t) i (posOf t first) d n
+  field-law : FieldLaw (schemaOf t) i (posOf t first) d n
   field-law = field-typed (schemaOf t) i (posOf t first) d n (p .fields .typed) l
 
-  pub field-stands : Stands t at d
+  pub field-stands : InTable t at d
   field-stands = record {
     table = p .fields .table;
     typed = subst (λ (x : ℕ). Typed (schemaOf t) x d) (sym (p .type)) (field-law .typed);

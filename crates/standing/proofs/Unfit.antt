@@ -1,18 +1,13 @@
--- What the slots of a container tell: the ranges before a child, one child after the other, and the first that may not stand.
--- Assumes nothing.
+-- What the slots of a container tell: the ranges before a child, one child after the other. Assumes nothing.
 use mathlib.Core.Path.{_≡_, refl, ap, _∙_}
 use mathlib.Core.Bool.{Bool, true, false, not, cond}
 use mathlib.Core.List.{List, _∷_}
-use Prim.Native.Nat.{ℕ, _+_, _*_, _≤_, _<_}
-use native.Mathlib.Decide.{decLe}
+use Prim.Native.Nat.{ℕ, _+_, _*_}
 use native.Mathlib.Numerals.{add-one}
-use native.Mathlib.Omega.{arith}
 use Rattle.words.specs.Bits.{bit}
 use Rattle.layout.specs.Tiles.{Range}
 use Rattle.standing.specs.Maps.{both}
-use Rattle.standing.specs.Standing.{rangeAt, rangesTo, StandsAt, FirstUnfit}
-
--- ---- the ranges, with one child more
+use Rattle.standing.specs.Standing.{rangeAt, rangesTo}
 
 module _ (h slots : ℕ) (vary : ℕ → Bool) (b : List ℕ) (i : ℕ) where
   abbrev before : List Range
@@ -34,19 +29,3 @@ module _ (h slots : ℕ) (vary : ℕ → Bool) (b : List ℕ) (i : ℕ) where
 
   pub ranges-there : vary i ≡ true → bit b h i ≡ false → rangesTo h slots vary b (i + 1) ≡ rangeAt b (slots + 8 * i) ∷ before
   ranges-there v e = ranges-on ∙ rw (v, e)
-
--- ---- the first that may not stand
-
-module _ {h slots start : ℕ} {vary : ℕ → Bool} {b : List ℕ} {n r : ℕ} (u : FirstUnfit h slots start vary b n r) where
-  -- it is none of those that may
-  pub unfit-from : (i : ℕ) → i ≤ n → ((j : ℕ) → j < i → StandsAt h slots start vary b j) → i ≤ r
-  unfit-from i m s = go (decLe i r)
-    where
-      go : Dec (i ≤ r) → i ≤ r
-      go (yes l) = l
-      go (no l) = absurd (u .fault (omega arith) (s r (omega arith)))
-
--- and is one alone
-pub unfit-same : {h slots start : ℕ} {vary : ℕ → Bool} {b : List ℕ} {n r q : ℕ} → FirstUnfit h slots start vary b n r
-    → FirstUnfit h slots start vary b n q → r ≡ q
-unfit-same {r = r} {q = q} u v = omega (arith, unfit-from u q (v .most) (v .stand), unfit-from v r (u .most) (u .stand))

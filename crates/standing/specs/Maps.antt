@@ -38,5 +38,5 @@ places m start len r =
     cond (ltb (r .start) start) false
     (cond (eqb (r .start % 8) 0) (cond (ltb len (ends r)) false (admits m (r .start / 8) (ends r / 8))) false)
 
-unfoldable pub placed : List ℕ → Range → Bool → List ℕ
-placed m r fits = admitted m (r .start / 8) (ends r / 8) fits
+unfoldable pub withRange : List ℕ → Range → Bool → List ℕ
+withRange m r fits = admitted m (r .start / 8) (ends r / 8) fits

@@ -11,7 +11,7 @@ use Rattle.schema.specs.Types.{Ty, fix, text, li, ma, ro, field}
 use Rattle.schema.specs.Walk.{TypedAll, typesAt}
 use Rattle.layout.specs.Tiles.{Range, range, Stands}
 use Rattle.table.specs.Tables.{Table, schemaOf, posOf}
-use Rattle.standing.specs.Maps.{both, places, placed}
+use Rattle.standing.specs.Maps.{both, places, withRange}
 
 -- the range that the number of a slot says, and the one that the slot at a position of b says
 abbrev pub said : ℕ → Range
@@ -75,7 +75,7 @@ pub record ChildRoom (m b : List ℕ) (h i slot : ℕ) : Type 0 where
 -- fits is whether a range may stand beside those that the maps m show, and m′ shows it too if so
 pub record Placing (m : List ℕ) (start len : ℕ) (r : Range) (fits : Bool) (m′ : List ℕ) : Type 0 where
   pub is : fits ≡ places m start len r
-  pub maps : m′ ≡ placed m r fits
+  pub maps : m′ ≡ withRange m r fits
 
 -- the same of child i: a null has none
 pub record PlacingChild (m b : List ℕ) (h i slot start : ℕ) (fits : Bool) (m′ : List ℕ) : Type 0 where

@@ -12,7 +12,7 @@ use lib.ListN.{length, getD, set, length-set}
 use mir.Val.{Fits}
 use mir.Syntax.{w64}
 use Rattle.schema.specs.Marks.{types}
-use Rattle.schema.specs.Kinds.{kindAt, placed, kindOf, placeAt, listKind, mapKind, structKind, noKind}
+use Rattle.schema.specs.Kinds.{kindAt, kindOfPlace, kindOf, placeAt, listKind, mapKind, structKind, noKind}
 use Rattle.schema.specs.Reading.{judged}
 use Rattle.schema.specs.declared.Judged.{Judged}
 use Rattle.schema.specs.declared.Judged.the-variants.{Accepted, Refused}
@@ -47,7 +47,7 @@ pub record Going (s T F : List ℕ) (d at i n base : ℕ) : Type 0 where
 pub record Line (s : List ℕ) (at w k : ℕ) : Type 0 where
   pub known : k < 12
   pub is : w ≡ lineWord k
-  pub kind : kindAt s at ≡ placed k
+  pub kind : kindAt s at ≡ kindOfPlace k
   pub place : w / 268435456 ≡ k
   pub small : w < 268435456 * 12
 
@@ -70,7 +70,7 @@ pub record Marked (s T F : List ℕ) (d at i n base w k : ℕ) : Type 0 where
   pub line : Line s at w k
 
 -- it is a container with c children, not too deep
-pub record Opened (s T F : List ℕ) (d at i n base w k c : ℕ) : Type 0 where
+pub record OpenHolder (s T F : List ℕ) (d at i n base w k c : ℕ) : Type 0 where
   pub marked : Marked s T F d at i n base w k
   pub holds : 9 ≤ k
   pub held : c ≡ heldAt s (at + 2) k
@@ -237,13 +237,13 @@ module _ {s T F : List ℕ} {d at i n base w k : ℕ} (m : Marked s T F d at i n
 
   -- a container
   three : 9 ≤ k → (kindAt s at ≡ listKind) ⊎ ((kindAt s at ≡ mapKind) ⊎ (kindAt s at ≡ structKind))
-  unfolding placed types kindOf
+  unfolding kindOfPlace types kindOf
   three h = go (decLt k 10) (decLt k 11)
     where
       go : Dec (k < 10) → Dec (k < 11) → (kindAt s at ≡ listKind) ⊎ ((kindAt s at ≡ mapKind) ⊎ (kindAt s at ≡ structKind))
-      go (yes p) q = let z : k ≡ 9 = omega arith in inl (m .line .kind ∙ ap placed z)
-      go (no p) (yes q) = let z : k ≡ 10 = omega arith in inr (inl (m .line .kind ∙ ap placed z))
-      go (no p) (no q) = let z : k ≡ 11 = omega arith in inr (inr (m .line .kind ∙ ap placed z))
+      go (yes p) q = let z : k ≡ 9 = omega arith in inl (m .line .kind ∙ ap kindOfPlace z)
+      go (no p) (yes q) = let z : k ≡ 10 = omega arith in inr (inl (m .line .kind ∙ ap kindOfPlace z))
+      go (no p) (no q) = let z : k ≡ 11 = omega arith in inr (inr (m .line .kind ∙ ap kindOfPlace z))
 
   module _ (h : 2415919104 ≤ w) where
     pub holding : (9 ≤ k) × (k < 12)
@@ -256,7 +256,7 @@ module _ {s T F : List ℕ} {d at i n base w k : ℕ} (m : Marked s T F d at i n
     module _ {c : ℕ} (e : c ≡ heldAt s (at + 2) k) where
       -- it has no children, or too many
       pub going-shut : c ≡ 0 → {U : List ℕ} → Built s 0 U
-      unfolding heldAt placed types kindOf
+      unfolding heldAt kindOfPlace types kindOf
       going-shut z {U} = go (decLt k 11)
         where
           go : Dec (k < 11) → Built s 0 U
@@ -264,10 +264,10 @@ module _ {s T F : List ℕ} {d at i n base w k : ℕ} (m : Marked s T F d at i n
           go (no p) =
               let q : k ≡ 11 = omega arith in
               let b = held-none (getD s (at + 2) 0) (sym z ∙ e ∙ rw (eq-eqb k 11 q)) in
-              let f = fill-few s at i n (7 - d) (d + 2) T (stand (m .looking)) (m .looking .left) (m .line .kind ∙ ap placed q) b in
+              let f = fill-few s at i n (7 - d) (d + 2) T (stand (m .looking)) (m .looking .left) (m .line .kind ∙ ap kindOfPlace q) b in
               to-refused (m .looking .going) (run-none s F d at i n T f)
 
-      pub is-opened : (d ≡ 6 → ⊥) → (c ≡ 0 → ⊥) → Opened s T F d at i n base w k c
+      pub is-opened : (d ≡ 6 → ⊥) → (c ≡ 0 → ⊥) → OpenHolder s T F d at i n base w k c
       is-opened f z = record { marked = m; holds = holding .0; held = e; some = omega arith; shallow = omega arith }
 
 -- ---- no type is left in a container, and v is its own entry, patched

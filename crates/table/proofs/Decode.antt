@@ -7,7 +7,7 @@ use borrow.Author.Tests.{eq-eqb, ne-eqb, lt-ltb, le-ltb}
 use Rattle.words.specs.Bytes.{num}
 use Rattle.schema.specs.Marks.{types, line, markAt, elementWidth}
 use Rattle.schema.proofs.Table.{agree}
-use Rattle.table.specs.Words.{topBit, lower, lineWord, word, markIn, topIn, widthIn, placeIn, depthIn, countIn, firstIn, afterIn, bytesIn, Lined}
+use Rattle.table.specs.Words.{topBit, lower, lineWord, word, markIn, topIn, widthIn, placeIn, countIn, afterIn, bytesIn, Lined}
 
 -- a line's word below its kind
 pub record Below (k : ℕ) : Type 0 where
@@ -42,31 +42,23 @@ module _ (k d n i e : ℕ) (hk : k < 12) (hd : d < 16) (hn : n < 256) (hi : i + 
   unfolding placeIn word lineWord
   place-word = omega (arith, lower-small k hk)
 
-  pub depth-word : depthIn (word k d n i e) ≡ d
-  unfolding depthIn word lineWord
-  depth-word = omega (arith, lower-small k hk)
-
   pub count-word : countIn (word k d n i e) ≡ n
   unfolding countIn word lineWord
   count-word = omega (arith, lower-small k hk)
-
-  pub first-word : firstIn (word k d n i e) ≡ i + 1
-  unfolding firstIn word lineWord
-  first-word = omega (arith, lower-small k hk)
 
   pub after-word : afterIn (word k d n i e) ≡ e
   unfolding afterIn word lineWord
   after-word = omega (arith, lower-small k hk)
 
-  pub top-word : topIn (word k d n i e) ≡ topBit k
+  top-word : topIn (word k d n i e) ≡ topBit k
   unfolding topIn word lineWord
   top-word = let p : whole / 65536 % 64 ≡ lower k / 65536 % 64 = omega (arith, lower-small k hk) in p ∙ below k hk .top
 
-  pub width-word : widthIn (word k d n i e) ≡ line k .width
+  width-word : widthIn (word k d n i e) ≡ line k .width
   unfolding widthIn word lineWord
   width-word = let p : whole / 4194304 % 16 ≡ lower k / 4194304 = omega (arith, lower-small k hk) in p ∙ below k hk .width
 
-  pub mark-word : markIn (word k d n i e) ≡ num (markAt k)
+  mark-word : markIn (word k d n i e) ≡ num (markAt k)
   unfolding markIn word lineWord
   mark-word = let p : whole % 65536 ≡ lower k % 65536 = omega arith in p ∙ below k hk .mark
 

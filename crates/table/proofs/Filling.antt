@@ -5,11 +5,11 @@ use Prim.Native.Nat.{ℕ, zero, suc, _+_, _*_, _-_, _%_, _<_, _≤_}
 use native.Mathlib.Omega.{arith}
 use native.Mathlib.Numerals.{add-one}
 use lib.ListN.{length, drop, getD, set}
-use lib.Seq.{sets, set-set, getD-set-same, getD-set-other}
-use Rattle.words.proofs.Runs.{sets-append, sets-comm}
+use lib.Seq.{sets, set-set, getD-set-same}
+use Rattle.words.proofs.Runs.{sets-append, sets-comm, sets-low}
 use Rattle.schema.specs.Types.{Ty, li, ma, ro, Tys, end, _then_, count, fixedAt, textAt}
 use Rattle.schema.specs.Kinds.{kindAt, fixedKind, textKind, listKind, mapKind, structKind, noKind, pick}
-use Rattle.schema.specs.Reading.{Parsed, none, some, ParsedAll, nones, somes, after, afters, parse, parseAll, parseRo}
+use Rattle.schema.specs.Reading.{Parsed, none, some, ParsedAll, nones, somes, after, afters, parseType, parseAll, parseRo}
 use Rattle.schema.specs.Walk.{size, sizes}
 use mathlib.Core.Logic.{_⊎_, inl, inr}
 use lib.Dec.{leb}
@@ -36,7 +36,7 @@ onward (filled a j U) f = f a j U
 
 -- n types from the position at, at most D deep, of depth e, into the table T from place i on
 unfoldable pub fill : List ℕ → (at i n D e : ℕ) → List ℕ → Filled
-fill s at i n D e T = afters (parseAll (parse D) n (drop at s)) nothing (λ ts r. filled (at + sizes ts) (i + manys ts) (sets T i (entriesAll e i ts)))
+fill s at i n D e T = afters (parseAll (parseType D) n (drop at s)) nothing (λ ts r. filled (at + sizes ts) (i + manys ts) (sets T i (entriesAll e i ts)))
 
 -- the place behind the last descendant comes last
 unfoldable pub patch : List ℕ → ℕ → ℕ → List ℕ
@@ -62,10 +62,10 @@ laid-more at i e T X ts =
     rw (p, q, k)
 
 -- one type, then the others
-pub fill-more : (s : List ℕ) (at i n D e : ℕ) (T : List ℕ) → 0 < n
-    → fill s at i n D e T ≡ after (parse D (drop at s)) nothing (λ X r. fill s (at + size X) (i + many X) (n - 1) D e (sets T i (entries e i X)))
+fill-more : (s : List ℕ) (at i n D e : ℕ) (T : List ℕ) → 0 < n
+    → fill s at i n D e T ≡ after (parseType D (drop at s)) nothing (λ X r. fill s (at + size X) (i + many X) (n - 1) D e (sets T i (entries e i X)))
 unfolding fill
-fill-more s at i n D e T h = rw (all-more s at D n h) (go (parse D (drop at s)) (left s at D))
+fill-more s at i n D e T h = rw (all-more s at D n h) (go (parseType D (drop at s)) (left s at D))
   where
     two : (X : Ty) (x : ParsedAll)
         → afters (afters x nones (λ Xs q. somes (X then Xs) q)) nothing (λ ts r. filled (at + sizes ts) (i + manys ts) (sets T i (entriesAll e i ts)))
@@ -75,25 +75,21 @@ fill-more s at i n D e T h = rw (all-more s at D n h) (go (parse D (drop at s)) 
     two X (somes Xs q) = laid-more at i e T X Xs
 
     go : (x : Parsed) → Left s at x
-        → afters (after x nones (λ X r. afters (parseAll (parse D) (n - 1) r) nones (λ Xs q. somes (X then Xs) q))) nothing
+        → afters (after x nones (λ X r. afters (parseAll (parseType D) (n - 1) r) nones (λ Xs q. somes (X then Xs) q))) nothing
         (λ ts r. filled (at + sizes ts) (i + manys ts) (sets T i (entriesAll e i ts)))
-        ≡ after x nothing (λ X r. afters (parseAll (parse D) (n - 1) (drop (at + size X) s)) nothing
+        ≡ after x nothing (λ X r. afters (parseAll (parseType D) (n - 1) (drop (at + size X) s)) nothing
         (λ ts r. filled (at + size X + sizes ts) (i + many X + manys ts)
         (sets (sets T i (entries e i X)) (i + many X) (entriesAll e (i + many X) ts))))
     go none l = refl
-    go (some X r) l = rw (l .form) (two X (parseAll (parse D) (n - 1) (drop (at + size X) s)))
+    go (some X r) l = rw (l .form) (two X (parseAll (parseType D) (n - 1) (drop (at + size X) s)))
 
 -- ---- stores in order
-
-set-low : (L : List ℕ) (p q : ℕ) (vs : List ℕ) → p < q → getD (sets L q vs) p 0 ≡ getD L p 0
-set-low L p q [] h = refl
-set-low L p q (v ∷ vs) h = set-low (set L q v) p (suc q) vs (omega arith) ∙ getD-set-other L q p v 0 (λ e. absurd (omega arith))
 
 pub patched : (T E : List ℕ) (i j w₀ w : ℕ) → i < length T → (w₀ + j * 18014398509481984) % 18446744073709551616 ≡ w → patch
     (sets (set T i w₀) (i + 1) E) i j ≡ sets T i (w ∷ E)
 unfolding patch
 patched T E i j w₀ w h e =
-    let g : getD (sets (set T i w₀) (i + 1) E) i 0 ≡ w₀ = set-low (set T i w₀) i (i + 1) E (omega arith) ∙ getD-set-same T i w₀ 0 h in
+    let g : getD (sets (set T i w₀) (i + 1) E) i 0 ≡ w₀ = sets-low (set T i w₀) (i + 1) E i (omega arith) ∙ getD-set-same T i w₀ 0 h in
     let v : (getD (sets (set T i w₀) (i + 1) E) i 0 + j * 18014398509481984) % 18446744073709551616 ≡ w = ap
     (λ (u : ℕ). (u + j * 18014398509481984) % 18446744073709551616) g ∙ e in
     ap (set (sets (set T i w₀) (i + 1) E) i) v
@@ -139,8 +135,8 @@ one-left p r = go (p r)
     go none = refl
     go (some X q) = refl
 
-shut-all : (c : ℕ) (r : List ℕ) (f : Ty → List ℕ → Filled) → after (parseRo (parse (1 - 1)) c r) nothing f ≡ nothing
-unfolding parseRo parseAll parse
+shut-all : (c : ℕ) (r : List ℕ) (f : Ty → List ℕ → Filled) → after (parseRo (parseType (1 - 1)) c r) nothing f ≡ nothing
+unfolding parseRo parseAll parseType
 shut-all zero r f = refl
 shut-all (suc c) r f = go (leb 1 (suc c)) (leb (suc c) 128)
   where
@@ -149,7 +145,7 @@ shut-all (suc c) r f = go (leb 1 (suc c)) (leb (suc c) 128)
     go true false = refl
     go false u = refl
 
-shut-at : (D c : ℕ) (r : List ℕ) (f : Ty → List ℕ → Filled) → D ≡ 1 → after (parseRo (parse (D - 1)) c r) nothing f ≡ nothing
+shut-at : (D c : ℕ) (r : List ℕ) (f : Ty → List ℕ → Filled) → D ≡ 1 → after (parseRo (parseType (D - 1)) c r) nothing f ≡ nothing
 shut-at D c r f z = rw z (shut-all c r f)
 
 -- ---- one step
@@ -201,7 +197,7 @@ module _ (s : List ℕ) (at i n D e : ℕ) (T : List ℕ) (h : Stand s T at i D 
   fill-li q =
       let p = step-li s at D (h .fuel) q in
       fill-more s at i n D e T l ∙ rw (p, all-more s (at + 2) (D - 1) 1 (omega arith))
-      (go (parse (D - 1) (drop (at + 2) s)) (subst (Left s at) p (left s at D)))
+      (go (parseType (D - 1) (drop (at + 2) s)) (subst (Left s at) p (left s at D)))
     where
       one : (X : Ty) (r : List ℕ) → at + size (li X) ≤ length s
           → on (li X) ≡ fill s (at + 2 + sizes (X then end)) (i + 1 + manys (X then end)) (n - 1) D e
@@ -211,19 +207,20 @@ module _ (s : List ℕ) (at i n D e : ℕ) (T : List ℕ) (h : Stand s T at i D 
 
       go : (x : Parsed) → Left s at (after x none (λ X r. some (li X) r))
           → after (after x none (λ X r. some (li X) r)) nothing (λ X r. on X)
-          ≡ onward (afters (after x nones (λ X r. afters (parseAll (parse (D - 1)) (1 - 1) r) nones (λ Xs q. somes (X then Xs) q))) nothing
+          ≡ onward (afters (after x nones (λ X r. afters (parseAll (parseType (D - 1)) (1 - 1) r) nones (λ Xs q. somes (X then Xs) q))) nothing
           (λ ts r. filled (at + 2 + sizes ts) (i + 1 + manys ts) (sets (set T i (word 9 e 1 i 0)) (i + 1) (entriesAll (e + 1) (i + 1) ts))))
           (λ a j U. fill s a j (n - 1) D e (patch U i j))
       go none z = refl
-      go (some X r) z = one X r (z .room) ∙ rw (none-left (parse (D - 1)) r)
+      go (some X r) z = one X r (z .room) ∙ rw (none-left (parseType (D - 1)) r)
 
   pub fill-ro : kindAt s at ≡ structKind → (c : ℕ) → c ≡ getD s (at + 2) 0 → 1 ≤ c → c ≤ 128 → Opens 11 c (at + 3)
   unfolding fill parseRo
   fill-ro q c ec lo hi =
-      let p : parse D (drop at s) ≡ afters (parseAll (parse (D - 1)) c (drop (at + 3) s)) none (λ ts q. some (ro ts) q) = step-ro s at D (h .fuel) q ∙ rw
+      let p : parseType D (drop at s) ≡ afters (parseAll (parseType (D - 1)) c (drop (at + 3) s)) none (λ ts q. some (ro ts) q) =
+      step-ro s at D (h .fuel) q ∙ rw
       (← ec, le-leb 1 c lo, le-leb c 128 hi) in
-      fill-more s at i n D e T l ∙ rw p (go (parseAll (parse (D - 1)) c (drop (at + 3) s))
-      (all-sound (D - 1) (parse (D - 1)) (sound (D - 1)) c (drop (at + 3) s)) (subst (Left s at) p (left s at D)))
+      fill-more s at i n D e T l ∙ rw p (go (parseAll (parseType (D - 1)) c (drop (at + 3) s))
+      (all-sound (D - 1) (parseType (D - 1)) (sound (D - 1)) c (drop (at + 3) s)) (subst (Left s at) p (left s at D)))
     where
       go : (x : ParsedAll) → SoundAll (D - 1) c (drop (at + 3) s) x → Left s at (afters x none (λ ts q. some (ro ts) q))
           → after (afters x none (λ ts q. some (ro ts) q)) nothing (λ X r. on X)
@@ -236,7 +233,7 @@ module _ (s : List ℕ) (at i n D e : ℕ) (T : List ℕ) (h : Stand s T at i D 
   pub fill-few : kindAt s at ≡ structKind → (getD s (at + 2) 0 < 1) ⊎ (128 < getD s (at + 2) 0) → fill s at i n D e T ≡ nothing
   fill-few q z = fill-more s at i n D e T l ∙ rw (go z)
     where
-      go : (getD s (at + 2) 0 < 1) ⊎ (128 < getD s (at + 2) 0) → parse D (drop at s) ≡ none
+      go : (getD s (at + 2) 0 < 1) ⊎ (128 < getD s (at + 2) 0) → parseType D (drop at s) ≡ none
       go (inl y) = step-few s at D (h .fuel) q y
       go (inr y) = step-many s at D (h .fuel) q y
 
@@ -245,7 +242,7 @@ module _ (s : List ℕ) (at i n D e : ℕ) (T : List ℕ) (h : Stand s T at i D 
   fill-ma q =
       let p = step-ma s at D (h .fuel) q in
       fill-more s at i n D e T l ∙ rw (p, all-more s (at + 2) (D - 1) 2 (omega arith))
-      (go (parse (D - 1) (drop (at + 2) s)) (subst (Left s at) p (left s at D)))
+      (go (parseType (D - 1) (drop (at + 2) s)) (subst (Left s at) p (left s at D)))
     where
       K₀ : ℕ → ℕ → List ℕ → Filled
       K₀ a j U = fill s a j (n - 1) D e (patch U i j)
@@ -263,14 +260,15 @@ module _ (s : List ℕ) (at i n D e : ℕ) (T : List ℕ) (h : Stand s T at i D 
       two K none z = refl
       two K (some U q) z = both K U (z .room)
 
-      go : (x : Parsed) → Left s at (after x none (λ K r. after (parse (D - 1) r) none (λ U q. some (ma K U) q)))
-          → after (after x none (λ K r. after (parse (D - 1) r) none (λ U q. some (ma K U) q))) nothing (λ X r. on X)
-          ≡ onward (afters (after x nones (λ X r. afters (parseAll (parse (D - 1)) (2 - 1) r) nones (λ Xs q. somes (X then Xs) q))) nothing (λ ts r. fin ts)) K₀
+      go : (x : Parsed) → Left s at (after x none (λ K r. after (parseType (D - 1) r) none (λ U q. some (ma K U) q)))
+          → after (after x none (λ K r. after (parseType (D - 1) r) none (λ U q. some (ma K U) q))) nothing (λ X r. on X)
+          ≡ onward (afters (after x nones (λ X r. afters (parseAll (parseType (D - 1)) (2 - 1) r) nones (λ Xs q. somes (X then Xs) q)))
+          nothing (λ ts r. fin ts)) K₀
       go none z = refl
-      go (some K r) z = rw (one-left (parse (D - 1)) r) (two K (parse (D - 1) r) z)
+      go (some K r) z = rw (one-left (parseType (D - 1)) r) (two K (parseType (D - 1) r) z)
 
   -- at the greatest depth no container has room for its children's types
   pub fill-stop : D ≡ 1 → (kindAt s at ≡ listKind) ⊎ ((kindAt s at ≡ mapKind) ⊎ (kindAt s at ≡ structKind)) → fill s at i n D e T ≡ nothing
-  fill-stop z (inl q) = fill-more s at i n D e T l ∙ rw (step-li s at D (h .fuel) q, z) (unfold parse in refl)
-  fill-stop z (inr (inl q)) = fill-more s at i n D e T l ∙ rw (step-ma s at D (h .fuel) q, z) (unfold parse in refl)
+  fill-stop z (inl q) = fill-more s at i n D e T l ∙ rw (step-li s at D (h .fuel) q, z) (unfold parseType in refl)
+  fill-stop z (inr (inl q)) = fill-more s at i n D e T l ∙ rw (step-ma s at D (h .fuel) q, z) (unfold parseType in refl)
   fill-stop z (inr (inr q)) = fill-more s at i n D e T l ∙ rw (step-ro s at D (h .fuel) q) (shut-at D (getD s (at + 2) 0) (drop (at + 3) s) (λ X r. on X) z)

@@ -12,13 +12,13 @@ use lib.Seq.{getD-set-same, getD-set-other}
 use mir.Val.{Fits}
 use mir.Syntax.{w64}
 use Rattle.schema.specs.Marks.{types}
-use Rattle.schema.specs.Kinds.{placed, kindOf}
+use Rattle.schema.specs.Kinds.{kindOfPlace, kindOf}
 use Rattle.schema.proofs.Laws.{byte-room}
 use Rattle.table.specs.Words.{word, heldAt, behindAt}
 use Rattle.table.proofs.Lines.{held-small, behind-more}
 use Rattle.table.proofs.Filling.{onward, fill, patch, fill-li, fill-ma, fill-ro}
 use Rattle.table.proofs.Running.{run, run-push}
-use Rattle.table.proofs.Building.{Ends, Looking, Opened, stand, place-in}
+use Rattle.table.proofs.Building.{Ends, Looking, OpenHolder, stand, place-in}
 
 -- how many children a struct's byte says
 pub held-byte : {c : ℕ} (n : ℕ) → 0 < c → c ≡ cond (leb n 128) n 0 → (c ≡ n) × (n ≤ 128)
@@ -28,7 +28,7 @@ held-byte {c} n z e = by (leb n 128) refl e
     by true p q = (q, leb-true n 128 p)
     by false p q = absurd (omega arith)
 
-module _ {s T F : List ℕ} {d at i n base w k c : ℕ} (o : Opened s T F d at i n base w k c) where
+module _ {s T F : List ℕ} {d at i n base w k c : ℕ} (o : OpenHolder s T F d at i n base w k c) where
   abbrev W : ℕ
   W = w + c * 68719476736 + (base - (i + 1) * 18014398509481984)
 
@@ -81,7 +81,7 @@ module _ {s T F : List ℕ} {d at i n base w k c : ℕ} (o : Opened s T F d at i
     open-fill : fill s at i n (7 - d) (d + 2) T
         ≡ onward (fill s at′ (i + 1) c (7 - d - 1) (d + 2 + 1) (set T i (word k (d + 2) c i 0)))
         (λ a j U. fill s a j (n - 1) (7 - d) (d + 2) (patch U i j))
-    unfolding heldAt behindAt placed types kindOf
+    unfolding heldAt behindAt kindOfPlace types kindOf
     open-fill = go (decLt k 10) (decLt k 11)
       where
         go : Dec (k < 10) → Dec (k < 11) → fill s at i n (7 - d) (d + 2) T
@@ -91,17 +91,17 @@ module _ {s T F : List ℕ} {d at i n base w k c : ℕ} (o : Opened s T F d at i
             let f : k ≡ 9 = omega arith in
             let x : c ≡ 1 = o .held ∙ rw f in
             let a : at′ ≡ at + 2 = e ∙ rw f in
-            rw (f, x, a) (fill-li s at i n (7 - d) (d + 2) T (stand (o .marked .looking)) (o .marked .looking .left) (o .marked .line .kind ∙ ap placed f))
+            rw (f, x, a) (fill-li s at i n (7 - d) (d + 2) T (stand (o .marked .looking)) (o .marked .looking .left) (o .marked .line .kind ∙ ap kindOfPlace f))
         go (no p) (yes q) =
             let f : k ≡ 10 = omega arith in
             let x : c ≡ 2 = o .held ∙ rw f in
             let a : at′ ≡ at + 2 = e ∙ rw f in
-            rw (f, x, a) (fill-ma s at i n (7 - d) (d + 2) T (stand (o .marked .looking)) (o .marked .looking .left) (o .marked .line .kind ∙ ap placed f))
+            rw (f, x, a) (fill-ma s at i n (7 - d) (d + 2) T (stand (o .marked .looking)) (o .marked .looking .left) (o .marked .line .kind ∙ ap kindOfPlace f))
         go (no p) (no q) =
             let f : k ≡ 11 = omega arith in
             let x = held-byte (getD s (at + 2) 0) (o .some) (o .held ∙ rw (eq-eqb k 11 f)) in
             let a : at′ ≡ at + 3 = e ∙ rw (eq-eqb k 11 f) (omega arith) in
-            rw (f, a) (fill-ro s at i n (7 - d) (d + 2) T (stand (o .marked .looking)) (o .marked .looking .left) (o .marked .line .kind ∙ ap placed f) c
+            rw (f, a) (fill-ro s at i n (7 - d) (d + 2) T (stand (o .marked .looking)) (o .marked .looking .left) (o .marked .line .kind ∙ ap kindOfPlace f) c
             (x .0) (o .some) (omega (arith, x .0, x .1)))
 
     behind-within : at′ ≤ length s

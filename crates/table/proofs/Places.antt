@@ -2,7 +2,7 @@
 -- type's place in the table of types and its count, and leads to the first child and to what stands behind the type. Assumes nothing.
 use mathlib.Core.Path.{_≡_, refl, ap, sym, _∙_, subst}
 use mathlib.Core.List.{List, [], _∷_, _++_, append-assoc, append-nil}
-use Prim.Native.Nat.{ℕ, suc, _+_, _*_, _<_, _≤_}
+use Prim.Native.Nat.{ℕ, _+_, _-_, _*_, _<_, _≤_}
 use native.Mathlib.Decide.{decLt}
 use native.Mathlib.Omega.{arith}
 use lib.Dec.{T}
@@ -13,17 +13,17 @@ use Rattle.schema.specs.Marks.{markAt}
 use Rattle.schema.specs.Types.{Ty, fix, text, li, ma, ro, Tys, end, _then_, count, mark, place}
 use Rattle.schema.specs.House.{schema, depth, Right}
 use Rattle.schema.specs.Kinds.{placeAt}
-use Rattle.schema.specs.Reading.{some, parse, judged}
+use Rattle.schema.specs.Reading.{some, parseType, judged}
 use Rattle.schema.specs.declared.Judged.the-variants.{Accepted}
-use Rattle.schema.specs.Walk.{size, sizes, Typed, typeAt, nextAt, fieldsOf}
+use Rattle.schema.specs.Walk.{size, sizes, Typed, typeAt, nextAt, fieldsOf, ListAt, MapAt, StructAt}
 use Rattle.schema.proofs.Table.{fixed-high, text-high}
 use Rattle.schema.proofs.Parse.{complete}
 use Rattle.schema.proofs.Laws.{size-fixed, size-text, size-li, size-ma, size-ro, sizes-done, sizes-more, size-two}
 use Rattle.schema.proofs.Typing.{typed-deeper, typed-room, next-is}
-use Rattle.schema.proofs.Places.{typed-place}
+use Rattle.schema.proofs.Places.{typed-place, place-li, place-ma, place-ro}
 use Rattle.schema.proofs.Judging.{accepted-root}
 use Rattle.table.specs.Words.{word, placeIn, countIn, afterIn, bytesIn, Lined}
-use Rattle.table.specs.Tables.{many, manys, entries, entriesAll, tableOf, schemaOf, posOf, Table, EntryAt}
+use Rattle.table.specs.Tables.{many, manys, entries, entriesAll, tableOf, schemaOf, posOf, typeOf, Table, InTable, EntryAt}
 use Rattle.table.proofs.Decode.{place-word, count-word, after-word, lined-word, bytes-other, bytes-struct}
 use Rattle.table.proofs.Spots.{Small, small-count, many-one, entries-many, says-append, says, Spot, spot}
 
@@ -85,7 +85,7 @@ form-type : (s : List ℕ) (at d : ℕ) (X : Ty) (r : List ℕ) → Right X → 
 unfolding typeAt
 form-type s at d X r h e t =
     let q = typed-deeper s at d (d + depth X) t (omega arith) .same in
-    let p : parse (d + depth X) (drop at s) ≡ some X r = ap (parse (d + depth X)) e ∙ complete X (d + depth X) r h (omega arith) in
+    let p : parseType (d + depth X) (drop at s) ≡ some X r = ap (parseType (d + depth X)) e ∙ complete X (d + depth X) r h (omega arith) in
     sym q ∙ rw p
 
 none-past : (s : List ℕ) (at d : ℕ) → length s ≤ at → Typed s at d → ⊥
@@ -109,7 +109,7 @@ module _ (t : List ℕ) (h : Table t) where
   unfolding tableOf
   is-entries = h .given ∙ sym (append-nil (entries 1 0 all))
 
-  pub table-length : length t ≡ many all
+  table-length : length t ≡ many all
   unfolding tableOf
   table-length = ap length (h .given) ∙ entries-many all 1 0
 
@@ -170,7 +170,7 @@ module _ (t : List ℕ) (h : Table t) where
     i-small = omega (arith, sp .small .ends, many-one X)
 
     -- its place in the table of types
-    pub place-is : placeIn (getD t c 0) ≡ placeAt s (posOf t c)
+    place-is : placeIn (getD t c 0) ≡ placeAt s (posOf t c)
     place-is =
         ap placeIn entry-is ∙ place-word (place X) (sp .d) (held X) c (c + many X) (place-small X) d-small (held-small X (sp .d) c (sp .small)) i-small
         ∙ ap place (sym type-is) ∙ sym (typed-place s (posOf t c) d y)
@@ -184,7 +184,7 @@ module _ (t : List ℕ) (h : Table t) where
     after-is = ap afterIn entry-is ∙ after-word (place X) (sp .d) (held X) c (c + many X) (place-small X) d-small (held-small X (sp .d) c (sp .small)) i-small
 
     -- the place behind its last descendant is that of what stands behind it
-    pub next-place : posOf t (afterIn (getD t c 0)) ≡ nextAt s (posOf t c) d
+    next-place : posOf t (afterIn (getD t c 0)) ≡ nextAt s (posOf t c) d
     unfolding posOf size
     next-place =
         let a = entries (sp .d) c X in
@@ -196,7 +196,7 @@ module _ (t : List ℕ) (h : Table t) where
         ap (λ (j : ℕ). length (schemaOf (take j t))) after-is ∙ ap length m ∙ length-append (schemaOf (take c t)) (schema X) ∙ sym
         (next-is s (posOf t c) d ∙ ap (λ (u : Ty). posOf t c + length (schema u)) type-is)
 
-    pub next-room : afterIn (getD t c 0) ≤ length t
+    next-room : afterIn (getD t c 0) ≤ length t
     next-room = let a = entries (sp .d) c X in omega (
       arith,
       after-is,
@@ -216,7 +216,7 @@ module _ (t : List ℕ) (h : Table t) where
         ap (λ (u : List ℕ). length (schemaOf u)) e ∙ ap length (says-append (take c t) (getD t c 0 ∷ [])) ∙ length-append (schemaOf (take c t))
         (bytesIn (getD t c 0) ++ []) ∙ ap (λ (u : List ℕ). length (schemaOf (take c t)) + length u) (append-nil (bytesIn (getD t c 0)))
 
-    pub child-other : (placeAt s (posOf t c) ≡ 11 → ⊥) → posOf t (c + 1) ≡ posOf t c + 2
+    child-other : (placeAt s (posOf t c) ≡ 11 → ⊥) → posOf t (c + 1) ≡ posOf t c + 2
     unfolding markAt
     child-other n =
         let p : place X ≡ placeAt s (posOf t c) = ap place (sym type-is) ∙ sym (typed-place s (posOf t c) d y) in
@@ -224,7 +224,7 @@ module _ (t : List ℕ) (h : Table t) where
         ∙ ap (λ (u : List ℕ). posOf t c + length u) (bytes-other (place X) (sp .d) (held X) c (c + many X) (place-small X) d-small
         (held-small X (sp .d) c (sp .small)) i-small (λ e. n (sym p ∙ e)))
 
-    pub child-struct : placeAt s (posOf t c) ≡ 11 → posOf t (c + 1) ≡ posOf t c + 3
+    child-struct : placeAt s (posOf t c) ≡ 11 → posOf t (c + 1) ≡ posOf t c + 3
     unfolding markAt
     child-struct n =
         let p : place X ≡ placeAt s (posOf t c) = ap place (sym type-is) ∙ sym (typed-place s (posOf t c) d y) in
@@ -233,7 +233,7 @@ module _ (t : List ℕ) (h : Table t) where
         (held-small X (sp .d) c (sp .small)) i-small (p ∙ n))
 
     -- a struct's count is the byte behind its mark
-    pub count-is : placeAt s (posOf t c) ≡ 11 → countIn (getD t c 0) ≡ getD s (posOf t c + 2) 0
+    count-is : placeAt s (posOf t c) ≡ 11 → countIn (getD t c 0) ≡ getD s (posOf t c + 2) 0
     unfolding place schema mark markAt
     count-is n = go X type-is entry-is (sp .small) drop-pos (ap place (sym type-is) ∙ sym (typed-place s (posOf t c) d y) ∙ n)
       where
@@ -271,3 +271,37 @@ module _ (s : List ℕ) (e : judged s ≡ Accepted) where
 
   pub table-of : Table (tableOf s)
   table-of = record { accepted = ap judged says-schema ∙ e; given = ap tableOf (sym says-schema) }
+
+-- ---- a type that stands in a table, by its entry w
+
+module _ {t : List ℕ} {c d w : ℕ} (S : InTable t c d) (E : EntryAt t c d w) where
+  pub entry-place : placeIn w ≡ place (typeOf t c d)
+  entry-place = E .place ∙ typed-place (schemaOf t) (posOf t c) d (S .typed)
+
+  pub entry-list : placeIn w ≡ 9 → ListAt (schemaOf t) (posOf t c) d (posOf t (c + 1))
+  entry-list e = rw (E .child (λ n. omega arith)) (place-li (schemaOf t) (posOf t c) d (S .typed) (placeIn w) (E .place) e)
+
+  pub entry-map : placeIn w ≡ 10 → MapAt (schemaOf t) (posOf t c) d (posOf t (c + 1)) (nextAt (schemaOf t) (posOf t (c + 1)) (d - 1))
+  entry-map e = rw (E .child (λ n. omega arith)) (place-ma (schemaOf t) (posOf t c) d (S .typed) (placeIn w) (E .place) e)
+
+  pub entry-struct : placeIn w ≡ 11 → {n : ℕ} → n ≡ countIn w → StructAt (schemaOf t) (posOf t c) d (posOf t (c + 1)) n
+  entry-struct e {n} en = rw (E .first e) (place-ro (schemaOf t) (posOf t c) d (S .typed) (placeIn w) (E .place) e n (en ∙ E .count e))
+
+-- the root stands at the first place
+module _ {t : List ℕ} (h : Table t) where
+  first-pos : posOf t 0 ≡ 0
+  unfolding posOf schemaOf
+  first-pos = refl
+
+  pub root-stands : InTable t 0 8
+  root-stands = record {
+    table = h;
+    typed = subst (λ (j : ℕ). Typed (schemaOf t) j 8) (sym first-pos) (accepted-root (schemaOf t) (h .accepted) .typed);
+  }
+
+  pub root-whole : typeOf t 0 8 ≡ ro (fieldsOf (schemaOf t))
+  root-whole = ap (λ (j : ℕ). typeAt (schemaOf t) j 8) first-pos ∙ accepted-root (schemaOf t) (h .accepted) .whole
+
+  pub root-place : placeAt (schemaOf t) (posOf t 0) ≡ 11
+  unfolding place
+  root-place = typed-place (schemaOf t) (posOf t 0) 8 (root-stands .typed) ∙ ap place root-whole

@@ -14,8 +14,8 @@ use mir.Syntax.{w64}
 use Rattle.schema.specs.Marks.{types}
 use Rattle.schema.specs.Types.{ro, Tys, count}
 use Rattle.schema.specs.House.{schema}
-use Rattle.schema.specs.Kinds.{Kind, kindAt, placed, kindOf, structKind, noKind}
-use Rattle.schema.specs.Reading.{none, some, ParsedAll, nones, somes, afters, parse, parseAll, parseRo, judged}
+use Rattle.schema.specs.Kinds.{Kind, kindAt, kindOfPlace, kindOf, structKind, noKind}
+use Rattle.schema.specs.Reading.{none, some, ParsedAll, nones, somes, afters, parseType, parseAll, parseRo, judged}
 use Rattle.schema.specs.Walk.{size, sizes, typeAt, fieldsOf}
 use Rattle.schema.specs.declared.Judged.{Judged}
 use Rattle.schema.specs.declared.Judged.the-variants.{Accepted, Refused}
@@ -73,7 +73,7 @@ refuse-short {s} l = refused (go (judged s) refl)
 record Read (s T : List ℕ) (c : ℕ) (ts : Tys) (r : List ℕ) : Type 0 where
   short : length s ≤ 1024
   roomy : length s ≤ 2 * length T
-  parsed : parse 8 (drop 0 s) ≡ some (ro ts) r
+  parsed : parseType 8 (drop 0 s) ≡ some (ro ts) r
   many-are : count ts ≡ c
   few : c ≤ 128
 
@@ -156,8 +156,8 @@ module _ {s T : List ℕ} {m c : ℕ} (r : Rooted s T m c) where
   abbrev byte : ℕ
   byte = getD s 2 0
 
-  pub root-kind : kindAt s 0 ≡ structKind
-  unfolding placed types kindOf
+  root-kind : kindAt s 0 ≡ structKind
+  unfolding kindOfPlace types kindOf
   root-kind =
       let e : 2952818546 ≡ lineFor m = sym (ap lineFor (r .struct) ∙ line-root) in
       line-some (omega (arith, h .three)) (h .mark) e (omega (arith, r .struct)) .kind
@@ -166,7 +166,7 @@ module _ {s T : List ℕ} {m c : ℕ} (r : Rooted s T m c) where
   unfolding heldAt
   start-shut z = refused (judged-none s (h .short) (by (leb byte 128) refl (sym z ∙ r .held)))
     where
-      by : (b : Bool) → leb byte 128 ≡ b → 0 ≡ cond b byte 0 → parse 8 (drop 0 s) ≡ none
+      by : (b : Bool) → leb byte 128 ≡ b → 0 ≡ cond b byte 0 → parseType 8 (drop 0 s) ≡ none
       by true p q = step-few s 0 8 (omega arith) root-kind (omega arith)
       by false p q = step-many s 0 8 (omega arith) root-kind (leb-false byte 128 p)
 
@@ -203,17 +203,17 @@ module _ {s T : List ℕ} {m c : ℕ} (r : Rooted s T m c) where
         by false q = absurd (n q)
 
     abbrev x : ParsedAll
-    x = parseAll (parse 7) c (drop 3 s)
+    x = parseAll (parseType 7) c (drop 3 s)
 
-    root-parse : parse 8 (drop 0 s) ≡ afters x none (λ ts q. some (ro ts) q)
+    root-parse : parseType 8 (drop 0 s) ≡ afters x none (λ ts q. some (ro ts) q)
     unfolding parseRo
     root-parse =
-        let p : parse 8 (drop 0 s) ≡ parseRo (parse (8 - 1)) byte (drop (0 + 3) s) = step-ro s 0 8 (omega arith) root-kind in
+        let p : parseType 8 (drop 0 s) ≡ parseRo (parseType (8 - 1)) byte (drop (0 + 3) s) = step-ro s 0 8 (omega arith) root-kind in
         let a : 1 ≤ byte = omega (arith, is-byte) in
         let b : byte ≤ 128 = omega (arith, is-byte, few-fields) in
         p ∙ rw (le-leb 1 byte a, le-leb byte 128 b, ← is-byte)
 
-    root-read : {y : ParsedAll} → x ≡ y → parse 8 (drop 0 s) ≡ afters y none (λ ts q. some (ro ts) q)
+    root-read : {y : ParsedAll} → x ≡ y → parseType 8 (drop 0 s) ≡ afters y none (λ ts q. some (ro ts) q)
     root-read e = root-parse ∙ ap (λ (q : ParsedAll). afters q none (λ ts q. some (ro ts) q)) e
 
     root-fields : {ts : Tys} {q : List ℕ} → x ≡ somes ts q → count ts ≡ c → Read s T c ts q
@@ -227,7 +227,7 @@ module _ {s T : List ℕ} {m c : ℕ} (r : Rooted s T m c) where
 
     start-ends : (F : List ℕ) → getD F 0 0 ≡ 0 → Ends s (run s F 0 3 1 c (set T 0 (word 11 1 c 0 0)))
     unfolding run cont fill
-    start-ends F f = go x refl (all-sound 7 (parse 7) (sound 7) c (drop 3 s))
+    start-ends F f = go x refl (all-sound 7 (parseType 7) (sound 7) c (drop 3 s))
       where
         go : (y : ParsedAll) → x ≡ y → SoundAll 7 c (drop 3 s) y
             → Ends s (onward (afters y nothing

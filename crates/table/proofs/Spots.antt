@@ -25,19 +25,19 @@ pub record Smalls (d i : ℕ) (ts : Tys) : Type 0 where
   pub ends : i + manys ts ≤ 1000
 
 module _ (d i : ℕ) where
-  pub small-li : (T : Ty) → Small d i (li T) → Small (d + 1) (i + 1) T
+  small-li : (T : Ty) → Small d i (li T) → Small (d + 1) (i + 1) T
   unfolding Right depth many
   small-li T h = record { right = h .right; deep = omega (arith, h .deep); ends = omega (arith, h .ends) }
 
-  pub small-key : (K U : Ty) → Small d i (ma K U) → Small (d + 1) (i + 1) K
+  small-key : (K U : Ty) → Small d i (ma K U) → Small (d + 1) (i + 1) K
   unfolding Right depth many
   small-key K U h = record { right = h .right .0; deep = omega (arith, h .deep); ends = omega (arith, h .ends) }
 
-  pub small-value : (K U : Ty) → Small d i (ma K U) → Small (d + 1) (i + 1 + many K) U
+  small-value : (K U : Ty) → Small d i (ma K U) → Small (d + 1) (i + 1 + many K) U
   unfolding Right depth many
   small-value K U h = record { right = h .right .1; deep = omega (arith, h .deep); ends = omega (arith, h .ends) }
 
-  pub small-fields : (ts : Tys) → Small d i (ro ts) → Smalls (d + 1) (i + 1) ts
+  small-fields : (ts : Tys) → Small d i (ro ts) → Smalls (d + 1) (i + 1) ts
   unfolding Right depth many
   small-fields ts h = record { right = h .right .1; deep = omega (arith, h .deep); ends = omega (arith, h .ends) }
 
@@ -45,11 +45,11 @@ module _ (d i : ℕ) where
   unfolding Right
   small-count ts h = h .right .0 .high
 
-  pub small-first : (T : Ty) (ts : Tys) → Smalls d i (T then ts) → Small d i T
+  small-first : (T : Ty) (ts : Tys) → Smalls d i (T then ts) → Small d i T
   unfolding Right depth many
   small-first T ts h = record { right = h .right .0; deep = omega (arith, h .deep); ends = omega (arith, h .ends) }
 
-  pub small-others : (T : Ty) (ts : Tys) → Smalls d i (T then ts) → Smalls d (i + many T) ts
+  small-others : (T : Ty) (ts : Tys) → Smalls d i (T then ts) → Smalls d (i + many T) ts
   unfolding Right depth many
   small-others T ts h = record { right = h .right .1; deep = omega (arith, h .deep); ends = omega (arith, h .ends) }
 
@@ -73,7 +73,7 @@ mutual
       (entries-many K (d + 1) (i + 1), entries-many U (d + 1) (i + 1 + many K)))
   entries-many (ro ts) d i = ap suc (entries-manys ts (d + 1) (i + 1))
 
-  pub entries-manys : (ts : Tys) (d i : ℕ) → length (entriesAll d i ts) ≡ manys ts
+  entries-manys : (ts : Tys) (d i : ℕ) → length (entriesAll d i ts) ≡ manys ts
   entries-manys end d i = refl
   entries-manys (T then ts) d i = length-append (entries d i T) (entriesAll d (i + many T) ts) ∙ rw (entries-many T d i, entries-manys ts d (i + many T))
 
@@ -112,7 +112,7 @@ mutual
         says-all ts (d + 1) (i + 1) (small-fields d i ts h),
       ) (append-assoc (markAt 11) (count ts ∷ []) (schemas ts))
 
-  pub says-all : (ts : Tys) (d i : ℕ) → Smalls d i ts → schemaOf (entriesAll d i ts) ≡ schemas ts
+  says-all : (ts : Tys) (d i : ℕ) → Smalls d i ts → schemaOf (entriesAll d i ts) ≡ schemas ts
   says-all end d i h = refl
   says-all (T then ts) d i h = says-append (entries d i T) (entriesAll d (i + many T) ts) ∙ rw
       (says T d i (small-first d i T ts h), says-all ts d (i + many T) (small-others d i T ts h))
@@ -228,6 +228,6 @@ mutual
   spot (ma K U) = map K U (spot K) (spot U)
   spot (ro ts) = struct ts (spots ts)
 
-  pub spots : (ts : Tys) → FindsAll ts
+  spots : (ts : Tys) → FindsAll ts
   spots end = none
   spots (T then ts) = one T ts (spot T) (spots ts)

@@ -3,10 +3,11 @@ use mathlib.Core.List.{List, [], _∷_, _++_}
 use mathlib.Core.Path.{_≡_}
 use Prim.Native.Nat.{ℕ, zero, suc, _+_, _<_, _≤_}
 use lib.ListN.{length, take, getD}
+use Rattle.schema.specs.Marks.{STRUCT}
 use Rattle.schema.specs.Types.{Ty, fix, text, li, ma, ro, Tys, end, _then_, count, fixedPlace, textPlace}
 use Rattle.schema.specs.Kinds.{placeAt}
 use Rattle.schema.specs.Reading.{judged}
-use Rattle.schema.specs.Walk.{Typed, nextAt, fieldsOf}
+use Rattle.schema.specs.Walk.{Typed, typeAt, typesAt, nextAt, fieldsOf}
 use Rattle.schema.specs.declared.Judged.the-variants.{Accepted, Refused}
 use Rattle.table.specs.Words.{word, bytesIn, Lined, placeIn, afterIn, countIn}
 
@@ -48,6 +49,13 @@ schemaOf (w ∷ t) = bytesIn w ++ schemaOf t
 unfoldable pub posOf : List ℕ → ℕ → ℕ
 posOf t c = length (schemaOf (take c t))
 
+-- the type, at most d deep, at a place of a table, and the n types from there on
+abbrev pub typeOf : List ℕ → ℕ → ℕ → Ty
+typeOf t c d = typeAt (schemaOf t) (posOf t c) d
+
+abbrev pub typesOf : List ℕ → ℕ → ℕ → ℕ → Tys
+typesOf t c d n = typesAt (schemaOf t) (posOf t c) d n
+
 -- THE fact: the table is the one that its schema gives, and the schema is accepted
 pub record Table (t : List ℕ) : Type 0 where
   pub accepted : judged (schemaOf t) ≡ Accepted
@@ -65,7 +73,7 @@ pub record Built (s : List ℕ) (r : ℕ) (t : List ℕ) : Type 0 where
   pub refused : judged s ≡ Refused → r ≡ 0
 
 -- a type, at most d deep, stands at a place of a table
-pub record Stands (t : List ℕ) (c d : ℕ) : Type 0 where
+pub record InTable (t : List ℕ) (c d : ℕ) : Type 0 where
   pub table : Table t
   pub typed : Typed (schemaOf t) (posOf t c) d
 
@@ -77,6 +85,6 @@ pub record EntryAt (t : List ℕ) (c d w : ℕ) : Type 0 where
   pub next : posOf t (afterIn w) ≡ nextAt (schemaOf t) (posOf t c) d
   pub room : afterIn w ≤ length t
   -- its first child, and how many fields a struct has
-  pub child : (placeIn w ≡ 11 → ⊥) → posOf t (c + 1) ≡ posOf t c + 2
-  pub first : placeIn w ≡ 11 → posOf t (c + 1) ≡ posOf t c + 3
-  pub count : placeIn w ≡ 11 → countIn w ≡ getD (schemaOf t) (posOf t c + 2) 0
+  pub child : (placeIn w ≡ STRUCT → ⊥) → posOf t (c + 1) ≡ posOf t c + 2
+  pub first : placeIn w ≡ STRUCT → posOf t (c + 1) ≡ posOf t c + 3
+  pub count : placeIn w ≡ STRUCT → countIn w ≡ getD (schemaOf t) (posOf t c + 2) 0

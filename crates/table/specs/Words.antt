@@ -6,7 +6,7 @@ use Prim.Native.Nat.{ℕ, _+_, _*_, _-_, _/_, _%_, _<_}
 use lib.Dec.{eqb, leb}
 use lib.ListN.{getD}
 use Rattle.words.specs.Bytes.{num}
-use Rattle.schema.specs.Marks.{line, markAt}
+use Rattle.schema.specs.Marks.{line, markAt, STRUCT}
 
 -- the highest bit of a fixed-width type's contents in a slot, by its place in the table of types; 0 where they vary
 abbrev pub topBit : ℕ → ℕ
@@ -38,14 +38,8 @@ widthIn w = w / 4194304 % 16
 unfoldable pub placeIn : ℕ → ℕ
 placeIn w = w / 268435456 % 16
 
-unfoldable pub depthIn : ℕ → ℕ
-depthIn w = w / 4294967296 % 16
-
 unfoldable pub countIn : ℕ → ℕ
 countIn w = w / 68719476736 % 256
-
-unfoldable pub firstIn : ℕ → ℕ
-firstIn w = w / 17592186044416 % 1024
 
 unfoldable pub afterIn : ℕ → ℕ
 afterIn w = w / 18014398509481984
@@ -59,7 +53,7 @@ pub record Lined (w : ℕ) : Type 0 where
 
 -- the bytes of the schema that an entry stands for: its mark, and of a struct the field count
 unfoldable pub bytesIn : ℕ → List ℕ
-bytesIn w = w % 256 ∷ w / 256 % 256 ∷ cond (eqb (placeIn w) 11) (countIn w ∷ []) []
+bytesIn w = w % 256 ∷ w / 256 % 256 ∷ cond (eqb (placeIn w) STRUCT) (countIn w ∷ []) []
 
 -- the constant table in the code, by its marks
 unfoldable pub linesOf : List ℕ

@@ -2,9 +2,9 @@
 ghost use mathlib.Core.Path.{_≡_};
 ghost use Prim.Native.Nat.{_+_, _*_, _≤_, _<_};
 ghost use lib.ListN.{length};
-ghost use Rattle.schema.specs.Marks.{elementWidth};
+ghost use Rattle.schema.specs.Marks.{elementWidth, LIST};
 ghost use Rattle.table.specs.Words.{MarkAt, lineFor, linesOf, heldAt, behindAt, Lined, placeIn, markIn, widthIn, topIn, countIn, afterIn};
-ghost use Rattle.table.specs.Tables.{Built, Stands, EntryAt};
+ghost use Rattle.table.specs.Tables.{Built, InTable, EntryAt};
 
 // The constant table of the twelve types, a word a line: the mark in bits 0 to 15, the top bit of a fixed-width slot's contents in 16 to 21,
 // the width in 22 to 25, 0 where it varies, and the kind in 28 to 31. The mark numbered m can stand at (109 m / 1024) mod 16, which
@@ -31,14 +31,8 @@ pub const TYPES: [u32; 16] = [
 // Where the line of a list stands in it.
 pub const LIST_LINE: usize = 8;
 
-// The kinds by name, in the order of the document's table: those before STRING have a fixed width, and those before LIST are leaves.
+// The kinds that the code names, by their place in the document's table: those before STRING have a fixed width, and those before LIST are leaves.
 pub const BOOL: usize = 0;
-
-pub const INT8: usize = 1;
-
-pub const INT16: usize = 2;
-
-pub const INT32: usize = 3;
 
 pub const INT64: usize = 4;
 
@@ -114,7 +108,7 @@ fn line_of(lines: &[u32], m: u64) -> u64
 
 // How many children a container has, whose place in the table of types is k and whose mark ends at a position; 0 where that is refused.
 fn held(s: &[u8], at: usize, k: usize) -> u64
-    requires { ⌜ (9 ≤ k) × (k < 12) ⌝ }
+    requires { ⌜ (LIST ≤ k) × (k < 12) ⌝ }
     ensures { λ r. ⌜ r ≡ heldAt (now (s .entry)) at k ⌝ }
 {
     if k != STRUCT {
@@ -217,7 +211,7 @@ pub fn build(s: &[u8], t: &mut [u64]) -> usize
 
 // The entry of the type at a place.
 pub fn entry_at(t: &[u64], c: usize, depth: usize) -> u64
-    requires { ⌜ Stands (now t) c depth ⌝ }
+    requires { ⌜ InTable (now t) c depth ⌝ }
     ensures { λ r. ⌜ EntryAt (now (t .entry)) c depth r ⌝ }
 {
     t[c]

@@ -8,7 +8,7 @@ use batch::Checked;
 use batch::Counted;
 use batch::Fetched;
 
-pub mod lines;
+mod lines;
 
 // A refusal's number, and its length or its place: none has both.
 fn refused(line: &mut [u8], r: Refusal) -> usize {
@@ -58,6 +58,11 @@ pub fn table(line: &mut [u8], code: u64, out: &[u64]) -> usize {
     let end = sized(line, code);
     let end = lines::put_byte(line, end, b' ');
     lines::put_words(line, end, out)
+}
+
+// Lent bytes by themselves.
+pub fn text(line: &mut [u8], bytes: &[u8]) -> usize {
+    lines::put_bytes(line, 0, bytes)
 }
 
 fn range(line: &mut [u8], name: &[u8], start: usize, len: usize) -> usize {
@@ -140,4 +145,9 @@ pub fn length(line: &mut [u8], l: Length, out: &[u8]) -> usize {
             lines::put_bytes(line, end, out)
         }
     }
+}
+
+// The end of the line that ends at a place so far.
+pub fn end(line: &mut [u8], at: usize) -> usize {
+    lines::put_byte(line, at, b'\n')
 }

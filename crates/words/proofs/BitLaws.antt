@@ -4,29 +4,29 @@ use mathlib.Core.Logic.{_⊎_, inl, inr, ⊎-elim}
 use mathlib.Core.Bool.{Bool, true, false, not}
 use mathlib.Core.List.{List, [], _∷_}
 use Prim.Native.Nat.{ℕ, zero, suc, _+_, _-_, _*_, _/_, _%_, _^_, _≤_, _<_, max}
-use native.Mathlib.Nat.{pow-suc, mul-assoc, mod-lt, add-mul-div-right, mod-eq-of-lt, add-assoc, add-zero, add-comm, le-add-left, zero-mul, zero-add}
-use native.Mathlib.Nat.{zero-div, lt-of-lt-of-le, div-div-eq-div-mul}
+use native.Mathlib.Nat.{pow-suc, mul-assoc, mod-lt, add-mul-div-right, mod-eq-of-lt, add-assoc, add-zero, add-comm, le-add-left, zero-mul}
+use native.Mathlib.Nat.{zero-div, div-div-eq-div-mul}
 use native.Mathlib.Decide.{decLt}
 use native.Mathlib.Omega.{arith}
 use lib.Dec.{eqb, lit<}
-use lib.ListN.{length, getD, set, length-set}
-use lib.Seq.{sets, getD-set-same, getD-set-other, set-getD, set-set, set-comm}
+use lib.ListN.{length, getD, length-set}
+use lib.Seq.{sets, getD-set-same, getD-set-other}
 use lib.Arith.{digits-lt}
-use lib.Pow.{pow-pos, pow-add, split, high, low, shr-shr, shr-lt, high-ones, ones-lt, pow-mono}
+use lib.Pow.{pow-pos, pow-add, split, high, shr-shr, shr-lt, high-ones, ones-lt, pow-mono}
 use lib.Bits.{bitAnd, bitOr, and-high, and-mask, and-block, or-block, or-step, or-zero-r}
 use borrow.Author.Tests.{ne-eqb}
 use Rattle.words.specs.Bytes.{Bytes, empty, byte, num, part}
 use Rattle.words.specs.Bits.{bitOf, digit, withBit, bit, putBit}
 use Rattle.words.proofs.Numbers.{byte-at}
 use Rattle.words.proofs.Parts.{lt-or-le, getD-part, bytes-part}
-use Rattle.words.proofs.Runs.{sets-comm, bytes-sets, getD-sets-lo, getD-sets-hi}
+use Rattle.words.proofs.Runs.{bytes-sets, getD-sets-lo, getD-sets-hi}
 
 -- ---- masks
 
 twice : (k : ℕ) → 2 ^ (1 + k) ≡ 2 * 2 ^ k
 twice k = pow-add 2 1 k
 
-pub and-bit : (x k : ℕ) → bitAnd x (2 ^ k) ≡ x / 2 ^ k % 2 * 2 ^ k
+and-bit : (x k : ℕ) → bitAnd x (2 ^ k) ≡ x / 2 ^ k % 2 * 2 ^ k
 and-bit x k =
     let e : 2 ^ k ≡ 2 ^ (1 + k) - 2 ^ k = omega (arith, twice k) in
     ap (bitAnd x) e ∙ and-high x 1 k
@@ -51,7 +51,7 @@ mask-eq j k =
     let m : 2 ^ (1 + k) ≤ 2 ^ (j + (1 + k)) = pow-mono (le-add-left (1 + k) j) in
     rw (e, ← high-ones j (1 + k)) (omega (arith, twice k, pow-pos k, m))
 
-pub and-not-bit : (j k x : ℕ) → x < 2 ^ (j + (1 + k)) → bitAnd x (2 ^ (j + (1 + k)) - 1 - 2 ^ k) ≡ withBit x k false
+and-not-bit : (j k x : ℕ) → x < 2 ^ (j + (1 + k)) → bitAnd x (2 ^ (j + (1 + k)) - 1 - 2 ^ k) ≡ withBit x k false
 and-not-bit j k x h =
     let a = x / 2 ^ k in
     let r = x % 2 ^ k in
@@ -102,7 +102,7 @@ module _ (x k : ℕ) (v : Bool) where
   high-bit : (y m d : ℕ) → m ≡ k + (1 + d) → y / 2 ^ m ≡ y / 2 ^ k / 2 / 2 ^ d
   high-bit y m d e = ap (λ (n : ℕ). y / 2 ^ n) e ∙ sym (shr-shr y k (1 + d)) ∙ sym (shr-shr (y / 2 ^ k) 1 d)
 
-  pub bit-with-other : (m : ℕ) → (m < k) ⊎ (k < m) → bitOf (withBit x k v) m ≡ bitOf x m
+  bit-with-other : (m : ℕ) → (m < k) ⊎ (k < m) → bitOf (withBit x k v) m ≡ bitOf x m
   bit-with-other m o =
       ap (λ (n : ℕ). eqb n 1)
       (⊎-elim
@@ -118,7 +118,7 @@ module _ (x k : ℕ) (v : Bool) where
       o)
 
   -- a number of j + 1 + k bits stays one
-  pub with-lt : (j : ℕ) → x < 2 ^ (j + (1 + k)) → withBit x k v < 2 ^ (j + (1 + k))
+  with-lt : (j : ℕ) → x < 2 ^ (j + (1 + k)) → withBit x k v < 2 ^ (j + (1 + k))
   with-lt j h =
       let ha : x / 2 ^ k < 2 ^ (j + 1) = shr-lt (j + 1) k (rw (add-assoc j 1 k) h) in
       let e : 2 ^ (j + 1) ≡ 2 ^ j * 2 = pow-add 2 j 1 in
@@ -131,13 +131,6 @@ with-same x k =
     let e : x / 2 ^ k / 2 * 2 + x / 2 ^ k % 2 ≡ x / 2 ^ k = omega arith in
     ap (λ (n : ℕ). (x / 2 ^ k / 2 * 2 + n) * 2 ^ k + x % 2 ^ k) (digit-of (x / 2 ^ k % 2) (mod-lt (x / 2 ^ k) (lit< tt)))
     ∙ ap (λ (n : ℕ). n * 2 ^ k + x % 2 ^ k) e ∙ split x k
-
--- of two stores the last alone stands
-pub with-with : (x k : ℕ) (v w : Bool) → withBit (withBit x k v) k w ≡ withBit x k w
-with-with x k v w =
-    let q : (x / 2 ^ k / 2 * 2 + digit v) / 2 ≡ x / 2 ^ k / 2 = omega (arith, digit-lt v) in
-    ap₂ (λ (m n : ℕ). (m / 2 * 2 + digit w) * 2 ^ k + n) (with-high x k v) (low (x / 2 ^ k / 2 * 2 + digit v) k (mod-lt x (pow-pos k)))
-    ∙ ap (λ (m : ℕ). (m * 2 + digit w) * 2 ^ k + x % 2 ^ k) q
 
 -- a byte stays one
 pub with-byte : (x k : ℕ) (v : Bool) → k < 8 → x < 256 → withBit x k v < 256
@@ -163,62 +156,13 @@ clear-bit x k h l =
     let e : 7 - k + (1 + k) ≡ 8 = omega arith in
     subst (λ (n : ℕ). bitAnd x (2 ^ n - 1 - 2 ^ k) ≡ withBit x k false) e (and-not-bit (7 - k) k x (subst (λ (n : ℕ). x < 2 ^ n) (sym e) l))
 
--- ---- numbers by their bits
+-- ---- the order of two numbers
 
 tri : (a b : ℕ) → ((a < b) ⊎ (b < a)) ⊎ (a ≡ b)
 tri a b = ⊎-elim (λ l. inl (inl l)) (λ g. ⊎-elim (λ l. inl (inr l)) (λ l. inr (omega arith)) (lt-or-le b a)) (lt-or-le a b)
 
 apart : (a b : ℕ) → (a ≡ b → ⊥) → (a < b) ⊎ (b < a)
 apart a b ne = ⊎-elim (λ o. o) (λ e. absurd (ne e)) (tri a b)
-
--- numbers whose bits are the same are the same
-bits-ext : (n x y : ℕ) → x < 2 ^ n → y < 2 ^ n → ((k : ℕ) → bitOf x k ≡ bitOf y k) → x ≡ y
-bits-ext zero x y p q h = omega arith
-bits-ext (suc n) x y p q h =
-    let two : 2 ^ suc n ≡ 2 ^ n * 2 = pow-suc 2 n in
-    let e : x / 2 ≡ y / 2 = bits-ext n (x / 2) (y / 2) (omega (arith, two)) (omega (arith, two)) (λ k. half x k ∙ h (1 + k) ∙ sym (half y k)) in
-    let one : x / 1 % 2 ≡ y / 1 % 2 = sym (digit-of (x / 1 % 2) (mod-lt (x / 1) (lit< tt))) ∙ ap digit (h 0)
-    ∙ digit-of (y / 1 % 2) (mod-lt (y / 1) (lit< tt)) in
-    omega arith
-  where
-    half : (z k : ℕ) → bitOf (z / 2) k ≡ bitOf z (1 + k)
-    half z k = ap (λ (m : ℕ). eqb (m % 2) 1) (shr-shr z 1 k)
-
-lt-pow : (n : ℕ) → n < 2 ^ n
-lt-pow zero = lit< tt
-lt-pow (suc n) = rw (pow-suc 2 n) (omega (arith, lt-pow n))
-
-with-below : (x k : ℕ) (v : Bool) (n : ℕ) → k < n → x < 2 ^ n → withBit x k v < 2 ^ n
-with-below x k v n h l =
-    let e : n - suc k + (1 + k) ≡ n = omega arith in
-    subst (λ (m : ℕ). withBit x k v < 2 ^ m) e (with-lt x k v (n - suc k) (subst (λ (m : ℕ). x < 2 ^ m) (sym e) l))
-
--- stores of two different bits, in either order
-pub with-comm : (x k m : ℕ) (v w : Bool) → (k ≡ m → ⊥) → withBit (withBit x k v) m w ≡ withBit (withBit x m w) k v
-with-comm x k m v w ne =
-    let n = x + suc (k + m) in
-    let up : x ≤ x + suc (k + m) = omega arith in
-    let l : x < 2 ^ (x + suc (k + m)) = lt-of-lt-of-le (lt-pow x) (pow-mono up) in
-    bits-ext n (withBit (withBit x k v) m w) (withBit (withBit x m w) k v)
-    (with-below (withBit x k v) m w n (omega arith) (with-below x k v n (omega arith) l))
-    (with-below (withBit x m w) k v n (omega arith) (with-below x m w n (omega arith) l))
-    same
-  where
-    at-k : bitOf (withBit (withBit x k v) m w) k ≡ bitOf (withBit (withBit x m w) k v) k
-    at-k = bit-with-other (withBit x k v) m w k (apart k m ne) ∙ bit-with x k v ∙ sym (bit-with (withBit x m w) k v)
-
-    at-m : bitOf (withBit (withBit x k v) m w) m ≡ bitOf (withBit (withBit x m w) k v) m
-    at-m = bit-with (withBit x k v) m w ∙ sym (bit-with-other (withBit x m w) k v m (apart m k (λ e. ne (sym e))) ∙ bit-with x m w)
-
-    same : (i : ℕ) → bitOf (withBit (withBit x k v) m w) i ≡ bitOf (withBit (withBit x m w) k v) i
-    same i =
-        ⊎-elim
-        (λ om. ⊎-elim
-        (λ ok. bit-with-other (withBit x k v) m w i om ∙ bit-with-other x k v i ok ∙ sym (bit-with-other (withBit x m w) k v i ok ∙ bit-with-other x m w i om))
-        (λ e. subst (λ (j : ℕ). bitOf (withBit (withBit x k v) m w) j ≡ bitOf (withBit (withBit x m w) k v) j) (sym e) at-k)
-        (tri i k))
-        (λ e. subst (λ (j : ℕ). bitOf (withBit (withBit x k v) m w) j ≡ bitOf (withBit (withBit x m w) k v) j) (sym e) at-m)
-        (tri i m)
 
 -- ---- the bits of a bitmap
 
@@ -245,22 +189,6 @@ module _ (b : List ℕ) (at i : ℕ) (v : Bool) (fits : at + i / 8 < length b) w
           ∙ bit-with-other (getD b (at + i / 8) 0) (i % 8) v (j % 8) (apart (j % 8) (i % 8) (λ q. ne (omega arith)))
           ∙ ap (λ (n : ℕ). bitOf (getD b (at + n) 0) (j % 8)) (sym e)
 
-  -- of two stores the last alone counts
-  pub put-put : (w : Bool) → putBit (putBit b at i v) at i w ≡ putBit b at i w
-  put-put w =
-      ap (λ (n : ℕ). set (putBit b at i v) (at + i / 8) (withBit n (i % 8) w)) at-place
-      ∙ set-set b (at + i / 8) (withBit (getD b (at + i / 8) 0) (i % 8) v) (withBit (withBit (getD b (at + i / 8) 0) (i % 8) v) (i % 8) w)
-      ∙ ap (set b (at + i / 8)) (with-with (getD b (at + i / 8) 0) (i % 8) v w)
-
-  -- a store and a run that does not touch its byte, in either order
-  pub put-run : (p : ℕ) (u : List ℕ) → p + length u ≤ length b → (at + i / 8 < p) ⊎ (p + length u ≤ at + i / 8)
-      → putBit (sets b p u) at i v ≡ sets (putBit b at i v) p u
-  put-run p u h o =
-      let q = at + i / 8 in
-      let x = withBit (getD b q 0) (i % 8) v in
-      ap (λ (n : ℕ). set (sets b p u) q (withBit n (i % 8) v)) (⊎-elim (λ lo. getD-sets-lo b p u h q lo) (λ hi. getD-sets-hi b p u h q hi) o)
-      ∙ ⊎-elim (λ lo. sets-comm b q p (x ∷ []) u (omega arith)) (λ hi. sym (sets-comm b p q u (x ∷ []) hi)) o
-
 pub length-put : (b : List ℕ) (at i : ℕ) (v : Bool) → length (putBit b at i v) ≡ length b
 length-put b at i v = length-set b (at + i / 8) (withBit (getD b (at + i / 8) 0) (i % 8) v)
 
@@ -270,48 +198,10 @@ bytes-put {b} at i v h =
     let l : x < 256 = with-byte (getD b (at + i / 8) 0) (i % 8) v (mod-lt i (lit< tt)) (byte-at h (at + i / 8)) in
     bytes-sets {v = x ∷ []} (at + i / 8) h (byte l empty)
 
--- storing what is there alters nothing
-pub put-same : (b : List ℕ) (at i : ℕ) (v : Bool) → bit b at i ≡ v → putBit b at i v ≡ b
-put-same b at i v e =
-    ap (λ (w : Bool). putBit b at i w) (sym e) ∙ ap (set b (at + i / 8)) (with-same (getD b (at + i / 8) 0) (i % 8)) ∙ set-getD b (at + i / 8) 0
-
--- two different bits, in either order
-pub put-comm : (b : List ℕ) (at i j : ℕ) (v w : Bool) → (i ≡ j → ⊥) → at + i / 8 < length b → putBit (putBit b at i v) at j w ≡ putBit (putBit b at j w) at i v
-put-comm b at i j v w ne hi =
-    ⊎-elim (λ o. far (λ e. ⊎-elim (λ l. omega arith) (λ l. omega arith) o)) near (tri (i / 8) (j / 8))
-  where
-    far : (i / 8 ≡ j / 8 → ⊥) → putBit (putBit b at i v) at j w ≡ putBit (putBit b at j w) at i v
-    far f =
-        let p = at + i / 8 in
-        let q = at + j / 8 in
-        let x = withBit (getD b p 0) (i % 8) v in
-        let y = withBit (getD b q 0) (j % 8) w in
-        ap (λ (n : ℕ). set (set b p x) q (withBit n (j % 8) w)) (getD-set-other b p q x 0 (λ e. f (omega arith)))
-        ∙ set-comm b p q x y (λ e. f (omega arith))
-        ∙ sym (ap (λ (n : ℕ). set (set b q y) p (withBit n (i % 8) v)) (getD-set-other b q p y 0 (λ e. f (omega arith))))
-
-    near : i / 8 ≡ j / 8 → putBit (putBit b at i v) at j w ≡ putBit (putBit b at j w) at i v
-    near e =
-        let p = at + i / 8 in
-        let g = getD b p 0 in
-        let x = withBit g (i % 8) v in
-        let y = withBit g (j % 8) w in
-        ap (λ (n : ℕ). set (set b p x) (at + n) (withBit (getD (set b p x) (at + n) 0) (j % 8) w)) (sym e)
-        ∙ ap (λ (n : ℕ). set (set b p x) p (withBit n (j % 8) w)) (getD-set-same b p x 0 hi)
-        ∙ set-set b p x (withBit x (j % 8) w)
-        ∙ ap (set b p) (with-comm g (i % 8) (j % 8) v w (λ q. ne (omega arith)))
-        ∙ sym (ap (λ (n : ℕ). putBit (set b (at + n) (withBit (getD b (at + n) 0) (j % 8) w)) at i v) (sym e)
-        ∙ ap (λ (n : ℕ). set (set b p y) p (withBit n (i % 8) v)) (getD-set-same b p y 0 hi)
-        ∙ set-set b p y (withBit y (i % 8) v))
-
 -- a run elsewhere leaves a bit as it was
 pub bit-run : (b : List ℕ) (p : ℕ) (u : List ℕ) (at i : ℕ) → p + length u ≤ length b → (at + i / 8 < p) ⊎ (p + length u ≤ at + i / 8)
     → bit (sets b p u) at i ≡ bit b at i
 bit-run b p u at i h o = ap (λ (x : ℕ). bitOf x (i % 8)) (⊎-elim (λ lo. getD-sets-lo b p u h (at + i / 8) lo) (λ hi. getD-sets-hi b p u h (at + i / 8) hi) o)
-
--- a bitmap taken out of the run that holds it has the same bits
-pub bit-part : (b : List ℕ) (at n i : ℕ) → i / 8 < n → bit (part b at n) 0 i ≡ bit b at i
-bit-part b at n i h = ap (λ (x : ℕ). bitOf x (i % 8)) (ap (λ (k : ℕ). getD (part b at n) k 0) (zero-add (i / 8)) ∙ getD-part b at n (i / 8) h)
 
 -- ---- a bitmap as a number
 
@@ -342,7 +232,7 @@ bit-step d ds i (no h) b f =
     rw (q, r, p, ← (div-div-eq-div-mul (d + 256 * num ds) 256 (2 ^ (i - 8))), z) (f (omega arith))
 
 -- bit i of the number is bit i % 8 of byte i / 8
-pub bit-at : {b : List ℕ} (i : ℕ) → Bytes b → num b / 2 ^ i % 2 ≡ getD b (i / 8) 0 / 2 ^ (i % 8) % 2
+bit-at : {b : List ℕ} (i : ℕ) → Bytes b → num b / 2 ^ i % 2 ≡ getD b (i / 8) 0 / 2 ^ (i % 8) % 2
 unfolding num
 bit-at i empty = rw (zero-div (2 ^ i), zero-div (2 ^ (i % 8)))
 bit-at i (byte {d} {ds} p h) = bit-step d ds i (decLt i 8) p (λ k. bit-at (i - 8) h)

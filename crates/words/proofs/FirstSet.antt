@@ -8,7 +8,7 @@ use native.Mathlib.Numerals.{add-one}
 use native.Mathlib.Decide.{decLt}
 use lib.Pow.{pow-mono}
 use lib.Dec.{ltb}
-use lib.ListN.{length, take, drop, getD, length-drop}
+use lib.ListN.{length, drop, getD, length-drop}
 use lib.Seq.{drop-drop, drop-cons}
 use borrow.Author.Tests.{lt-ltb}
 use Rattle.words.specs.Bytes.{Bytes, num, part, bitmap, zerosAhead, highBits, pastByte}

@@ -1,15 +1,14 @@
 -- Little-endian numbers over the width: sums of parts, bytes of a joined number. Assumes nothing.
-use mathlib.Core.Path.{_≡_, refl, sym, ap, ap₂, _∙_}
+use mathlib.Core.Path.{_≡_, refl, sym, ap, _∙_}
 use mathlib.Core.List.{List, [], _∷_, _++_}
 use Prim.Native.Nat.{ℕ, zero, suc, _+_, _*_, _/_, _%_, _^_, _≤_, _<_}
-use native.Mathlib.Nat.{pow-suc, mul-comm, mul-assoc, one-le-pow, div-div-eq-div-mul, div-eq-of-lt, mod-eq-of-lt}
+use native.Mathlib.Nat.{pow-suc, mul-comm, mul-assoc, div-div-eq-div-mul, div-eq-of-lt}
 use native.Mathlib.Omega.{arith}
-use lib.Dec.{lit<}
 use lib.ListN.{length, getD}
-use lib.Arith.{digits-div, digits-mod, mod-mul}
+use lib.Arith.{digits-div, digits-mod}
 use lib.Pow.{pow-add}
 use Rattle.words.specs.Bytes.{Bytes, le, num, part, zeros}
-use Rattle.words.proofs.Numbers.{num-lt, length-le, bytes-le, le-num}
+use Rattle.words.proofs.Numbers.{num-lt}
 use Rattle.words.proofs.Parts.{length-part, bytes-part, part-add, part-cons}
 
 pub pow256 : (k : ℕ) → 256 ^ k ≡ 2 ^ (8 * k)
@@ -20,7 +19,7 @@ pow256 (suc k) =
 
 -- ---- the number of bytes side by side
 
-pub num-append : (a b : List ℕ) → num (a ++ b) ≡ num a + 256 ^ length a * num b
+num-append : (a b : List ℕ) → num (a ++ b) ≡ num a + 256 ^ length a * num b
 unfolding num
 num-append [] b = omega arith
 num-append (x ∷ a) b =
@@ -47,25 +46,8 @@ num-low {b} at j k h f = rw (num-part b at j k f) (digits-mod (num (part b (at +
 
 -- ---- the bytes of a number
 
--- back and there: what w bytes hold of a number
-pub num-le-mod : (w x : ℕ) → num (le w x) ≡ x % 256 ^ w
-unfolding le num
-num-le-mod zero x = omega arith
-num-le-mod (suc w) x =
-    let e : x % (256 ^ w * 256) ≡ (x / 256 % 256 ^ w) * 256 + x % 256 = mod-mul x (one-le-pow w 256 (lit< tt)) (lit< tt) in
-    rw (num-le-mod w (x / 256), pow-suc, e) (omega arith)
-
--- two numbers that the same bytes give are one
-pub le-inj : (w x y : ℕ) → x < 256 ^ w → y < 256 ^ w → le w x ≡ le w y → x ≡ y
-le-inj w x y p q e = sym (num-le-mod w x ∙ mod-eq-of-lt p) ∙ ap num e ∙ num-le-mod w y ∙ mod-eq-of-lt q
-
--- the low bytes see only what they hold
-pub le-mod : (w x : ℕ) → le w (x % 256 ^ w) ≡ le w x
-le-mod w x =
-    ap (le w) (sym (num-le-mod w x)) ∙ ap (λ (j : ℕ). le j (num (le w x))) (sym (length-le w x)) ∙ le-num (bytes-le w x)
-
 -- the first j of j + k bytes, and the k above them
-pub le-add : (j k x : ℕ) → le (j + k) x ≡ le j x ++ le k (x / 256 ^ j)
+le-add : (j k x : ℕ) → le (j + k) x ≡ le j x ++ le k (x / 256 ^ j)
 unfolding le
 le-add zero k x =
     let e : 0 + k ≡ k = omega arith in
@@ -85,16 +67,6 @@ pub le-snoc : (w x : ℕ) → le (suc w) x ≡ le w x ++ (x / 256 ^ w % 256 ∷ 
 le-snoc w x =
     let e : suc w ≡ w + 1 = omega arith in
     ap (λ (n : ℕ). le n x) e ∙ le-add w 1 x ∙ ap (λ (t : List ℕ). le w x ++ t) (le-one (x / 256 ^ w))
-
--- a number in two parts: its low bytes, then its high ones
-pub le-join : (j k hi lo : ℕ) → lo < 256 ^ j → le (j + k) (hi * 256 ^ j + lo) ≡ le j lo ++ le k hi
-le-join j k hi lo h =
-    le-add j k (hi * 256 ^ j + lo)
-    ∙ ap₂ (λ (a b : List ℕ). a ++ b) (sym (le-mod j (hi * 256 ^ j + lo)) ∙ ap (le j) (digits-mod hi h)) (ap (le k) (digits-div hi h))
-
--- a slot is its size, then its offset
-pub le-slot : (off size : ℕ) → size < 2 ^ 32 → le 8 (off * 2 ^ 32 + size) ≡ le 4 size ++ le 4 off
-le-slot off size h = le-join 4 4 off size h
 
 pub le-zero : (w : ℕ) → le w 0 ≡ zeros w
 unfolding le

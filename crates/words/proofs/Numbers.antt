@@ -1,12 +1,13 @@
 -- Little-endian numbers and bytes: each is the other's inverse. Assumes nothing.
-use mathlib.Core.Path.{_≡_, refl, sym, ap, _∙_}
-use mathlib.Core.List.{List, [], _∷_, _++_, append-assoc}
+use mathlib.Core.Path.{_≡_, refl, ap}
+use mathlib.Core.List.{List, [], _∷_, _++_}
 use Prim.Native.Nat.{ℕ, zero, suc, _+_, _-_, _*_, _/_, _%_, _^_, _≤_, _<_}
 use native.Mathlib.Nat.{pow-succ'}
 use native.Mathlib.Omega.{arith}
 use mir.Val.{Fits}
 use mir.Syntax.{w8}
 use lib.ListN.{length, getD, take, drop, length-append, length-replicate, take-append-drop}
+use lib.Seq.{take-append-seam}
 use Rattle.words.specs.Bytes.{Bytes, empty, byte, le, num, zeros, fill, pad, padded}
 
 -- ---- bytes
@@ -15,7 +16,7 @@ pub bytes-append : {xs ys : List ℕ} → Bytes xs → Bytes ys → Bytes (xs ++
 bytes-append empty k = k
 bytes-append (byte d h) k = byte d (bytes-append h k)
 
-pub bytes-split : (xs ys : List ℕ) → Bytes (xs ++ ys) → Bytes xs × Bytes ys
+bytes-split : (xs ys : List ℕ) → Bytes (xs ++ ys) → Bytes xs × Bytes ys
 bytes-split [] ys h = (empty, h)
 bytes-split (x ∷ xs) ys (byte d h) = let r = bytes-split xs ys h in (byte d (r .0), r .1)
 
@@ -84,7 +85,7 @@ unfolding num
 num-zeros zero = refl
 num-zeros (suc n) = rw (num-zeros n)
 
-pub zeros-num : (z : List ℕ) → num z ≡ 0 → z ≡ zeros (length z)
+zeros-num : (z : List ℕ) → num z ≡ 0 → z ≡ zeros (length z)
 unfolding num
 zeros-num [] h = refl
 zeros-num (d ∷ ds) h =
@@ -95,6 +96,10 @@ zeros-num (d ∷ ds) h =
 pub length-fill : (w : ℕ) (u : List ℕ) → length u ≤ w → length (fill w u) ≡ w
 unfolding fill
 length-fill w u h = rw (length-append, length-replicate) (omega arith)
+
+pub take-filled : (w : ℕ) (u : List ℕ) → take (length u) (fill w u) ≡ u
+unfolding fill
+take-filled w u = take-append-seam u _
 
 pub length-padded : (u : List ℕ) → length (padded u) ≡ pad (length u)
 length-padded u = length-fill (pad (length u)) u (omega arith)

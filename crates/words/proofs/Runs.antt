@@ -8,9 +8,9 @@ use native.Mathlib.Nat.{add-zero, add-suc, suc-add, zero-add, not-suc-le-zero}
 use native.Mathlib.Omega.{arith}
 use lib.ListN.{length, take, drop, getD, set, length-append, length-set, length-take, take-append-drop, List·getD-append}
 use lib.Seq.{sets, sets-eq, length-sets, set-comm, set-set, set-append-left, drop-at, drop-length, take-add, ext-getD, length-take-le, getD-append-add}
-use lib.Seq.{getD-take, getD-drop}
+use lib.Seq.{getD-drop, getD-set-other}
 use Rattle.words.specs.Bytes.{Bytes, empty, byte, part}
-use Rattle.words.proofs.Parts.{around, length-part, getD-part, part-part}
+use Rattle.words.proofs.Parts.{around, length-part, getD-part}
 
 -- ---- runs in one list: these hold in range or not
 
@@ -42,7 +42,7 @@ sets-comm l i j (a ∷ us) vs h =
     ap (λ (x : List ℕ). sets x (suc i) us) (set-past l i j a vs p) ∙ sets-comm (set l i a) (suc i) j us vs q
 
 -- a run over the front of a run
-pub sets-front : (l : List ℕ) (p : ℕ) (us vs : List ℕ) → length vs ≤ length us → sets (sets l p us) p vs ≡ sets l p (vs ++ drop (length vs) us)
+sets-front : (l : List ℕ) (p : ℕ) (us vs : List ℕ) → length vs ≤ length us → sets (sets l p us) p vs ≡ sets l p (vs ++ drop (length vs) us)
 sets-front l p us [] h = refl
 sets-front l p [] (b ∷ vs) h = absurd (not-suc-le-zero h)
 sets-front l p (a ∷ us) (b ∷ vs) h =
@@ -55,6 +55,11 @@ sets-last l p us vs e =
     sets-front l p us vs (omega arith)
     ∙ ap (λ (t : List ℕ). sets l p (vs ++ t)) (ap (λ (k : ℕ). drop k us) (sym e) ∙ drop-length us)
     ∙ ap (sets l p) (append-nil vs)
+
+-- what stands before a run
+pub sets-low : (l : List ℕ) (q : ℕ) (vs : List ℕ) (p : ℕ) → p < q → getD (sets l q vs) p 0 ≡ getD l p 0
+sets-low l q [] p h = refl
+sets-low l q (v ∷ vs) p h = sets-low (set l q v) (suc q) vs p (omega arith) ∙ getD-set-other l q p v 0 (λ e. omega arith)
 
 bytes-set : {b : List ℕ} (i : ℕ) {a : ℕ} → Bytes b → a < 256 → Bytes (set b i a)
 bytes-set i empty p = empty
@@ -93,11 +98,7 @@ module _ (b : List ℕ) (at : ℕ) (v : List ℕ) (fits : at + length v ≤ leng
   head-long = simp (length-append, length-take) (omega arith)
 
   pub getD-sets-lo : (i : ℕ) → i < at → getD (sets b at v) i 0 ≡ getD b i 0
-  getD-sets-lo i h =
-      ap (λ (l : List ℕ). getD l i 0) (sets-eq v b at fits)
-      ∙ List·getD-append (take at b ++ v) (drop (at + length v) b) 0 i (rw head-long (omega arith))
-      ∙ List·getD-append (take at b) v 0 i (simp length-take (omega arith))
-      ∙ getD-take at b i 0 h
+  getD-sets-lo = sets-low b at v
 
   pub getD-sets-in : (j : ℕ) → j < length v → getD (sets b at v) (at + j) 0 ≡ getD v j 0
   getD-sets-in j h =
@@ -134,10 +135,6 @@ module _ (b : List ℕ) (at : ℕ) (v : List ℕ) (fits : at + length v ≤ leng
       ∙ ⊎-elim (λ p. getD-sets-lo (from + i) (omega arith)) (λ p. getD-sets-hi (from + i) (omega arith)) o
       ∙ sym (getD-part b from k i l′))
 
-  -- and so does a part of what is set
-  pub part-within : (off k : ℕ) → off + k ≤ length v → part (sets b at v) (at + off) k ≡ part v off k
-  part-within off k h = sym (part-part (sets b at v) at (length v) off k h) ∙ ap (λ (l : List ℕ). part l off k) part-sets
-
 -- setting what is there alters nothing
 pub sets-same : (b : List ℕ) (at k : ℕ) → at + k ≤ length b → sets b at (part b at k) ≡ b
 sets-same b at k h =
@@ -169,14 +166,14 @@ module _ (b : List ℕ) (at n off : ℕ) (v : List ℕ) (h : at + n ≤ length b
       (around i off (length v))
 
   -- a part around the place has it set at the difference of the offsets
-  pub part-sets-in : part (sets b (at + off) v) at n ≡ sets (part b at n) off v
+  part-sets-in : part (sets b (at + off) v) at n ≡ sets (part b at n) off v
   part-sets-in =
       let same : length (part (sets b (at + off) v) at n) ≡ n = length-part (sets b (at + off) v) at n (rw length-sets h) in
       ext-getD 0 (part (sets b (at + off) v) at n) (sets (part b at n) off v) (same ∙ sym long)
       (λ i l. let l′ : i < n = omega (arith, same) in getD-part (sets b (at + off) v) at n i l′ ∙ at-each i l′)
 
 -- two lists that differ in a place alone: that place of the one set in the other gives the one
-pub sets-agree : (b r : List ℕ) (at n : ℕ) → length b ≡ length r → at + n ≤ length b → ((i : ℕ) → (i < at) ⊎ (at + n ≤ i) → getD b i 0 ≡ getD r i 0)
+sets-agree : (b r : List ℕ) (at n : ℕ) → length b ≡ length r → at + n ≤ length b → ((i : ℕ) → (i < at) ⊎ (at + n ≤ i) → getD b i 0 ≡ getD r i 0)
     → sets b at (part r at n) ≡ r
 sets-agree b r at n e h same =
     let long : length (part r at n) ≡ n = length-part r at n (omega arith) in

@@ -1,6 +1,6 @@
 -- Two's complement over half its range, and the signed operations that the code makes. Assumes nothing.
 use mathlib.Core.Path.{_≡_, refl, sym, ap, _∙_, subst}
-use mathlib.Core.Bool.{Bool, true, false, cond}
+use mathlib.Core.Bool.{Bool, true, false, cond, true≢false}
 use Prim.Native.Nat.{ℕ, zero, suc, _+_, _-_, _*_, _^_, _≤_, _<_}
 use native.Mathlib.Nat.{zero-add}
 use native.Mathlib.Omega.{arith}
@@ -21,22 +21,19 @@ use Rattle.words.proofs.Parts.{lt-or-le}
 use Rattle.words.proofs.NumLaws.{pow256}
 use mathlib.Core.Logic.{⊎-elim}
 
-no-clash : true ≡ false → ⊥
-no-clash q = let n : _≡_ {A = ℕ} 0 1 = cc in omega arith
-
 -- ---- the machine's operations
 
 pub not-neg : (z : ℤ) → leZ (pos 0) z ≡ true → T (nonNeg z)
 not-neg (pos n) e = tt
-not-neg (negsuc n) e = absurd (no-clash (sym e))
+not-neg (negsuc n) e = absurd (true≢false (sym e))
 
 pub abs-mag : (z : ℤ) → leZ (pos 0) z ≡ true → natAbs z ≡ mag z
 abs-mag (pos n) e = refl
-abs-mag (negsuc n) e = absurd (no-clash (sym e))
+abs-mag (negsuc n) e = absurd (true≢false (sym e))
 
 -- -1 - z, of a negative z
 pub minus-one : (z : ℤ) → leZ (pos 0) z ≡ false → negsuc 0 -ℤ z ≡ pos (mag z)
-minus-one (pos n) e = absurd (no-clash (sym (leb·zero n) ∙ e))
+minus-one (pos n) e = absurd (true≢false (sym (leb·zero n) ∙ e))
 minus-one (negsuc n) e =
     let p : suc n - 1 ≡ n = omega arith in
     rw (le-ltb (suc n) 1 (omega arith), p)
@@ -52,13 +49,13 @@ below-zero (negsuc n) = refl
 
 -- ---- bits and numbers, h half the range
 
-pub of-to : (h n : ℕ) → n < h + h → ofSigned h (toSigned h n) ≡ n
+of-to : (h n : ℕ) → n < h + h → ofSigned h (toSigned h n) ≡ n
 of-to h n l =
     ⊎-elim (λ (p : n < h). ap (λ (b : Bool). ofSigned h (cond b (pos n) (negsuc (h + h - suc n)))) (lt-ltb n h p))
     (λ (p : h ≤ n). ap (λ (b : Bool). ofSigned h (cond b (pos n) (negsuc (h + h - suc n)))) (le-ltb n h p) ∙ omega arith)
     (lt-or-le n h)
 
-pub to-of : (h : ℕ) (z : ℤ) → mag z < h → toSigned h (ofSigned h z) ≡ z
+to-of : (h : ℕ) (z : ℤ) → mag z < h → toSigned h (ofSigned h z) ≡ z
 to-of h (pos n) l = rw (lt-ltb n h l)
 to-of h (negsuc n) l =
     let p : h ≤ h + h - suc n = omega arith in
@@ -77,7 +74,7 @@ toSigned-mag h n l =
     (lt-or-le n h)
 
 -- half the range, of k bytes
-pub half-twice : (k : ℕ) → 0 < k → halfOf k + halfOf k ≡ 2 ^ (8 * k)
+half-twice : (k : ℕ) → 0 < k → halfOf k + halfOf k ≡ 2 ^ (8 * k)
 half-twice k p =
     let e : 8 * k ≡ 1 + (8 * k - 1) = omega arith in
     sym (ap (λ (n : ℕ). 2 ^ n) e ∙ pow-add 2 1 (8 * k - 1) ∙ omega arith)
@@ -99,10 +96,10 @@ passed z y e l = ap (λ (u : ℤ). toZ w64 (ofZ w64 u)) e ∙ toZ-ofZ w64 y (rec
 
 pub of-low : (h : ℕ) (z : ℤ) → isNegative z ≡ false → mag z ≡ ofSigned h z
 of-low h (pos n) e = refl
-of-low h (negsuc n) e = absurd (no-clash e)
+of-low h (negsuc n) e = absurd (true≢false e)
 
 pub of-high : (h : ℕ) (z : ℤ) → isNegative z ≡ true → mag z < h → h + (h - 1 - mag z) ≡ ofSigned h z
-of-high h (pos n) e l = absurd (no-clash (sym e))
+of-high h (pos n) e l = absurd (true≢false (sym e))
 of-high h (negsuc n) e l = omega arith
 
 -- k bytes hold the bits of the width

@@ -9,7 +9,7 @@ ghost use Rattle.words.specs.Bits.{bit, putBit};
 use crate::nums::get8;
 
 // The mask of bit i in its byte.
-pub fn mask(i: usize) -> u8
+fn mask(i: usize) -> u8
     ensures { λ r. ⌜ r ≡ 2 ^ (i % 8) ⌝ }
 {
     1 << (i & 7)

@@ -20,7 +20,7 @@ pub fn magnitude(x: i64) -> u64
     if x >= 0 { x as u64 } else { (-1 - x) as u64 }
 }
 
-pub fn of_magnitude(neg: bool, m: u64) -> i64
+fn of_magnitude(neg: bool, m: u64) -> i64
     requires { ⌜ m < 2 ^ 63 ⌝ }
     ensures { λ r. ⌜ r ≡ ofMagnitude neg m ⌝ }
 {
@@ -28,7 +28,7 @@ pub fn of_magnitude(neg: bool, m: u64) -> i64
 }
 
 // Half the range of k bytes.
-pub fn half(k: usize) -> u64
+fn half(k: usize) -> u64
     requires { ⌜ (0 < k) × (k ≤ 8) ⌝ }
     ensures { λ r. ⌜ r ≡ halfOf k ⌝ }
 {

@@ -1,2 +1,2 @@
 -- The laws that the proofs of `writing` cite.
-pub mod Whole
+mod Whole

@@ -6,7 +6,7 @@ use mathlib.Core.List.{List, _++_}
 use Prim.Native.Nat.{ℕ, _+_, _≤_, _<_}
 use native.Mathlib.Omega.{arith}
 use lib.ListN.{length, take, drop}
-use lib.Seq.{sets, sets-eq}
+use lib.Seq.{sets-eq}
 use borrow.Author.Tests.{le-leb, lt-leb}
 use Rattle.schema.specs.Types.{ro}
 use Rattle.schema.specs.Reading.{judged}

@@ -5,12 +5,6 @@ use borrow.Author.Needs.{needs}
 use Rattle.batch.proofs.check_in.Statement.{statement}
 use Rattle.batch.proofs.check_in.Tie as tie
 
-build-requires : tie.Need-build-requires
-build-requires c κs = search needs
-
-same-length : tie.Need-same-length
-same-length c = search needs
-
 returns : tie.Need-returns
 returns c = check-no _ _ (none (c .before .before .before .build .ensures) (c .if1 .taken))
 
@@ -23,9 +17,6 @@ slice-aggregate-check-rows c = got (c .before .before .before .before .build .en
 check-rows-requires : tie.Need-check-rows-requires
 check-rows-requires c κs = got (c .before .before .before .before .build .ensures) (c .before .if1 .left) .table
 
-same-length-2 : tie.Need-same-length-2
-same-length-2 c = search needs
-
 returns-2 : tie.Need-returns-2
 returns-2 c = check-by (got (c .before .before .before .before .before .build .ensures) (c .before .before .if1 .left)) _ (c .check-rows .ensures)
 
@@ -33,11 +24,11 @@ pub check-in-spec : {M : Type 1} → statement M
 check-in-spec =
     tie.close
     (tie.spec
-    build-requires
-    same-length
+    (λ c κs. search needs)
+    (λ c. search needs)
     returns
     slice-reshare-prefix-check-rows
     slice-aggregate-check-rows
     check-rows-requires
-    same-length-2
+    (λ c. search needs)
     returns-2)

@@ -7,8 +7,5 @@ use Rattle.batch.proofs.count.Tie as tie
 count-on-requires : tie.Need-count-on-requires
 count-on-requires c κs = passed-start (c .before .args .batch .now)
 
-returns : tie.Need-returns
-returns c = search needs
-
 pub count-spec : {M : Type 1} → statement M
-count-spec = tie.close (tie.spec count-on-requires returns)
+count-spec = tie.close (tie.spec count-on-requires (λ c. search needs))

@@ -8,23 +8,8 @@ use borrow.Author.Needs.{needs}
 use Rattle.batch.proofs.fetch.Statement.{statement}
 use Rattle.batch.proofs.fetch.Tie as tie
 
-find-requires : tie.Need-find-requires
-find-requires c κs = search needs
-
 enum-told : tie.Need-enum-told
 enum-told c = search needs
-
-after-schema-requires : tie.Need-after-schema-requires
-after-schema-requires c κs = search needs
-
-enum-told-2 : tie.Need-enum-told-2
-enum-told-2 c = search needs
-
-after-schema-requires-2 : tie.Need-after-schema-requires-2
-after-schema-requires-2 c κs = search needs
-
-enum-known-start : tie.Need-enum-known-start
-enum-known-start c = search needs
 
 sub-check : tie.Need-sub-check
 sub-check c = let r = found-at (c .before .start .given .1) (c .before .before .before .find .ensures) in omega (arith, r .low)
@@ -35,19 +20,10 @@ part-check-start c = let r = found-at (c .before .start .given .1) (c .before .b
 part-check-end : tie.Need-part-check-end
 part-check-end c = let r = found-at (c .before .start .given .1) (c .before .before .before .find .ensures) in omega (arith, r .low, r .high)
 
-check-requires : tie.Need-check-requires
-check-requires c κs = search needs
-
-enum-told-3 : tie.Need-enum-told-3
-enum-told-3 c = search needs
-
 sub-t19 : tie.Need-sub-t19
 sub-t19 c =
     let r = found-at (c .before .before .before .before .before .start .given .1) (c .before .before .before .before .before .before .before .find .ensures) in
     omega (arith, r .low)
-
-enum-known-r : tie.Need-enum-known-r
-enum-known-r c = search needs
 
 returns : tie.Need-returns
 returns c = fetch-none (no-row-broken (found-broken (c .before .enum-told .given .1) (c .before .before .before .find .ensures)) (c .after-schema .ensures))
@@ -70,19 +46,19 @@ pub fetch-spec : {M : Type 1} → statement M
 fetch-spec =
     tie.close
     (tie.spec
-    find-requires
+    (λ c κs. search needs)
     enum-told
-    after-schema-requires
-    enum-told-2
-    after-schema-requires-2
-    enum-known-start
+    (λ c κs. search needs)
+    (λ c. search needs)
+    (λ c κs. search needs)
+    (λ c. search needs)
     sub-check
     part-check-start
     part-check-end
-    check-requires
-    enum-told-3
+    (λ c κs. search needs)
+    (λ c. search needs)
     sub-t19
-    enum-known-r
+    (λ c. search needs)
     returns
     returns-2
     returns-3

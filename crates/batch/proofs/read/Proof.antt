@@ -6,23 +6,8 @@ use borrow.Author.Needs.{needs}
 use Rattle.batch.proofs.read.Statement.{statement}
 use Rattle.batch.proofs.read.Tie as tie
 
-find-requires : tie.Need-find-requires
-find-requires c κs = search needs
-
 enum-told : tie.Need-enum-told
 enum-told c = search needs
-
-after-schema-requires : tie.Need-after-schema-requires
-after-schema-requires c κs = search needs
-
-enum-told-2 : tie.Need-enum-told-2
-enum-told-2 c = search needs
-
-after-schema-requires-2 : tie.Need-after-schema-requires-2
-after-schema-requires-2 c κs = search needs
-
-enum-known-start : tie.Need-enum-known-start
-enum-known-start c = search needs
 
 sub-read : tie.Need-sub-read
 sub-read c = let r = found-at (c .before .start .given .1) (c .before .before .before .find .ensures) in omega (arith, r .low)
@@ -32,9 +17,6 @@ part-read-start c = let r = found-at (c .before .start .given .1) (c .before .be
 
 part-read-end : tie.Need-part-read-end
 part-read-end c = let r = found-at (c .before .start .given .1) (c .before .before .before .find .ensures) in omega (arith, r .low, r .high)
-
-read-requires : tie.Need-read-requires
-read-requires c κs = search needs
 
 returns : tie.Need-returns
 returns c = read-none _ (no-row-broken (found-broken (c .before .enum-told .given .1) (c .before .before .before .find .ensures)) (c .after-schema .ensures))
@@ -50,16 +32,16 @@ pub read-spec : {M : Type 1} → statement M
 read-spec =
     tie.close
     (tie.spec
-    find-requires
+    (λ c κs. search needs)
     enum-told
-    after-schema-requires
-    enum-told-2
-    after-schema-requires-2
-    enum-known-start
+    (λ c κs. search needs)
+    (λ c. search needs)
+    (λ c κs. search needs)
+    (λ c. search needs)
     sub-read
     part-read-start
     part-read-end
-    read-requires
+    (λ c κs. search needs)
     returns
     returns-2
     returns-3)

@@ -8,14 +8,8 @@ use Rattle.batch.proofs.refuse_row.Tie as tie
 add-count-on : tie.Need-add-count-on
 add-count-on c = omega (arith, passed-few (c .before .pre), c .before .pre .high)
 
-count-on-requires : tie.Need-count-on-requires
-count-on-requires c κs = search needs
-
 enum-told : tie.Need-enum-told
 enum-told c = search needs
-
-enum-told-2 : tie.Need-enum-told-2
-enum-told-2 c = search needs
 
 returns : tie.Need-returns
 returns c = let w = count-whole (c .enum-told .given .1) (c .before .before .count-on .ensures) in rw (w .is)
@@ -24,4 +18,4 @@ returns-2 : tie.Need-returns-2
 returns-2 c = let w = count-none (c .enum-told2 .given .1) (c .before .before .count-on .ensures) in rw (w .is)
 
 pub refuse-row-spec : {M : Type 1} → statement M
-refuse-row-spec = tie.close (tie.spec add-count-on count-on-requires enum-told enum-told-2 returns returns-2)
+refuse-row-spec = tie.close (tie.spec add-count-on (λ c κs. search needs) enum-told (λ c. search needs) returns returns-2)

@@ -1,6 +1,7 @@
 -- `checking::check_row` meets its contract. Assumes nothing.
 use borrow.Author.Needs.{needs}
-use Rattle.checking.proofs.Root.{root-stands, root-fields, root-none, root-slot, root-byte}
+use Rattle.table.proofs.Places.{root-stands}
+use Rattle.checking.proofs.Root.{root-fields, root-none, root-slot, root-byte}
 use Rattle.checking.proofs.check_row.Statement.{statement}
 use Rattle.checking.proofs.check_row.Tie as tie
 

@@ -6,9 +6,6 @@ use borrow.Author.Needs.{needs}
 use Rattle.lent.proofs.check_by.Statement.{statement}
 use Rattle.lent.proofs.check_by.Tie as tie
 
-gives-requires : tie.Need-gives-requires
-gives-requires c κs = search needs
-
 returns : tie.Need-returns
 returns c = let g = c .before .gives in check-no _ (not-owned _ _ (g .result) (g .ensures) (c .if1 .taken)) _
 
@@ -21,4 +18,4 @@ returns-2 c =
     check-own (owned _ _ (g .result) (g .ensures) (c .before .if1 .left)) _ (c .check .ensures)
 
 pub check-by-spec : {M : Type 1} → statement M
-check-by-spec = tie.close (tie.spec gives-requires returns check-requires returns-2)
+check-by-spec = tie.close (tie.spec (λ c κs. search needs) returns check-requires returns-2)

@@ -5,9 +5,6 @@ use borrow.Author.Needs.{needs}
 use Rattle.lent.proofs.judge_by.Statement.{statement}
 use Rattle.lent.proofs.judge_by.Tie as tie
 
-gives-requires : tie.Need-gives-requires
-gives-requires c κs = search needs
-
 returns : tie.Need-returns
 returns c = let g = c .before .gives in judge-no _ (not-owned _ _ (g .result) (g .ensures) (c .if1 .taken))
 
@@ -15,4 +12,4 @@ returns-2 : tie.Need-returns-2
 returns-2 c = let g = c .before .gives in judge-own (owned _ _ (g .result) (g .ensures) (c .if1 .left))
 
 pub judge-by-spec : {M : Type 1} → statement M
-judge-by-spec = tie.close (tie.spec gives-requires returns returns-2)
+judge-by-spec = tie.close (tie.spec (λ c κs. search needs) returns returns-2)

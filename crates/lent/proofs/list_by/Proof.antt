@@ -6,17 +6,11 @@ use borrow.Author.Needs.{needs}
 use Rattle.lent.proofs.list_by.Statement.{statement}
 use Rattle.lent.proofs.list_by.Tie as tie
 
-gives-requires : tie.Need-gives-requires
-gives-requires c κs = search needs
-
 returns : tie.Need-returns
 returns c = let g = c .before .gives in list-no _ (not-owned _ _ (g .result) (g .ensures) (c .if1 .taken)) _ _
 
 list-requires : tie.Need-list-requires
 list-requires c κs = let g = c .before .before .gives in own-table (owned _ _ (g .result) (g .ensures) (c .before .if1 .left))
-
-same-length : tie.Need-same-length
-same-length c = search needs
 
 returns-2 : tie.Need-returns-2
 returns-2 c =
@@ -25,4 +19,4 @@ returns-2 c =
     (c .before .before .list .ensures)
 
 pub list-by-spec : {M : Type 1} → statement M
-list-by-spec = tie.close (tie.spec gives-requires returns list-requires same-length returns-2)
+list-by-spec = tie.close (tie.spec (λ c κs. search needs) returns list-requires (λ c. search needs) returns-2)

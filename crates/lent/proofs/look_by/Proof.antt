@@ -6,9 +6,6 @@ use borrow.Author.Needs.{needs}
 use Rattle.lent.proofs.look_by.Statement.{statement}
 use Rattle.lent.proofs.look_by.Tie as tie
 
-gives-requires : tie.Need-gives-requires
-gives-requires c κs = search needs
-
 returns : tie.Need-returns
 returns c = let g = c .before .gives in read-no _ (not-owned _ _ (g .result) (g .ensures) (c .if1 .taken)) _ _
 
@@ -21,4 +18,4 @@ returns-2 c =
     read-own (owned _ _ (g .result) (g .ensures) (c .before .if1 .left)) (c .read .ensures)
 
 pub look-by-spec : {M : Type 1} → statement M
-look-by-spec = tie.close (tie.spec gives-requires returns read-requires returns-2)
+look-by-spec = tie.close (tie.spec (λ c κs. search needs) returns read-requires returns-2)

@@ -3,11 +3,8 @@ use borrow.Author.Needs.{needs}
 use Rattle.lent.proofs.read_all.Statement.{statement}
 use Rattle.lent.proofs.read_all.Tie as tie
 
-read-by-requires : tie.Need-read-by-requires
-read-by-requires c κs = search needs
-
 returns : tie.Need-returns
 returns c = c .read-by .ensures
 
 pub read-all-spec : {M : Type 1} → statement M
-read-all-spec = tie.close (tie.spec read-by-requires returns)
+read-all-spec = tie.close (tie.spec (λ c κs. search needs) returns)

@@ -6,17 +6,11 @@ use borrow.Author.Needs.{needs}
 use Rattle.lent.proofs.set_by.Statement.{statement}
 use Rattle.lent.proofs.set_by.Tie as tie
 
-gives-requires : tie.Need-gives-requires
-gives-requires c κs = search needs
-
 returns : tie.Need-returns
 returns c = let g = c .before .gives in set-schema _ _ _ _ (not-owned _ _ (g .result) (g .ensures) (c .if1 .taken))
 
 set-requires : tie.Need-set-requires
 set-requires c κs = let g = c .before .before .gives in own-table (owned _ _ (g .result) (g .ensures) (c .before .if1 .left))
-
-same-length : tie.Need-same-length
-same-length c = search needs
 
 returns-2 : tie.Need-returns-2
 returns-2 c =
@@ -25,4 +19,4 @@ returns-2 c =
     (c .before .before .set .ensures)
 
 pub set-by-spec : {M : Type 1} → statement M
-set-by-spec = tie.close (tie.spec gives-requires returns set-requires same-length returns-2)
+set-by-spec = tie.close (tie.spec (λ c κs. search needs) returns set-requires (λ c. search needs) returns-2)

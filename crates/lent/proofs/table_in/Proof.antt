@@ -5,17 +5,8 @@ use borrow.Author.Needs.{needs}
 use Rattle.lent.proofs.table_in.Statement.{statement}
 use Rattle.lent.proofs.table_in.Tie as tie
 
-build-requires : tie.Need-build-requires
-build-requires c κs = search needs
-
-same-length : tie.Need-same-length
-same-length c = search needs
-
 returns : tie.Need-returns
 returns c = table-no _ _ (none (c .before .before .before .build .ensures) (c .if1 .taken))
-
-same-length-2 : tie.Need-same-length-2
-same-length-2 c = search needs
 
 returns-2 : tie.Need-returns-2
 returns-2 c = table-short (c .before .before .before .before .build .ensures) (c .before .if1 .left) _ (c .if2 .taken)
@@ -23,12 +14,6 @@ returns-2 c = table-short (c .before .before .before .before .build .ensures) (c
 copy-words-requires : tie.Need-copy-words-requires
 copy-words-requires c κs =
     (got (c .before .before .before .before .before .before .build .ensures) (c .before .before .before .if1 .left) .room, c .before .before .if2 .left)
-
-same-length-3 : tie.Need-same-length-3
-same-length-3 c = search needs
-
-same-length-4 : tie.Need-same-length-4
-same-length-4 c = search needs
 
 returns-3 : tie.Need-returns-3
 returns-3 c =
@@ -40,12 +25,12 @@ pub table-in-spec : {M : Type 1} → statement M
 table-in-spec =
     tie.close
     (tie.spec
-    build-requires
-    same-length
+    (λ c κs. search needs)
+    (λ c. search needs)
     returns
-    same-length-2
+    (λ c. search needs)
     returns-2
     copy-words-requires
-    same-length-3
-    same-length-4
+    (λ c. search needs)
+    (λ c. search needs)
     returns-3)

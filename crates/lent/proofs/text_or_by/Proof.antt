@@ -6,50 +6,14 @@ use Rattle.reading.proofs.Shown.{stand-in, part-end, text-room, text-is}
 use Rattle.lent.proofs.text_or_by.Statement.{statement}
 use Rattle.lent.proofs.text_or_by.Tie as tie
 
-look-by-requires : tie.Need-look-by-requires
-look-by-requires c κs = search needs
-
-enum-known-start : tie.Need-enum-known-start
-enum-known-start c = search needs
-
 add-end : tie.Need-add-end
 add-end c = omega (arith, text-room (c .before .before .before .look-by .ensures) (c .before .start .given .1))
-
-sub-result : tie.Need-sub-result
-sub-result c = search needs
-
-part-result-start : tie.Need-part-result-start
-part-result-start c = search needs
 
 part-result-end : tie.Need-part-result-end
 part-result-end c = text-room (c .before .before .before .look-by .ensures) (c .before .start .given .1)
 
 enum-told : tie.Need-enum-told
 enum-told c = search needs
-
-enum-told-2 : tie.Need-enum-told-2
-enum-told-2 c = search needs
-
-enum-told-3 : tie.Need-enum-told-3
-enum-told-3 c = search needs
-
-enum-told-4 : tie.Need-enum-told-4
-enum-told-4 c = search needs
-
-enum-told-5 : tie.Need-enum-told-5
-enum-told-5 c = search needs
-
-enum-told-6 : tie.Need-enum-told-6
-enum-told-6 c = search needs
-
-enum-told-7 : tie.Need-enum-told-7
-enum-told-7 c = search needs
-
-enum-told-8 : tie.Need-enum-told-8
-enum-told-8 c = search needs
-
-enum-told-9 : tie.Need-enum-told-9
-enum-told-9 c = search needs
 
 returns : tie.Need-returns
 returns c =
@@ -117,21 +81,21 @@ pub text-or-by-spec : {M : Type 1} → statement M
 text-or-by-spec =
     tie.close
     (tie.spec
-    look-by-requires
-    enum-known-start
+    (λ c κs. search needs)
+    (λ c. search needs)
     add-end
-    sub-result
-    part-result-start
+    (λ c. search needs)
+    (λ c. search needs)
     part-result-end
     enum-told
-    enum-told-2
-    enum-told-3
-    enum-told-4
-    enum-told-5
-    enum-told-6
-    enum-told-7
-    enum-told-8
-    enum-told-9
+    (λ c. search needs)
+    (λ c. search needs)
+    (λ c. search needs)
+    (λ c. search needs)
+    (λ c. search needs)
+    (λ c. search needs)
+    (λ c. search needs)
+    (λ c. search needs)
     returns
     returns-2
     returns-3

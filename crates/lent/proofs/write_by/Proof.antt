@@ -6,17 +6,11 @@ use borrow.Author.Needs.{needs}
 use Rattle.lent.proofs.write_by.Statement.{statement}
 use Rattle.lent.proofs.write_by.Tie as tie
 
-gives-requires : tie.Need-gives-requires
-gives-requires c κs = search needs
-
 returns : tie.Need-returns
 returns c = let g = c .before .gives in write-no _ (not-owned _ _ (g .result) (g .ensures) (c .if1 .taken)) _ _
 
 write-requires : tie.Need-write-requires
 write-requires c κs = let g = c .before .before .gives in own-table (owned _ _ (g .result) (g .ensures) (c .before .if1 .left))
-
-same-length : tie.Need-same-length
-same-length c = search needs
 
 returns-2 : tie.Need-returns-2
 returns-2 c =
@@ -25,4 +19,4 @@ returns-2 c =
     (record { answers = c .before .before .write .ensures .0; leaves = c .before .before .write .ensures .1 })
 
 pub write-by-spec : {M : Type 1} → statement M
-write-by-spec = tie.close (tie.spec gives-requires returns write-requires same-length returns-2)
+write-by-spec = tie.close (tie.spec (λ c κs. search needs) returns write-requires (λ c. search needs) returns-2)

@@ -5,7 +5,6 @@ use Prim.Native.Nat.{ℕ, _+_, _*_, _-_, _<_}
 use borrow.Author.Needs.{needs}
 use borrow.Fn.Kinds.{In}
 use borrow.Fn.PlainCycle.{Measures, is, falls, and}
-use Rattle.listing.specs.Room.{tyAt}
 use Rattle.listing.proofs.Children.{AtItem, items-head, item-seat, item-null-room, item-more, item-on, item-less, items-null, items-kept, items-end}
 use Rattle.listing.proofs.Items.{Containers, elements-leaves, elements-written, containers, containers-few, containers-first, containers-start}
 use Rattle.listing.proofs.Items.{element-elsewhere, element-container, element-value}
@@ -36,6 +35,7 @@ use Rattle.table.proofs.place.Reads as place
 use Rattle.words.proofs.nulls.is_null.Reads as is-null
 use Rattle.words.proofs.nums.get8.Reads as get8
 use Rattle.words.proofs.sizes.bitmap_size.Reads as bitmap-size
+use Rattle.table.specs.Tables.{typeOf}
 use Rattle.listing.proofs.+list_fields+list_items+list_map+list_value.{statement}
 use Rattle.listing.proofs.+list_fields+list_items+list_map+list_value.Tie.{close}
 
@@ -59,7 +59,7 @@ fields-left t first n depth b out₀ pos at₀ i₀ slot₀ p₀ out at i slot p
 
 abbrev items-Inv : items-lts.InvT-loop
 items-Inv t at depth b out₀ pos w n i₀ slot₀ p₀ out i slot p =
-    (Containers t at depth b pos w) × AtItem (tyAt t at depth) b n 8 pos i slot out₀ out p
+    (Containers t at depth b pos w) × AtItem (typeOf t at depth) b n 8 pos i slot out₀ out p
 
 abbrev items-left : items-lts.MeasureT-loop
 items-left t at depth b out₀ pos w n i₀ slot₀ p₀ out i slot p = n - i

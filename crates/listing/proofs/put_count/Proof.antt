@@ -3,8 +3,9 @@ use mathlib.Core.Path.{refl}
 use native.Mathlib.Omega.{arith}
 use Rattle.table.specs.Words.{placeIn}
 use Rattle.words.proofs.Numbers.{length-le}
-use Rattle.listing.proofs.Wrote.{wrote-none, wrote-run, and-then, mark-two}
+use Rattle.listing.proofs.Wrote.{wrote-none, wrote-run, and-then}
 use borrow.Author.Needs.{needs}
+use Rattle.schema.proofs.Table.{mark-two}
 use Rattle.listing.proofs.put_count.Statement.{statement}
 use Rattle.listing.proofs.put_count.Tie as tie
 

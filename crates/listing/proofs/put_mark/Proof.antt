@@ -2,8 +2,9 @@
 use mathlib.Core.Path.{refl, ap, _∙_}
 use lib.Seq.{sets}
 use Rattle.table.specs.Words.{placeIn}
-use Rattle.listing.proofs.Wrote.{wrote-none, wrote-run, mark-two, entry-mark}
+use Rattle.listing.proofs.Wrote.{wrote-none, wrote-run, entry-mark}
 use borrow.Author.Needs.{needs}
+use Rattle.schema.proofs.Table.{mark-two}
 use Rattle.listing.proofs.put_mark.Statement.{statement}
 use Rattle.listing.proofs.put_mark.Tie as tie
 

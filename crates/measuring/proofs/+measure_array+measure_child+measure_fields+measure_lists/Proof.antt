@@ -7,7 +7,7 @@ use borrow.Fn.Kinds.{In}
 use borrow.Fn.PlainCycle.{Measures, is, falls, and}
 use Rattle.measuring.specs.Measure.{ChildTold}
 use Rattle.measuring.proofs.Bodies.{child-short}
-use Rattle.measuring.proofs.Loops.{typeOf, is-fixed, is-text, is-child, leaf-came, child-came, goes-low, some-left, less-left}
+use Rattle.measuring.proofs.Loops.{is-fixed, is-text, is-child, leaf-came, child-came, goes-low, some-left, less-left}
 use Rattle.measuring.proofs.Loops.{ArrayGoing, array-start, array-bad, array-add, array-next, array-high, array-end}
 use Rattle.measuring.proofs.Loops.{FieldsGoing, fields-start, field-stands, fields-bad, fields-add, fields-next, fields-high, fields-end}
 use Rattle.measuring.proofs.Chosen.{child-rank, lists-rank, child-deep, fields-fall, array-falls, child-first}
@@ -37,6 +37,7 @@ use Rattle.words.proofs.pairs.high.Reads as high
 use Rattle.words.proofs.pairs.low.Reads as low
 use Rattle.words.proofs.pairs.pair.Reads as pair
 use Rattle.words.proofs.Numbers.{slice-bytes}
+use Rattle.table.specs.Tables.{typeOf}
 use Rattle.measuring.proofs.+measure_array+measure_child+measure_fields+measure_lists.{statement}
 use Rattle.measuring.proofs.+measure_array+measure_child+measure_fields+measure_lists.Tie.{close}
 

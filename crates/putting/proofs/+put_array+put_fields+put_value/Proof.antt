@@ -13,7 +13,7 @@ use Rattle.putting.proofs.Arrays.{ArrayPaints, array-front, array-map, 
 use Rattle.putting.proofs.Arrays.{array-width, array-goes, array-done}
 use Rattle.putting.proofs.Fields.{FieldsPaints, fields-many, fields-cells, fields-clear, fields-slots, fields-start, fields-begin, field-falls}
 use Rattle.putting.proofs.Fields.{field-goes, fields-done}
-use Rattle.putting.proofs.Valued.{struct-rank, element-rank, value-deep, value-falls, value-child, struct-can, value-four, value-after}
+use Rattle.putting.proofs.Valued.{element-rank, value-deep, value-falls, value-child, struct-can, value-four, value-after}
 use Rattle.putting.proofs.Valued.{list-can, list-held, keys-stand, keys-can, head-fits, head-in, keys-long, values-can, map-held}
 use Rattle.putting.proofs.put_array.Reads as array
 use Rattle.putting.proofs.+put_array+put_fields+put_value.Lts-put_array as array-lts
@@ -43,6 +43,7 @@ use Rattle.words.proofs.pairs.low.Reads as low
 use Rattle.words.proofs.pairs.pair.Reads as pair
 use Rattle.words.proofs.sizes.bitmap_size.Reads as bitmap-size
 use Rattle.words.proofs.sizes.pad_size.Reads as pad-size
+use Rattle.measuring.proofs.Chosen.{child-rank}
 use Rattle.putting.proofs.+put_array+put_fields+put_value.{statement}
 use Rattle.putting.proofs.+put_array+put_fields+put_value.Tie.{close}
 
@@ -320,7 +321,7 @@ pub +put-array+put-fields+put-value-spec : {M : Type 1} → statement M
     (λ m. value-lts.spec (value-calls m) (value-at m) value.Post
     (λ c κs. search)  -- entry-at-requires
     (λ c κs. tt)  -- place-requires
-    (λ c κs. search (struct-rank, struct-can))  -- put-fields-requires
+    (λ c κs. search (child-rank, struct-can))  -- put-fields-requires
     (λ c. search needs)  -- same-length
     (λ c. search)  -- returns
     (λ c κs. search value-four)  -- get4-requires

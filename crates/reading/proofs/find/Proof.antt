@@ -1,5 +1,5 @@
 -- `reading::find` meets its contract. Assumes nothing.
-use Rattle.reading.proofs.Opening.{root-stands}
+use Rattle.table.proofs.Places.{root-stands}
 use Rattle.reading.proofs.OnPath.{find-long, root-asks, root-finds}
 use Rattle.reading.proofs.find.Statement.{statement}
 use Rattle.reading.proofs.find.Tie as tie

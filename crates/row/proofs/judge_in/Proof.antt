@@ -5,20 +5,11 @@ use borrow.Author.Needs.{needs}
 use Rattle.row.proofs.judge_in.Statement.{statement}
 use Rattle.row.proofs.judge_in.Tie as tie
 
-build-requires : tie.Need-build-requires
-build-requires c κs = search needs
-
-same-length : tie.Need-same-length
-same-length c = search needs
-
 returns : tie.Need-returns
 returns c = search (judge-no, none)
-
-same-length-2 : tie.Need-same-length-2
-same-length-2 c = search needs
 
 returns-2 : tie.Need-returns-2
 returns-2 c = judge-yes _ (got (c .before .before .before .build .ensures) (c .if1 .left) .accepted)
 
 pub judge-in-spec : {M : Type 1} → statement M
-judge-in-spec = tie.close (tie.spec build-requires same-length returns same-length-2 returns-2)
+judge-in-spec = tie.close (tie.spec (λ c κs. search needs) (λ c. search needs) returns (λ c. search needs) returns-2)

@@ -5,12 +5,6 @@ use borrow.Author.Needs.{needs}
 use Rattle.row.proofs.list_in.Statement.{statement}
 use Rattle.row.proofs.list_in.Tie as tie
 
-build-requires : tie.Need-build-requires
-build-requires c κs = search needs
-
-same-length : tie.Need-same-length
-same-length c = search needs
-
 returns : tie.Need-returns
 returns c = search (list-no, none)
 
@@ -23,12 +17,6 @@ slice-aggregate-list c = got (c .before .before .before .before .build .ensures)
 list-requires : tie.Need-list-requires
 list-requires c κs = got (c .before .before .before .before .before .build .ensures) (c .before .before .if1 .left) .table
 
-same-length-2 : tie.Need-same-length-2
-same-length-2 c = search needs
-
-same-length-3 : tie.Need-same-length-3
-same-length-3 c = search needs
-
 returns-2 : tie.Need-returns-2
 returns-2 c = search (list-by, got)
 
@@ -36,12 +24,12 @@ pub list-in-spec : {M : Type 1} → statement M
 list-in-spec =
     tie.close
     (tie.spec
-    build-requires
-    same-length
+    (λ c κs. search needs)
+    (λ c. search needs)
     returns
     slice-reshare-prefix-list
     slice-aggregate-list
     list-requires
-    same-length-2
-    same-length-3
+    (λ c. search needs)
+    (λ c. search needs)
     returns-2)

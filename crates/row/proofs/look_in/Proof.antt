@@ -5,12 +5,6 @@ use borrow.Author.Needs.{needs}
 use Rattle.row.proofs.look_in.Statement.{statement}
 use Rattle.row.proofs.look_in.Tie as tie
 
-build-requires : tie.Need-build-requires
-build-requires c κs = search needs
-
-same-length : tie.Need-same-length
-same-length c = search needs
-
 returns : tie.Need-returns
 returns c = search (read-no, none)
 
@@ -23,9 +17,6 @@ slice-aggregate-read c = got (c .before .before .before .before .build .ensures)
 read-requires : tie.Need-read-requires
 read-requires c κs = got (c .before .before .before .before .build .ensures) (c .before .if1 .left) .table
 
-same-length-2 : tie.Need-same-length-2
-same-length-2 c = search needs
-
 returns-2 : tie.Need-returns-2
 returns-2 c = search (read-by, got)
 
@@ -33,11 +24,11 @@ pub look-in-spec : {M : Type 1} → statement M
 look-in-spec =
     tie.close
     (tie.spec
-    build-requires
-    same-length
+    (λ c κs. search needs)
+    (λ c. search needs)
     returns
     slice-reshare-prefix-read
     slice-aggregate-read
     read-requires
-    same-length-2
+    (λ c. search needs)
     returns-2)

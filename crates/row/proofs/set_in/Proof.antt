@@ -6,12 +6,6 @@ use borrow.Author.Needs.{needs}
 use Rattle.row.proofs.set_in.Statement.{statement}
 use Rattle.row.proofs.set_in.Tie as tie
 
-build-requires : tie.Need-build-requires
-build-requires c κs = search needs
-
-same-length : tie.Need-same-length
-same-length c = search needs
-
 returns : tie.Need-returns
 returns c = search (set-schema, none)
 
@@ -24,12 +18,6 @@ slice-aggregate-set c = got (c .before .before .before .before .build .ensures) 
 set-requires : tie.Need-set-requires
 set-requires c κs = got (c .before .before .before .before .before .build .ensures) (c .before .before .if1 .left) .table
 
-same-length-2 : tie.Need-same-length-2
-same-length-2 c = search needs
-
-same-length-3 : tie.Need-same-length-3
-same-length-3 c = search needs
-
 returns-2 : tie.Need-returns-2
 returns-2 c = search (set-by, got)
 
@@ -37,12 +25,12 @@ pub set-in-spec : {M : Type 1} → statement M
 set-in-spec =
     tie.close
     (tie.spec
-    build-requires
-    same-length
+    (λ c κs. search needs)
+    (λ c. search needs)
     returns
     slice-reshare-prefix-set
     slice-aggregate-set
     set-requires
-    same-length-2
-    same-length-3
+    (λ c. search needs)
+    (λ c. search needs)
     returns-2)

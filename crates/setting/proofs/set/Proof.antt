@@ -17,7 +17,7 @@ returns : tie.Need-returns
 returns c =
     let e = c .before .before in
     let a = (e .before .before .before .before .before .before .args) in
-    set-given _ _ _ (e .before .given .result) (a .value) (e .before .given .ensures) (a .bytes .now) (e .set-in .ensures)
+    set-given _ _ _ (e .before .given .result) (a .value) (e .before .given .ensures .means) (a .bytes .now) (e .set-in .ensures)
 
 pub set-spec : {M : Type 1} → statement M
 set-spec = tie.close (tie.spec given-requires set-in-requires same-length returns)

@@ -8,7 +8,7 @@ use Rattle.table.specs.Words.{linesOf}
 use Rattle.table.proofs.Lines.{mark-small}
 use Rattle.table.proofs.Rooting.{Headed, Rooted, refuse-long, refuse-short, start-other, start-shut, start-looking, fields-scaled}
 use Rattle.table.proofs.Rooting.{root-fits, root-in, root-kept}
-use Rattle.table.proofs.Building.{Going, Looking, Scanned, Marked, Opened, Leaving, is-marked, unmarked, is-opened, still, mark-end}
+use Rattle.table.proofs.Building.{Going, Looking, Scanned, Marked, OpenHolder, Leaving, is-marked, unmarked, is-opened, still, mark-end}
 use Rattle.table.proofs.Building.{going-short, going-leaf, going-deep, going-shut, going-pop, going-done, going-over, pop-kept}
 use Rattle.table.proofs.Building.{pop-falls, going-less, leaf-kept, leaf-falls, one-less, end-fits, place-in, place-scaled, place-next, leaf-fits}
 use Rattle.table.proofs.Building.{base-next, frame-scaled, frame-in, holder-in, holder-scaled, after-scaled, base-less, holding}
@@ -77,7 +77,7 @@ marked c = is-marked (scanned (c .before)) (c .if6 .left)
 opened : (c : tie.Else11 Inv-loop2 μ-loop2 Inv-loop μ-loop)
     → let l = loop-at (line-at c) .loop in
     let w = line-at c .line-of .result in
-    Opened (entry (loop-at (line-at c)) .args .s .now) (l .t) (l .frames) (l .d) (l .at) (l .i) (l .n) (l .base) w (w / 268435456)
+    OpenHolder (entry (loop-at (line-at c)) .args .s .now) (l .t) (l .frames) (l .d) (l .at) (l .i) (l .n) (l .base) w (w / 268435456)
     (c .before .held2 .result)
 opened c = is-opened (marked (c .before .before .before .before)) (c .before .before .before .if7 .left) (c .before .held2 .ensures)
     (c .before .before .if10 .left) (c .if11 .left)

@@ -5,26 +5,8 @@ use borrow.Author.Needs.{needs}
 use Rattle.batch.proofs.frames.put_row.Statement.{statement}
 use Rattle.batch.proofs.frames.put_row.Tie as tie
 
-add-needed : tie.Need-add-needed
-add-needed c = search needs
-
-add-needed-2 : tie.Need-add-needed-2
-add-needed-2 c = search needs
-
 returns : tie.Need-returns
 returns c = put-short _ _ _ _ refl (c .if1 .taken)
-
-put-size-requires : tie.Need-put-size-requires
-put-size-requires c κs = search needs
-
-add-copy : tie.Need-add-copy
-add-copy c = search needs
-
-copy-requires : tie.Need-copy-requires
-copy-requires c κs = search needs
-
-same-length : tie.Need-same-length
-same-length c = search needs
 
 returns-2 : tie.Need-returns-2
 returns-2 c =
@@ -35,11 +17,11 @@ pub put-row-spec : {M : Type 1} → statement M
 put-row-spec =
     tie.close
     (tie.spec
-    add-needed
-    add-needed-2
+    (λ c. search needs)
+    (λ c. search needs)
     returns
-    put-size-requires
-    add-copy
-    copy-requires
-    same-length
+    (λ c κs. search needs)
+    (λ c. search needs)
+    (λ c κs. search needs)
+    (λ c. search needs)
     returns-2)

@@ -10,14 +10,8 @@ use Rattle.batch.proofs.frames.put_size.Tie as tie
 cast-b : tie.Need-cast-b
 cast-b c = record { fits = rw low-byte (omega arith) }
 
-slice-write-b : tie.Need-slice-write-b
-slice-write-b c = search needs
-
 cast-b-2 : tie.Need-cast-b-2
 cast-b-2 c = record { fits = rw low-byte (omega arith) }
-
-add-b : tie.Need-add-b
-add-b c = search needs
 
 slice-write-b-2 : tie.Need-slice-write-b-2
 slice-write-b-2 c = simp length-set (omega arith)
@@ -25,23 +19,14 @@ slice-write-b-2 c = simp length-set (omega arith)
 cast-b-3 : tie.Need-cast-b-3
 cast-b-3 c = record { fits = rw low-byte (omega arith) }
 
-add-b-2 : tie.Need-add-b-2
-add-b-2 c = search needs
-
 slice-write-b-3 : tie.Need-slice-write-b-3
 slice-write-b-3 c = simp length-set (omega arith)
 
 cast-b-4 : tie.Need-cast-b-4
 cast-b-4 c = record { fits = rw low-byte (omega arith) }
 
-add-b-3 : tie.Need-add-b-3
-add-b-3 c = search needs
-
 slice-write-b-4 : tie.Need-slice-write-b-4
 slice-write-b-4 c = simp length-set (omega arith)
-
-same-length : tie.Need-same-length
-same-length c = search needs
 
 returns : tie.Need-returns
 returns c = size-put (c .args .b .now) (c .args .at) (c .args .size)
@@ -51,15 +36,15 @@ put-size-spec =
     tie.close
     (tie.spec
     cast-b
-    slice-write-b
+    (λ c. search needs)
     cast-b-2
-    add-b
+    (λ c. search needs)
     slice-write-b-2
     cast-b-3
-    add-b-2
+    (λ c. search needs)
     slice-write-b-3
     cast-b-4
-    add-b-3
+    (λ c. search needs)
     slice-write-b-4
-    same-length
+    (λ c. search needs)
     returns)

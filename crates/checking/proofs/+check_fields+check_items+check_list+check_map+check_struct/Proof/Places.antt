@@ -6,7 +6,6 @@ use Prim.Native.Nat.{ℕ, _+_, _*_, _-_, _<_}
 use Rattle.words.specs.Bytes.{part}
 use Rattle.checking.specs.Sound.{faultOf}
 use Rattle.schema.specs.Types.{field}
-use Rattle.checking.specs.Room.{typeOf, typesOf}
 use Rattle.checking.proofs.Tests.{seen, part-small, MapRoom}
 use Rattle.checking.proofs.Elements.{list-map}
 use Rattle.checking.proofs.Loops.{items, At, astray}
@@ -50,6 +49,7 @@ use Rattle.words.proofs.nums.get8.Reads as get8
 use Rattle.words.proofs.sizes.bitmap_size.Reads as bitmap-size
 use Rattle.words.proofs.sizes.pad_clear.Reads as pad-clear
 use Rattle.words.proofs.sizes.pad_size.Reads as pad-size
+use Rattle.table.specs.Tables.{typeOf, typesOf}
 
 -- the measure of a call: the depth, and in it the rank of the member
 abbrev pub μ-fields : Measures 2 in-fields.ps ℕ

@@ -3,12 +3,13 @@ use mathlib.Core.Path.{_≡_, refl}
 use Prim.Native.Nat.{_+_, _-_, _%_}
 use borrow.Author.Needs.{needs}
 use Rattle.words.proofs.Numbers.{slice-bytes}
-use Rattle.checking.proofs.Leaves.{Clear, clear-start, clear-word, clear-end}
+use Rattle.checking.specs.Room.{NoNulls}
+use Rattle.checking.proofs.Leaves.{clear-start, clear-word, clear-end}
 use Rattle.checking.proofs.lists.no_nulls.Statement.{statement}
 use Rattle.checking.proofs.lists.no_nulls.Tie as tie
 
 abbrev Inv-loop : tie.InvT-loop
-Inv-loop b n i₀ i = (i % 64 ≡ 0) × Clear b i
+Inv-loop b n i₀ i = (i % 64 ≡ 0) × NoNulls b i
 
 abbrev μ-loop : tie.MeasureT-loop
 μ-loop b n i₀ i = n + 64 - i

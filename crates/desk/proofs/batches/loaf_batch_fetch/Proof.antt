@@ -1,50 +1,14 @@
 -- `desk::batches::loaf_batch_fetch` meets its contract. Assumes nothing.
-use mathlib.Core.Path.{sym, ap, _∙_}
-use Rattle.batch.specs.Meaning.{fetchMeans}
-use Rattle.batch.proofs.Low.{fetch-low}
-use Rattle.desk.proofs.InBatch.{fetch-told, fetch-refused}
+use Rattle.codes.proofs.Answered.{fetch-known, fetch-as}
 use borrow.Author.Needs.{needs}
 use Rattle.desk.proofs.batches.loaf_batch_fetch.Statement.{statement}
 use Rattle.desk.proofs.batches.loaf_batch_fetch.Tie as tie
 
-fetch-requires : tie.Need-fetch-requires
-fetch-requires c κs = search needs
-
-enum-known-start : tie.Need-enum-known-start
-enum-known-start c = search needs
-
-put-two-requires : tie.Need-put-two-requires
-put-two-requires c κs = search needs
-
-enum-known-r : tie.Need-enum-known-r
-enum-known-r c = search needs
-
-refusal-code-requires : tie.Need-refusal-code-requires
-refusal-code-requires c κs = fetch-low _ _ _ (sym (ap fetchMeans (c .before .r .given .1)) ∙ c .before .before .before .fetch .ensures)
-
-same-length : tie.Need-same-length
-same-length c = search needs
+fetched-requires : tie.Need-fetched-requires
+fetched-requires c κs = fetch-known _ _ _ (c .fetch .ensures)
 
 returns : tie.Need-returns
-returns c =
-    let t = c .before .before .before .before .before in
-    let u = t .before .before in
-    fetch-told _ (sym (ap fetchMeans (t .start .given .1)) ∙ u .fetch .ensures) (c .before .before .put-two .ensures)
-
-returns-2 : tie.Need-returns-2
-returns-2 c =
-    let t = c .before .before .before .before in
-    fetch-refused _ (sym (ap fetchMeans (c .before .before .r .given .1)) ∙ t .fetch .ensures) (c .refusal-code .ensures)
+returns c = fetch-as (c .before .before .before .fetch .ensures) (c .before .before .fetched .ensures)
 
 pub loaf-batch-fetch-spec : {M : Type 1} → statement M
-loaf-batch-fetch-spec =
-    tie.close
-    (tie.spec
-    fetch-requires
-    enum-known-start
-    put-two-requires
-    enum-known-r
-    refusal-code-requires
-    same-length
-    returns
-    returns-2)
+loaf-batch-fetch-spec = tie.close (tie.spec (λ c κs. search needs) fetched-requires (λ c. search needs) returns)

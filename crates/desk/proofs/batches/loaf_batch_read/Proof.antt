@@ -1,29 +1,17 @@
 -- `desk::batches::loaf_batch_read` meets its contract. Assumes nothing.
-use Rattle.batch.proofs.Single.{numbered-read}
-use Rattle.batch.proofs.Low.{read-low}
-use Rattle.desk.proofs.Words.{gives-as, tells-as}
-use Rattle.desk.proofs.InBatch.{reads-in}
+use Rattle.codes.proofs.Answered.{read-in-known, read-in-as}
 use borrow.Author.Needs.{needs}
 use Rattle.desk.proofs.batches.loaf_batch_read.Statement.{statement}
 use Rattle.desk.proofs.batches.loaf_batch_read.Tie as tie
 
-path-of-requires : tie.Need-path-of-requires
-path-of-requires c κs = search needs
-
-read-requires : tie.Need-read-requires
-read-requires c κs = search needs
-
 put-answer-requires : tie.Need-put-answer-requires
-put-answer-requires c κs = gives-as (c .read .result) _ (c .read .ensures) (numbered-read _ _ _ _) (read-low _ _ _ _)
-
-same-length : tie.Need-same-length
-same-length c = search needs
+put-answer-requires c κs = read-in-known _ _ _ _ (c .read .ensures)
 
 returns : tie.Need-returns
 returns c =
-    tells-as (c .before .before .before .read .result) _ _ _ _ _ (c .before .before .before .read .ensures)
-    (reads-in _ _ (c .before .before .before .before .path-of .ensures) _ _ _) (c .before .before .put-answer .ensures)
+    let t = c .before .before .before in
+    read-in-as (t .before .path-of .ensures) _ _ _ (t .read .ensures) (c .before .before .put-answer .ensures)
 
 pub loaf-batch-read-spec : {M : Type 1} → statement M
 loaf-batch-read-spec =
-    tie.close (tie.spec path-of-requires read-requires put-answer-requires same-length returns)
+    tie.close (tie.spec (λ c κs. search needs) (λ c κs. search needs) put-answer-requires (λ c. search needs) returns)

@@ -1,19 +1,13 @@
 -- `desk::tables::loaf_table` meets its contract. Assumes nothing.
 use mathlib.Core.Path.{ap, _∙_}
-use Rattle.desk.specs.Codes.{sizedCode}
+use Rattle.codes.specs.Codes.{sizedCode}
 use Rattle.desk.proofs.Tabled.{table-halved}
 use borrow.Author.Needs.{needs}
 use Rattle.desk.proofs.tables.loaf_table.Statement.{statement}
 use Rattle.desk.proofs.tables.loaf_table.Tie as tie
 
-table-requires : tie.Need-table-requires
-table-requires c κs = search needs
-
 length-code-requires : tie.Need-length-code-requires
 length-code-requires c κs = table-halved _ _ _ (c .before .before .table .ensures .answers)
-
-same-length : tie.Need-same-length
-same-length c = search needs
 
 returns : tie.Need-returns
 returns c = record {
@@ -23,4 +17,4 @@ returns c = record {
 }
 
 pub loaf-table-spec : {M : Type 1} → statement M
-loaf-table-spec = tie.close (tie.spec table-requires length-code-requires same-length returns)
+loaf-table-spec = tie.close (tie.spec (λ c κs. search needs) length-code-requires (λ c. search needs) returns)

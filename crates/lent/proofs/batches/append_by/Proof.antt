@@ -11,9 +11,6 @@ use borrow.Author.Needs.{needs}
 use Rattle.lent.proofs.batches.append_by.Statement.{statement}
 use Rattle.lent.proofs.batches.append_by.Tie as tie
 
-gives-requires : tie.Need-gives-requires
-gives-requires c κs = search needs
-
 returns : tie.Need-returns
 returns c = append-no (not-owned _ _ (c .before .gives .result) (c .before .gives .ensures) (c .if1 .taken)) _ _ _
 
@@ -22,23 +19,11 @@ returns-2 c =
     let e = c .before in
     append-broken _ _ _ _ (lent-none _ _ (c .if2 .taken)) (not-one (owned _ _ (e .before .gives .result) (e .before .gives .ensures) (e .if1 .left)) _)
 
-slice-reshare-prefix-count : tie.Need-slice-reshare-prefix-count
-slice-reshare-prefix-count c = search needs
-
 slice-aggregate-count : tie.Need-slice-aggregate-count
 slice-aggregate-count c = sym (length-take-le _ _ (c .before .if2 .left))
 
-count-requires : tie.Need-count-requires
-count-requires c κs = search needs
-
 enum-told : tie.Need-enum-told
 enum-told c = search needs
-
-enum-told-2 : tie.Need-enum-told-2
-enum-told-2 c = search needs
-
-same-length : tie.Need-same-length
-same-length c = search needs
 
 returns-3 : tie.Need-returns-3
 returns-3 c =
@@ -52,15 +37,6 @@ check-requires c κs =
     let e = c .before .before .before .before .before in
     own-table (owned _ _ (e .before .gives .result) (e .before .gives .ensures) (e .if1 .left))
 
-enum-told-3 : tie.Need-enum-told-3
-enum-told-3 c = search needs
-
-enum-known-r : tie.Need-enum-known-r
-enum-known-r c = search needs
-
-same-length-2 : tie.Need-same-length-2
-same-length-2 c = search needs
-
 returns-4 : tie.Need-returns-4
 returns-4 c =
     let w = count-whole (c .before .before .before .before .enum-told .given .1) (c .before .before .before .before .before .before .count .ensures) in
@@ -73,9 +49,6 @@ put-row-requires : tie.Need-put-row-requires
 put-row-requires c κs =
     let small = row-small _ _ (sym (ap outcomeMeans (c .before .enum-told3 .given .1)) ∙ c .before .before .before .check .ensures) in
     (c .before .before .before .before .before .before .before .before .if2 .left, small)
-
-same-length-3 : tie.Need-same-length-3
-same-length-3 c = search needs
 
 returns-5 : tie.Need-returns-5
 returns-5 c =
@@ -91,21 +64,21 @@ pub append-by-spec : {M : Type 1} → statement M
 append-by-spec =
     tie.close
     (tie.spec
-    gives-requires
+    (λ c κs. search needs)
     returns
     returns-2
-    slice-reshare-prefix-count
+    (λ c. search needs)
     slice-aggregate-count
-    count-requires
+    (λ c κs. search needs)
     enum-told
-    enum-told-2
-    same-length
+    (λ c. search needs)
+    (λ c. search needs)
     returns-3
     check-requires
-    enum-told-3
-    enum-known-r
-    same-length-2
+    (λ c. search needs)
+    (λ c. search needs)
+    (λ c. search needs)
     returns-4
     put-row-requires
-    same-length-3
+    (λ c. search needs)
     returns-5)

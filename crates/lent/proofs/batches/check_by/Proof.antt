@@ -7,9 +7,6 @@ use borrow.Author.Needs.{needs}
 use Rattle.lent.proofs.batches.check_by.Statement.{statement}
 use Rattle.lent.proofs.batches.check_by.Tie as tie
 
-gives-requires : tie.Need-gives-requires
-gives-requires c κs = search needs
-
 returns : tie.Need-returns
 returns c = check-no _ _ (not-owned _ _ (c .before .gives .result) (c .before .gives .ensures) (c .if1 .taken))
 
@@ -22,4 +19,4 @@ returns-2 c =
     rows-by (owned _ _ (e .before .gives .result) (e .before .gives .ensures) (e .if1 .left)) _ (c .check-rows .ensures)
 
 pub check-by-spec : {M : Type 1} → statement M
-check-by-spec = tie.close (tie.spec gives-requires returns check-rows-requires returns-2)
+check-by-spec = tie.close (tie.spec (λ c κs. search needs) returns check-rows-requires returns-2)

@@ -11,23 +11,11 @@ use borrow.Author.Needs.{needs}
 use Rattle.lent.proofs.batches.fetch_by.Statement.{statement}
 use Rattle.lent.proofs.batches.fetch_by.Tie as tie
 
-gives-requires : tie.Need-gives-requires
-gives-requires c κs = search needs
-
 returns : tie.Need-returns
 returns c = fetch-none (no-row (not-owned _ _ (c .before .gives .result) (c .before .gives .ensures) (c .if1 .taken)) _ _)
 
-find-requires : tie.Need-find-requires
-find-requires c κs = search needs
-
 enum-told : tie.Need-enum-told
 enum-told c = search needs
-
-enum-told-2 : tie.Need-enum-told-2
-enum-told-2 c = search needs
-
-enum-known-start : tie.Need-enum-known-start
-enum-known-start c = search needs
 
 sub-check : tie.Need-sub-check
 sub-check c = let r = found-at (c .before .start .given .1) (c .before .before .before .find .ensures) in omega (arith, r .low)
@@ -43,16 +31,10 @@ check-requires c κs =
     let e = c .before .before .before .before .before in
     own-table (owned _ _ (e .before .gives .result) (e .before .gives .ensures) (e .if1 .left))
 
-enum-told-3 : tie.Need-enum-told-3
-enum-told-3 c = search needs
-
 sub-t21 : tie.Need-sub-t21
 sub-t21 c =
     let r = found-at (c .before .before .before .before .before .start .given .1) (c .before .before .before .before .before .before .before .find .ensures) in
     omega (arith, r .low)
-
-enum-known-r : tie.Need-enum-known-r
-enum-known-r c = search needs
 
 returns-2 : tie.Need-returns-2
 returns-2 c =
@@ -85,19 +67,19 @@ pub fetch-by-spec : {M : Type 1} → statement M
 fetch-by-spec =
     tie.close
     (tie.spec
-    gives-requires
+    (λ c κs. search needs)
     returns
-    find-requires
+    (λ c κs. search needs)
     enum-told
-    enum-told-2
-    enum-known-start
+    (λ c. search needs)
+    (λ c. search needs)
     sub-check
     part-check-start
     part-check-end
     check-requires
-    enum-told-3
+    (λ c. search needs)
     sub-t21
-    enum-known-r
+    (λ c. search needs)
     returns-2
     returns-3
     returns-4

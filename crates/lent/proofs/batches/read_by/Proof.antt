@@ -9,23 +9,11 @@ use borrow.Author.Needs.{needs}
 use Rattle.lent.proofs.batches.read_by.Statement.{statement}
 use Rattle.lent.proofs.batches.read_by.Tie as tie
 
-gives-requires : tie.Need-gives-requires
-gives-requires c κs = search needs
-
 returns : tie.Need-returns
 returns c = read-none _ (no-row (not-owned _ _ (c .before .gives .result) (c .before .gives .ensures) (c .if1 .taken)) _ _)
 
-find-requires : tie.Need-find-requires
-find-requires c κs = search needs
-
 enum-told : tie.Need-enum-told
 enum-told c = search needs
-
-enum-told-2 : tie.Need-enum-told-2
-enum-told-2 c = search needs
-
-enum-known-start : tie.Need-enum-known-start
-enum-known-start c = search needs
 
 sub-read : tie.Need-sub-read
 sub-read c = let r = found-at (c .before .start .given .1) (c .before .before .before .find .ensures) in omega (arith, r .low)
@@ -64,12 +52,12 @@ pub read-by-spec : {M : Type 1} → statement M
 read-by-spec =
     tie.close
     (tie.spec
-    gives-requires
+    (λ c κs. search needs)
     returns
-    find-requires
+    (λ c κs. search needs)
     enum-told
-    enum-told-2
-    enum-known-start
+    (λ c. search needs)
+    (λ c. search needs)
     sub-read
     part-read-start
     part-read-end

@@ -9,23 +9,11 @@ use borrow.Author.Needs.{needs}
 use Rattle.lent.proofs.batches.set_by.Statement.{statement}
 use Rattle.lent.proofs.batches.set_by.Tie as tie
 
-gives-requires : tie.Need-gives-requires
-gives-requires c κs = search needs
-
 returns : tie.Need-returns
 returns c = set-none _ _ (no-row (not-owned _ _ (c .before .gives .result) (c .before .gives .ensures) (c .if1 .taken)) _ _)
 
-find-requires : tie.Need-find-requires
-find-requires c κs = search needs
-
 enum-told : tie.Need-enum-told
 enum-told c = search needs
-
-enum-told-2 : tie.Need-enum-told-2
-enum-told-2 c = search needs
-
-enum-known-start : tie.Need-enum-known-start
-enum-known-start c = search needs
 
 sub-set : tie.Need-sub-set
 sub-set c = let r = found-at (c .before .start .given .1) (c .before .before .before .find .ensures) in omega (arith, r .low)
@@ -41,26 +29,17 @@ set-requires c κs =
     let e = c .before .before .before .before .before .before in
     own-table (owned _ _ (e .before .gives .result) (e .before .gives .ensures) (e .if1 .left))
 
-same-length : tie.Need-same-length
-same-length c = search needs
-
 returns-2 : tie.Need-returns-2
 returns-2 c =
     let e = c .before .before .before .before in
     let o = owned _ _ (e .before .gives .result) (e .before .gives .ensures) (e .if1 .left) in
     set-none _ _ (no-row-broken (found-broken (c .enum-told .given .1) (c .before .before .find .ensures)) (not-one o _))
 
-same-length-2 : tie.Need-same-length-2
-same-length-2 c = search needs
-
 returns-3 : tie.Need-returns-3
 returns-3 c =
     let e = c .before .before .before .before in
     let o = owned _ _ (e .before .gives .result) (e .before .gives .ensures) (e .if1 .left) in
     set-none _ _ (no-row-past (found-past (c .enum-told2 .given .1) (c .before .before .find .ensures)) (not-one o _))
-
-same-length-3 : tie.Need-same-length-3
-same-length-3 c = search needs
 
 returns-4 : tie.Need-returns-4
 returns-4 c =
@@ -73,19 +52,19 @@ pub set-by-spec : {M : Type 1} → statement M
 set-by-spec =
     tie.close
     (tie.spec
-    gives-requires
+    (λ c κs. search needs)
     returns
-    find-requires
+    (λ c κs. search needs)
     enum-told
-    enum-told-2
-    enum-known-start
+    (λ c. search needs)
+    (λ c. search needs)
     sub-set
     part-set-start
     part-set-end
     set-requires
-    same-length
+    (λ c. search needs)
     returns-2
-    same-length-2
+    (λ c. search needs)
     returns-3
-    same-length-3
+    (λ c. search needs)
     returns-4)

@@ -2,15 +2,10 @@
 use Prim.Native.Nat.{_-_}
 use native.Mathlib.Omega.{arith}
 use lib.Bits.{and-mask, mask-lt}
-use Rattle.words.specs.Bytes.{bitmap}
 use Rattle.words.proofs.FirstSet.{past-here, past-later}
 use borrow.Author.Needs.{needs}
 use Rattle.words.proofs.finds.past_byte.Statement.{statement}
 use Rattle.words.proofs.finds.past_byte.Tie as tie
-use Rattle.words.proofs.finds.past_byte.Reads as reads
-use Rattle.words.proofs.finds.past_byte.Lts as lts
-use Rattle.words.proofs.finds.first_set.Reads as first-set-reads
-use Rattle.words.proofs.sizes.bitmap_size.Reads as bitmap-size-reads
 
 bitmap-size-requires : tie.Need-bitmap-size-requires
 bitmap-size-requires c κs = search needs

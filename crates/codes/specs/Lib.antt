@@ -1,0 +1,7 @@
+-- What the contracts of `codes` cite.
+pub mod Codes
+pub mod Words
+pub mod Steps
+pub mod Asked
+pub mod Batch
+pub mod Unique

@@ -1,7 +1,0 @@
--- What the contracts of `desk` cite.
-pub mod Codes
-pub mod Words
-pub mod Steps
-pub mod Asked
-pub mod Batch
-pub mod Unique
