@@ -36,7 +36,7 @@ module _ (h w : ℕ) (ks : List Kid) (l : AllLawful w ks) where
   pub body-take : (cs : List Cell) (b : List ℕ) (y : BodyLays h w ks cs b) → AllTake w ks cs (y .slots) [] (y .ranges)
   body-take cs b y = all-take w (front h w (length ks)) (y .variable) ks cs (y .slots) [] (y .ranges) l (y .children)
 
-  -- its data is what there is behind the fixed partOf
+  -- its data is what there is behind the fixed part
   pub body-total : (cs : List Cell) (b : List ℕ) (y : BodyLays h w ks cs b) → h + length b ≡ front h w (length ks) + length (y .variable)
   body-total cs b y = rw (← (y .whole), length-append, length-append, length-le, length-padded (y .slots), body-take cs b y .slots) (omega arith)
 

@@ -62,7 +62,7 @@ unfolding Parted
 parting i j p q (yes e) r n = inr (e, r e (λ m. n (rw (e, m))))
 parting i j p q (no d) r n = inl d
 
--- two different paths to leaves are two leaves: at some step they partOf
+-- two different paths to leaves are two leaves: at some step they part
 pub two-leaves : (p q : List ℕ) (t T U : Ty) → typeAlong p t ≡ some T → Leafy T → typeAlong q t ≡ some U → Leafy U → p ≢ q → Parted p q
 two-leaves [] [] t T U e l g m n = absurd (n refl)
 two-leaves [] (j ∷ q) t T U e l g m n = absurd (past-leaf t T U j q e l g)
@@ -89,7 +89,7 @@ pub first-flag : (i j : ℕ) (p : List ℕ) (c : Cell) → Valid (i ∷ j ∷ p)
 unfolding Valid
 first-flag i j p c v = valid-flag j p (partOf i c) (v .1)
 
--- a child that is not null: its bytes, which are partOf of its container's
+-- a child that is not null: its bytes, which are part of its container's
 pub record Below (t : Ty) (c : Cell) (i : ℕ) (b : List ℕ) : Type 0 where
   pub own : List ℕ
   pub lays : Lays (childTy t i) (partOf i c) own

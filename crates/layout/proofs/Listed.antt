@@ -274,7 +274,7 @@ listing-parse t b c hb e = when-some {P = Parsed t b} all e
         let o : script t .put c ≡ r = rw (length-zero r′ n, append-nil) at (q .1 .whole) in
         yields (record { fits = q .1 .fits; clear = q .1 .clear; lists = rw (← (two-bytes (is-mark t) (p .size) (p .front) (q .0)), o) (p .whole) })
 
--- the bytes under nulls play no partOf in it
+-- the bytes under nulls play no part in it
 pub listing-clean : (t : Ty) (c : Cell) → listing t (clean c) ≡ listing t c
 unfolding listing
 listing-clean t c = rw (script-lawful t .same c)

@@ -1,4 +1,4 @@
--- A place set in the tree: it holds what was set, and the last of two settings stands alone; and paths that partOf. Assumes nothing.
+-- A place set in the tree: it holds what was set, and the last of two settings stands alone; and paths that part. Assumes nothing.
 use mathlib.Core.Path.{_≡_, refl}
 use mathlib.Core.Logic.{_≢_, _⊎_}
 use mathlib.Core.List.{List, [], _∷_}
@@ -23,7 +23,7 @@ unfoldable pub Valid : List ℕ → Cell → Type 0
 Valid [] c = Unit {0}
 Valid (i ∷ p) c = (i < length (parts c)) × Valid p (partOf i c)
 
--- the paths partOf: at some step their numbers differ
+-- the paths part: at some step their numbers differ
 unfoldable pub Parted : List ℕ → List ℕ → Type 0
 Parted [] q = ⊥
 Parted (i ∷ p) [] = ⊥

@@ -45,7 +45,7 @@ update-look (i ∷ p) c v = rw (update-look p (partOf i c) (v .1)) (ap node (set
 part-other : (i j : ℕ) (c x : Cell) → j ≢ i → partOf j (node (set (parts c) i x)) ≡ partOf j c
 part-other i j c x n = rw parts-node (getD-set-other (parts c) i j x (leaf []) n)
 
--- two places that partOf, set in either order
+-- two places that part, set in either order
 pub update-comm : (p q : List ℕ) (x y c : Cell) → Parted p q → Valid p c → update q y (update p x c) ≡ update p x (update q y c)
 unfolding update Parted Valid
 update-comm [] q x y c a v = absurd a

@@ -64,7 +64,7 @@ string = record {
   get = λ b. got (leaf b);
 }
 
--- ---- a child in its container: a slot in the fixed partOf, and variable data
+-- ---- a child in its container: a slot in the fixed part, and variable data
 
 -- at: where the container's variable data d starts in it; rs: the ranges of the earlier children, rs′: with its own. A child is read
 -- from its slot s, which is the container's byte j and on.
@@ -211,7 +211,7 @@ reads w at d (k ∷ ks) j m s rs = do
 
 -- ---- bitmap, slots up to Pad, data: the body of a struct and of a list, behind a header of h bytes
 
--- the size of the fixed partOf
+-- the size of the fixed part
 abbrev pub front : ℕ → ℕ → ℕ → ℕ
 front h w n = h + bitmap n + pad (n * w)
 
@@ -227,7 +227,7 @@ pub record BodyLays (h w : ℕ) (ks : List Kid) (cs : List Cell) (b : List ℕ) 
   pub children : AllLay w (front h w (length ks)) variable ks cs slots [] ranges
   pub ends : total ranges ≡ length variable
 
--- The fixed partOf, with a fault at short where there is no room for it; then the bitmap, then the children in order, then the zeros
+-- The fixed part, with a fault at short where there is no room for it; then the bitmap, then the children in order, then the zeros
 -- behind the slots, then the end.
 unfoldable pub bodyGet : Place → ℕ → ℕ → List Kid → List ℕ → Read (List Cell)
 bodyGet short h w ks b = do

@@ -1,5 +1,5 @@
 -- What it is for the variable values of a row to stand in some order: in every container the present ones are placed one after another,
--- with no gap, from the end of its fixed partOf to its end. `Layout` asks a value only to be apart from its earlier siblings (`Tiles`), and
+-- with no gap, from the end of its fixed part to its end. `Layout` asks a value only to be apart from its earlier siblings (`Tiles`), and
 -- so needs no search for the order; `AnyOrder` in proofs/ says that it comes to the same, and that every order has a row.
 -- Assumes nothing: these are definitions.
 use mathlib.Core.Path.{_≡_}
