@@ -55,7 +55,10 @@ int make_sample(struct sample *s, const char *kind, unsigned n) {
     } else if (!strcmp(kind, "strokes")) {     // a row of two nested strokes, each a struct of two int32
         root(s, 2); root(s, 2); mark(s, "i4"); mark(s, "i4"); root(s, 2); mark(s, "i4"); mark(s, "i4");
         s->row_len = 8 + 16 + 48; s->children = 2;
-        for (unsigned i = 0; i < 2; i++) { slot(s->row + 8 + 8 * i, 24 + 24 * i, 24); put(s->row + 24 + 24 * i + 8, 1000 + i, 4); put(s->row + 24 + 24 * i + 16, 5, 4); }
+        for (unsigned i = 0; i < 2; i++) {
+            size_t cur = 24 + 24 * (back ? 1 - i : i);
+            slot(s->row + 8 + 8 * i, cur, 24); put(s->row + cur + 8, 1000 + i, 4); put(s->row + cur + 16, 5, 4);
+        }
     } else return 0;
     const uint32_t middle[] = {0, n / 2, 1}, field[] = {n / 2}, chord[] = {1, 1};
     int top = !strcmp(kind, "fields"), two = !strcmp(kind, "strokes");

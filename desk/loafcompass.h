@@ -2,7 +2,7 @@
  *
  * A slice is a pointer and a length; a pointer to no byte may be any but NULL, and what is lent to be written overlaps nothing else that
  * is lent. Every function takes any bytes of any length and ends with a result or a numbered refusal, and a refusal alters no byte of a
- * row, a batch or an output.
+ * row, a batch, a log or an output.
  *
  * Each answers one number: the refusal's number in the upper half, 0 there for done, and in the lower half a length, or for 7 the
  * place of the first fault, counted from the row's first byte. */
@@ -27,7 +27,8 @@ enum loaf_refusal {
     LOAF_LAYOUT = 7,      /* the row breaks the layout; the place says where */
     LOAF_UNFIT = 8,       /* the value does not fit the place */
     LOAF_RESIZE = 9,      /* the value would change the place's size, or the nullness of a string or binary */
-    LOAF_BATCH = 10       /* the batch ends inside a size or a row */
+    LOAF_BATCH = 10,      /* the batch or the log ends inside a size or a row */
+    LOAF_LOG = 11         /* the room can't hold the log with its chord, or the numbers its chords; or the window is over 1,000 */
 };
 
 static inline uint32_t loaf_number(uint64_t answer) { return (uint32_t)(answer >> 32); }
@@ -121,6 +122,26 @@ uint64_t loaf_batch_read_by(const uint8_t *schema, size_t schema_length, const u
 uint64_t loaf_batch_set_by(const uint8_t *schema, size_t schema_length, const uint64_t *table, size_t table_length,
     uint8_t *batch, size_t batch_length, size_t k, const uint32_t *path, size_t path_length, uint32_t kind, uint64_t value,
     const uint8_t *bytes, size_t bytes_length);
+
+/* The stroke log: a batch whose rows hold a chord or two each, a tick and a key mask of 32 bits. No bytes is the empty log. Its schema is
+ * "ro\2" "ro\2i4i4" "ro\2i4i4", so the entries of a batch read a log too. A row's second chord may be null, and nothing else: a first chord,
+ * a tick or keys that is null is refused with 7 at the byte of the bitmap that says so. Rows may come from elsewhere, their chords in either
+ * order. Each entry judges the whole log: 10, then 3, 7 of each row in turn, the place of a 7 counted from that row's own first byte. */
+enum { LOAF_LOG_WINDOW = 1000 };
+
+/* One chord added to the log that the first `used` bytes of the room are: done, or 10, 3, 7 of the log, and 11 if the window is over
+ * LOAF_LOG_WINDOW or the room too small. It goes into the second place of the last row, if that is free and the chord's tick at most the
+ * window behind the row's first tick, counted on through the counter's start at zero; otherwise it starts a row. No byte before the row it
+ * goes into is written. The log's new length stands in answer[0] if a word is lent; it is at most 52 more than `used`. */
+uint64_t loaf_log_add(uint8_t *room, size_t room_length, size_t used, uint32_t tick, uint32_t keys, uint32_t window, uint64_t *answer, size_t answer_length);
+
+/* All chords of the log in their order, tick, keys, tick, keys .., at the start of out: done, or 10, 3, 7 of the log, and 11 if out is too
+ * small. How many numbers they are stands in answer[0] if a word is lent; they are at most a 19th of the log's length. */
+uint64_t loaf_log_read(const uint8_t *log, size_t log_length, uint32_t *out, size_t out_length, uint64_t *answer, size_t answer_length);
+
+/* Chord n of the log, counted from 0, its tick in answer[0] and its keys in answer[1]: done, or 10, 3, 7 of the log, then 5, and 4 with the
+ * length 2 if fewer than two words are lent. */
+uint64_t loaf_log_chord(const uint8_t *log, size_t log_length, size_t n, uint64_t *answer, size_t answer_length);
 
 #ifdef __cplusplus
 }

@@ -5,6 +5,7 @@ from collections import namedtuple
 
 import batches
 import rows
+import strokes
 import worked_tables
 from schemas import Refused, judge
 
@@ -15,16 +16,19 @@ NUMBERS = {
     'r': (1, 3, 5, 7, 6), 'o': (1, 3, 5, 7, 6), 't': (),
     'n': (10,), 'f': (1, 10, 5, 3, 7), 'k': (1, 10, 3, 7), 'A': (1, 10, 3, 7, 4),
     'g': (1, 10, 5, 3, 7, 6), 'z': (1, 10, 5, 3, 7, 6, 8, 9), 'T': (1, 4),
+    'L': (10, 3, 7, 11), 'R': (10, 3, 7, 11), 'C': (10, 3, 7, 5),
 }
 OPS = ''.join(NUMBERS)
 
 # The ops that take a schema, which also work from a table lent beside it.
 OPS_BY_TABLE = 'jcwlszrotfkAg'
 
-# A request: `second` is the listing, the row or the batch, `third` the stand-in,
-# the setting's bytes or the row to append, `room` the length of the lent output,
-# in words where that is a table, or, where the op asks for one row of a batch,
-# that row's number. `table` is the lent table's words, None where none is lent.
+# A request: `second` is the listing, the row, the batch or the log, `third` the
+# stand-in, the setting's bytes or the row to append, `room` the length of the
+# lent output, in words or numbers where it has those, or, where the op asks for
+# one row of a batch or one chord of a log, its number. Of a chord to add, `value`
+# is the tick and, in the upper half, the keys, and the first step the window.
+# `table` is the lent table's words, None where none is lent.
 Request = namedtuple('Request', 'op schema second steps room third kind value table')
 
 HEAD = struct.Struct('<c5IBQ')
@@ -33,7 +37,7 @@ HEAD = struct.Struct('<c5IBQ')
 BY_TABLE = 0x80
 
 # What the driver takes; beyond these a request ends its run.
-SCHEMA_ROOM, SECOND_ROOM, STEPS_ROOM, OUT_ROOM, THIRD_ROOM, WORDS_ROOM = 2048, 70000, 64, 70000, 20000, 1024
+SCHEMA_ROOM, SECOND_ROOM, STEPS_ROOM, OUT_ROOM, THIRD_ROOM, WORDS_ROOM, NUMBERS_ROOM = 2048, 70000, 64, 70000, 20000, 1024, 17500
 
 FILL = 0xAA
 FILL_WORD = int.from_bytes(bytes([FILL]) * 8, 'little')
@@ -43,9 +47,13 @@ def request(op, schema=b'', second=b'', steps=(), room=0, third=b'', kind=0, val
     return Request(op, schema, second, tuple(steps), room, third, kind, value, table)
 
 
+def room_limit(op):
+    return {'T': WORDS_ROOM, 'R': NUMBERS_ROOM}.get(op, OUT_ROOM)
+
+
 def within_rooms(req):
     return (len(req.schema) <= SCHEMA_ROOM and len(req.second) <= SECOND_ROOM
-            and len(req.steps) <= STEPS_ROOM and req.room <= (WORDS_ROOM if req.op == 'T' else OUT_ROOM)
+            and len(req.steps) <= STEPS_ROOM and req.room <= room_limit(req.op)
             and len(req.third) <= THIRD_ROOM and len(req.table or ()) <= WORDS_ROOM)
 
 
@@ -131,15 +139,34 @@ def output_line(call, req):
     return 'done %d %s' % (len(result), hex_or_dash(result + out[len(result):]))
 
 
-def append_line(req):
-    """The lent room has the batch at its start; of a longer batch it has what fits, and `used` says all."""
-    room = req.second[:req.room]
-    room += bytes([FILL]) * (req.room - len(room))
+def lent_room(req):
+    """A room with the batch at its start; of a longer batch it has what fits."""
+    return (req.second + bytes([FILL]) * (req.room - len(req.second)))[:req.room]
+
+
+def room_line(call, room):
+    """Append and add: the room is shown whole after the call, a refused one as it was."""
     try:
-        after, length = batches.append(req.schema, room, len(req.second), req.third)
+        after, length = call(room)
     except Refused as r:
         return '%s %s' % (refusal(r), hex_or_dash(room))
     return 'done %d %s' % (length, hex_or_dash(after))
+
+
+def append_line(req):
+    """`used` says how long the batch is, of which the room may have less."""
+    return room_line(lambda room: batches.append(req.schema, room, len(req.second), req.third), lent_room(req))
+
+
+def add_line(req):
+    """The chord stands in the value, its tick in the lower half; the window is the first step, 0 where there is none."""
+    keys, tick = divmod(req.value, 1 << 32)
+    window = req.steps[0] if req.steps else 0
+    return room_line(lambda room: strokes.add(room, len(req.second), strokes.Chord(tick, keys), window), lent_room(req))
+
+
+def numbers_line(numbers):
+    return ' '.join(map(str, ['done', len(numbers)] + numbers))
 
 
 def table_line(req):
@@ -200,6 +227,8 @@ def answer(req):
         return set_line(batches.set_leaf, req, req.room)
     if op == 'A':
         return append_line(req)
+    if op == 'L':
+        return add_line(req)
     try:
         if op == 'j':
             judge(schema)
@@ -218,6 +247,10 @@ def answer(req):
             return 'done'
         if op == 'g':
             return value_line(batches.read(schema, second, req.room, req.steps))
+        if op == 'R':
+            return numbers_line(strokes.numbers(second, req.room))
+        if op == 'C':
+            return 'chord %d %d' % strokes.chord_at(second, req.room)
     except batches.RowRefused as r:
         return '%s row %d' % (refusal(r), r.row)
     except Refused as r:

@@ -13,14 +13,16 @@ import rows
 import schemas
 from batch_requests import batch_scene
 from damage import bad_listing, bad_row, bad_schema, lengthened
+from log_requests import log_scene
 from making import Chooser, Contents, mark_bytes, root_cell, sound_schema, struct_tree
 from scenes import Scene, full_scene, mostly_leaf, path_for, room_for, setting_for, some_scene
 from schemas import BYTES, Null
 
 PORTION = 1000
 
-# The share of scenes that are about batches: about a quarter of the requests.
+# The shares of scenes that are about batches and about logs: about a quarter and a tenth of the requests.
 BATCHES = 0.25
+LOGS = 0.1
 
 
 def portion(seed, number):
@@ -46,8 +48,11 @@ class Maker:
 
     def scene(self):
         choose = self.choose
-        if choose.chance(BATCHES):
+        p = choose.random()
+        if p < BATCHES:
             return batch_scene(choose, self.before)
+        if p < BATCHES + LOGS:
+            return log_scene(choose)
         p = choose.random()
         if p < 0.06:
             return self.limit_scene()

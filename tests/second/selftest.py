@@ -16,11 +16,13 @@ import batches
 import cases
 import faults
 import layouts
+import log_checks
 import places
 import requests
 import rows
 import schemas
 import sequences
+import strokes
 import table
 import table_checks
 from batch_requests import bad_frames, batch_scene
@@ -384,6 +386,9 @@ def check_junk(rng):
     refusal(batches.fetch, schema, data, 0)
     refusal(batches.check, schema, data)
     refusal(batches.append, schema, data, rng.randrange(70), rng.randbytes(8))
+    refusal(strokes.add, data, rng.randrange(70), strokes.Chord(rng.getrandbits(32), 1), rng.randrange(1200))
+    refusal(strokes.numbers, bytes(3) + bytes([len(data)]) + data, 4)
+    refusal(strokes.chord_at, data, 0)
     refusal(batches.read, schema, bytes(3) + bytes([len(data)]) + data, 0, path)
     for setting in (None, ('null',), ('bool', 1), ('number', 5), ('float32', 1), ('bytes', b'x')):
         refusal(rows.set_leaf, schema, data, path, setting)
@@ -398,15 +403,19 @@ def main():
     print('%d cases hold' % len(cases.requests_and_answers()))
     print('%d places of single bits agree' % check_places())
     print('%d slips with tables are found' % table_checks.check_slips())
+    print('%d slips with logs are found' % log_checks.check_slips(log_checks.check_runs(args.seed)))
     choose = Chooser('selftest/%d' % args.seed)
     tally = dict.fromkeys(('places', 'damaged rows', 'of them sound', 'broken reads',
                            'rows of which all orders were tried', 'settings', 'of them done',
-                           'damaged listings', 'of them taken', 'requests about batches', 'batches taken apart'), 0)
+                           'damaged listings', 'of them taken', 'requests about batches', 'batches taken apart',
+                           'requests about logs', 'chords added'), 0)
     for number in range(args.scenes):
         check_scene(choose, tally)
         check_junk(choose)
         if number % 4 == 0:
             check_batch(choose, tally)
+        if number % 10 == 0:
+            log_checks.check_log(choose, tally)
     for number in range(3):
         for req in table_checks.check_requests(args.seed, number):
             check_numbers(req)

@@ -1,5 +1,5 @@
 #!/usr/bin/env python3
-"""The run that is kept beside the driver: each op, refusals with their bytes, a path of 17 steps, places, tables.
+"""The run that is kept beside the driver: each op, refusals with their bytes, a path of 17 steps, places, tables, stroke logs.
 
     stored.py            whether crates/drive/stdin and stdout are what is made here
     stored.py --write    write them
@@ -9,9 +9,12 @@ import pathlib
 import sys
 
 import answers
+import log_cases
 import places
 import table
 from answers import request
+from log_cases import adding
+from log_rows import crossed, framed
 from worked_tables import table_of
 
 DRIVE = pathlib.Path(__file__).resolve().parents[2] / 'crates' / 'drive'
@@ -26,6 +29,9 @@ CUT = TWO_ROWS[:-1]
 # The rest of the second row's slot is not zero, at that row's byte 12.
 BROKEN = SIX[:12] + b'\x01' + SIX[13:]
 BROKEN_ROW = ONE_ROW + bytes.fromhex('00000010') + BROKEN
+
+# A log of one row whose tick is null.
+NULL_TICK = framed(log_cases.WRONG_NULLS[4][1])
 
 
 def by_their_tables(*plain):
@@ -81,6 +87,22 @@ REQUESTS = (
     request('T', places.STROKES, room=6),
     request('T', b'x', room=1),
     request('T', places.STROKES),
+    adding(b'', log_cases.A, None, 52),
+    adding(log_cases.SMALL, (0, 9), 16, 153),
+    adding(log_cases.SMALL, (0, 9), 15, 180),
+    adding(log_cases.SMALL, (0, 9), 15, 179),
+    adding(log_cases.SMALL, (0, 9), 1001, 180),
+    adding(log_cases.SMALL, (0, 9), 16, 127),
+    adding(NULL_TICK, log_cases.A, 1001, 60),
+    request('R'),
+    request('R', second=log_cases.SMALL, room=6),
+    request('R', second=log_cases.SMALL, room=5),
+    request('R', second=framed(crossed(log_cases.A, log_cases.B)), room=17500),
+    request('R', second=NULL_TICK + b'\0', room=2),
+    request('R', second=NULL_TICK, room=2),
+    request('C', second=log_cases.SMALL, room=1),
+    request('C', second=log_cases.SMALL, room=2),
+    request('C', second=log_cases.SMALL, room=3),
 ) + by_their_tables(
     request('j', table.F_SCHEMA),
     request('c', table.H_SCHEMA, table.H_ROW),

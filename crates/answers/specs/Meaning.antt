@@ -38,6 +38,7 @@ numberOf (F.Layout p) = 7
 numberOf F.Unfit = 8
 numberOf F.Resize = 9
 numberOf F.Batch = 10
+numberOf F.Log = 11
 
 -- a refusal's length is 0 except for 4, which answers the length needed
 abbrev pub lengthOf : Refusal → ℕ
@@ -51,6 +52,7 @@ lengthOf (F.Layout p) = 0
 lengthOf F.Unfit = 0
 lengthOf F.Resize = 0
 lengthOf F.Batch = 0
+lengthOf F.Log = 0
 
 -- only 7 has a place
 abbrev pub placeOf : Refusal → ℕ
@@ -64,6 +66,7 @@ placeOf (F.Layout p) = p
 placeOf F.Unfit = 0
 placeOf F.Resize = 0
 placeOf F.Batch = 0
+placeOf F.Log = 0
 
 -- the number, and of a 7 the place
 abbrev pub refusalMeans : Refusal → N.Refusal
@@ -77,6 +80,7 @@ refusalMeans (F.Layout p) = N.brokenAt p
 refusalMeans F.Unfit = N.numbered 8
 refusalMeans F.Resize = N.numbered 9
 refusalMeans F.Batch = N.numbered 10
+refusalMeans F.Log = N.numbered 11
 
 -- ---- outcomes
 

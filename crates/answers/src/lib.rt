@@ -17,6 +17,7 @@ pub enum Refusal {
     Unfit,
     Resize,
     Batch,
+    Log,
 }
 
 pub enum Outcome {

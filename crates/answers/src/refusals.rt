@@ -17,6 +17,7 @@ pub fn number(r: Refusal) -> u8
         Refusal::Unfit => 8,
         Refusal::Resize => 9,
         Refusal::Batch => 10,
+        Refusal::Log => 11,
     }
 }
 
@@ -34,6 +35,7 @@ pub fn length(r: Refusal) -> usize
         Refusal::Unfit => 0,
         Refusal::Resize => 0,
         Refusal::Batch => 0,
+        Refusal::Log => 0,
     }
 }
 
@@ -51,5 +53,6 @@ pub fn place(r: Refusal) -> usize
         Refusal::Unfit => 0,
         Refusal::Resize => 0,
         Refusal::Batch => 0,
+        Refusal::Log => 0,
     }
 }

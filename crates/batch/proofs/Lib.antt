@@ -1,6 +1,6 @@
 -- The laws of batches, and what the functions' proofs cite.
-mod Sizes
-mod Framing
+pub mod Sizes
+pub mod Framing
 mod Ends
 pub mod Passing
 pub mod Taken

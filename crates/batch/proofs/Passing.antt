@@ -47,6 +47,10 @@ pub passed-start : (b : List ℕ) → Passed b 0 0
 unfolding framing
 passed-start b = record { rows = []; counts = refl; size = refl; high = omega arith; left = sym (joined-nil (framed b)) }
 
+pub start-rows : (b : List ℕ) → passed-start b .rows ≡ []
+unfolding passed-start
+start-rows b = refl
+
 -- a frame that has an end stands
 pub stands-of : {b : List ℕ} {at end : ℕ} → FrameEnd b at end → (end ≡ 0 → ⊥) → Stands b at end
 stands-of f n = f .stands (omega arith)
@@ -76,6 +80,10 @@ module _ {b : List ℕ} {at n : ℕ} (p : Passed b at n) where
             ∙ ap (joined (p .rows)) (framed-next (drop at b) row (drop end b) (s .row))
             ∙ joined-joined (p .rows) (row ∷ []) (framed (drop end b));
       }
+
+  pub next-rows : {end : ℕ} (s : Stands b at end) → passed-next s .rows ≡ p .rows ++ (part b (at + 4) (end - (at + 4)) ∷ [])
+  unfolding passed-next
+  next-rows s = refl
 
   pub passed-end : at ≡ length b → framed b ≡ some (p .rows)
   passed-end e =

@@ -8,7 +8,7 @@ use lib.ListN.{length, getD, set, length-reverse}
 use lib.Seq.{sets}
 use lib.Bits.{bitAnd, bitOr}
 use Rattle.words.specs.Bytes.{Bytes, empty, byte, le, num, part}
-use Rattle.words.proofs.Numbers.{length-le, num-le, le-num, num-lt, byte-at}
+use Rattle.words.proofs.Numbers.{length-le, num-le, le-num, num-lt, byte-at, bytes-le}
 use Rattle.words.proofs.Parts.{part-cons}
 use Rattle.words.proofs.Turns.{reads-one, reads-next, low-byte}
 use Rattle.batch.specs.Frames.{be, big}
@@ -20,6 +20,10 @@ bytes-turned (byte d h) k = bytes-turned h (byte d k)
 
 bytes-reverse : {b : List ℕ} → Bytes b → Bytes (reverse b)
 bytes-reverse h = bytes-turned h empty
+
+pub bytes-be : (w x : ℕ) → Bytes (be w x)
+unfolding be
+bytes-be w x = bytes-reverse (bytes-le w x)
 
 pub length-be : (w x : ℕ) → length (be w x) ≡ w
 unfolding be

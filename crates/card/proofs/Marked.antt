@@ -35,6 +35,7 @@ broken-means (F.Layout p) h = refl
 broken-means F.Unfit h = absurd (omega arith)
 broken-means F.Resize h = absurd (omega arith)
 broken-means F.Batch h = absurd (omega arith)
+broken-means F.Log h = absurd (omega arith)
 
 other-means : (f : Refusal) → (numberOf f ≡ 7 → ⊥) → refusalMeans f ≡ N.numbered (numberOf f)
 other-means F.Schema h = refl
@@ -47,6 +48,7 @@ other-means (F.Layout p) h = absurd (h refl)
 other-means F.Unfit h = refl
 other-means F.Resize h = refl
 other-means F.Batch h = refl
+other-means F.Log h = refl
 
 abbrev numberBy : Verdict → ℕ
 numberBy done = 0

@@ -3,6 +3,7 @@
 use mathlib.Core.Path.{_≡_, refl, _∙_, subst}
 use mathlib.Core.List.{List}
 use Prim.Native.Nat.{ℕ}
+use lib.ListN.{length}
 use Rattle.words.specs.Bytes.{Bytes}
 use Rattle.layout.specs.Reading.{Answer}
 use Rattle.layout.specs.Setting.{Setting, refusalIn}
@@ -21,8 +22,14 @@ use Rattle.batch.specs.Entries.{Fetching, range, Checking, countOf, fetchOf, ap
 use Rattle.batch.specs.Meaning.{Appends}
 use Rattle.batch.proofs.Low as P
 use Rattle.batch.proofs.Single.{numbered-read}
+use Rattle.strokes.specs.declared.rows.Chord.{Chord}
+use Rattle.strokes.specs.Entries as S
+use Rattle.strokes.specs.Entries.{addOf, addedOf, readInto, Reading, is, chordOf}
+use Rattle.strokes.specs.Meaning.{Adds, ReadsAll}
+use Rattle.strokes.proofs.Low as L
 use Rattle.codes.specs.Batch.{countRefusal, countWords, fetchRefusal, fetchWords, checkRefusal, checkCode, checkWords}
 use Rattle.codes.specs.Batch.{appendCode, appendWords, Beside, AppendsTo}
+use Rattle.codes.specs.Log.{chordRefusal, chordWords}
 use Rattle.codes.specs.Codes.{Halved}
 use Rattle.codes.specs.Steps.{Taken}
 use Rattle.codes.specs.Words.{Told, Tells}
@@ -74,6 +81,18 @@ read-in-known s b k p e = rw e (numbered-read s b k p, P.read-low s b k p)
 pub set-in-known : (s b : List ℕ) (k : ℕ) (p : List ℕ) (x : Setting) {v : Verdict} → v ≡ setVerdict (B.setOf s b k p x) → LowVerdict 16384 v
 set-in-known s b k p x e = rw e (P.set-low s b k p x)
 
+-- ---- the entries of a log
+
+pub add-known : (room : List ℕ) (used : ℕ) (c : Chord) (window : ℕ) {z : Sized} → z ≡ addOf room used c window → LowSized 16384 z
+add-known room used c window e = rw e (L.add-low room used c window)
+
+pub all-known : (log : List ℕ) (room : ℕ) {z : Sized} → z ≡ S.readOf log room → LowSized 16384 z
+all-known log room e = rw e (L.read-low log room)
+
+pub chord-known : (log : List ℕ) (n : ℕ) {z : Reading} → z ≡ chordOf log n → LowIn 16384 (chordRefusal z)
+chord-known log n {z = is c} e = tt
+chord-known log n {z = S.refused r} e = L.chord-low log n e
+
 -- ---- told as theirs
 
 module _ {out out′ : List ℕ} {r : ℕ} where
@@ -86,10 +105,26 @@ module _ {out out′ : List ℕ} {r : ℕ} where
   pub rows-as : {z z′ : Checking} → z ≡ z′ → Beside (checkCode z) (checkWords z) out r out′ → Beside (checkCode z′) (checkWords z′) out r out′
   rows-as e t = subst (λ (y : Checking). Beside (checkCode y) (checkWords y) out r out′) e t
 
+  sized-as : {z z′ : Sized} → z ≡ z′ → Beside (appendCode z) (appendWords z) out r out′ → Beside (appendCode z′) (appendWords z′) out r out′
+  sized-as e t = subst (λ (y : Sized). Beside (appendCode y) (appendWords y) out r out′) e t
+
   pub append-as : {s room : List ℕ} {used : ℕ} {row : List ℕ} {l : Length} {room′ : List ℕ} → Appends s room used row l room′
       → Beside (appendCode (lengthMeans l)) (appendWords (lengthMeans l)) out r out′
       → AppendsTo (appendOf s room used row) (appendedOf s room used row) out r room′ out′
-  append-as a t = record { tells = subst (λ (y : Sized). Beside (appendCode y) (appendWords y) out r out′) (a .answers) t; leaves = a .leaves }
+  append-as a t = record { tells = sized-as (a .answers) t; leaves = a .leaves }
+
+  pub add-as : {room : List ℕ} {used : ℕ} {c : Chord} {window : ℕ} {l : Length} {room′ : List ℕ} → Adds room used c window l room′
+      → Beside (appendCode (lengthMeans l)) (appendWords (lengthMeans l)) out r out′
+      → AppendsTo (addOf room used c window) (addedOf room used c window) out r room′ out′
+  add-as a t = record { tells = sized-as (a .answers) t; leaves = a .leaves }
+
+  pub all-as : {log u : List ℕ} {l : Length} {u′ : List ℕ} → ReadsAll log u l u′
+      → Beside (appendCode (lengthMeans l)) (appendWords (lengthMeans l)) out r out′
+      → AppendsTo (S.readOf log (length u)) (readInto log u) out r u′ out′
+  all-as a t = record { tells = sized-as (a .answers) t; leaves = a .leaves }
+
+  pub chord-as : {z z′ : Reading} → z ≡ z′ → Told 2 (chordRefusal z) (chordWords z) out r out′ → Told 2 (chordRefusal z′) (chordWords z′) out r out′
+  chord-as e t = subst (λ (y : Reading). Told 2 (chordRefusal y) (chordWords y) out r out′) e t
 
   module _ {l : List ℕ} {p : Path} (t : Taken l p) {a : Answer} where
     pub read-as : (s row : List ℕ) → a ≡ readOf s row (pathOf p) → Tells a out r out′ → Tells (readOf s row l) out r out′

@@ -56,6 +56,7 @@ words-none (F.Layout p) h = refl
 words-none F.Unfit h = refl
 words-none F.Resize h = refl
 words-none F.Batch h = refl
+words-none F.Log h = refl
 
 words-one : (r : Refusal) → numberOf r ≡ 4 → appendWords (refusedWith (refusalMeans r) (lengthOf r)) ≡ lengthOf r ∷ []
 words-one F.Schema h = absurd (omega arith)
@@ -68,6 +69,7 @@ words-one (F.Layout p) h = absurd (omega arith)
 words-one F.Unfit h = absurd (omega arith)
 words-one F.Resize h = absurd (omega arith)
 words-one F.Batch h = absurd (omega arith)
+words-one F.Log h = absurd (omega arith)
 
 -- ---- counting, fetching, checking
 

@@ -53,7 +53,7 @@ checkWords B.done = []
 checkWords (B.refused r) = []
 checkWords (B.refusedRow k r) = k ∷ []
 
--- the batch's new length; with 4 the length needed
+-- the batch's new length, of a log its new length or how many numbers it has; with 4 the length needed
 abbrev pub appendCode : Sized → ℕ
 appendCode (takes n) = 0
 appendCode (refusedWith r k) = refusalCode r
@@ -68,7 +68,7 @@ pub record Beside (code : ℕ) (words out : List ℕ) (r : ℕ) (out′ : List �
   pub answers : r ≡ code
   pub leaves : out′ ≡ sets out 0 words
 
--- appending, with the room after
+-- appending, with the room after; of reading a log, the lent numbers after
 pub record AppendsTo (z : Sized) (after out : List ℕ) (r : ℕ) (room′ out′ : List ℕ) : Type 0 where
   pub tells : Beside (appendCode z) (appendWords z) out r out′
   pub leaves : room′ ≡ after

@@ -4,4 +4,5 @@ pub mod Words
 pub mod Steps
 pub mod Asked
 pub mod Batch
+pub mod Log
 pub mod Unique

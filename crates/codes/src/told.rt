@@ -8,8 +8,10 @@ ghost use Rattle.layout.specs.Entries.{refusedWith};
 ghost use Rattle.answers.specs.Meaning.{refusalMeans, lengthOf, lengthMeans, meaning, Numbered};
 ghost use Rattle.batch.specs.Meaning.{countMeans, fetchMeans, checkMeans};
 ghost use Rattle.row.specs.Outcomes.{Low, LowIn, LowSized};
+ghost use Rattle.strokes.specs.Meaning.{chordMeans};
 ghost use Rattle.codes.specs.Batch.{countRefusal, countWords, fetchRefusal, fetchWords};
 ghost use Rattle.codes.specs.Batch.{checkRefusal, checkCode, checkWords, appendCode, appendWords, Beside};
+ghost use Rattle.codes.specs.Log.{chordRefusal, chordWords};
 ghost use Rattle.codes.specs.Words.{Told, Tells};
 use crate::refusal_code;
 use answers::Answer;
@@ -19,6 +21,7 @@ use answers::floats;
 use batch::Checked;
 use batch::Counted;
 use batch::Fetched;
+use strokes::Struck;
 
 fn put_one(answer: &mut [u64], a: u64) -> u64
     ensures { λ r. ⌜ Told 1 none (a ∷ []) (now (answer .entry)) r (now (answer .exit)) ⌝ }
@@ -119,6 +122,17 @@ pub fn fetched(answer: &mut [u64], f: Fetched) -> u64
     }
 }
 
+// A chord's tick and its keys in two.
+pub fn struck(answer: &mut [u64], s: Struck) -> u64
+    requires { ⌜ LowIn 16384 (chordRefusal (chordMeans s)) ⌝ }
+    ensures { λ r. ⌜ Told 2 (chordRefusal (chordMeans s)) (chordWords (chordMeans s)) (now (answer .entry)) r (now (answer .exit)) ⌝ }
+{
+    match s {
+        Struck::Chord(c) => put_two(answer, c.tick as u64, c.keys as u64),
+        Struck::Refused(r) => refusal_code(r),
+    }
+}
+
 // The number of the row that is refused, beside its code.
 pub fn checked(answer: &mut [u64], c: Checked) -> u64
     requires { ⌜ LowIn 16384 (checkRefusal (checkMeans c)) ⌝ }
@@ -134,7 +148,7 @@ pub fn checked(answer: &mut [u64], c: Checked) -> u64
     }
 }
 
-// The batch's new length beside the code 0; with 4 the length needed.
+// The batch's or the log's new length, or how many numbers were read, beside the code 0; with 4 the length needed.
 pub fn appended(answer: &mut [u64], l: Length) -> u64
     requires { ⌜ LowSized 16384 (lengthMeans l) ⌝ }
     ensures { λ r. ⌜ Beside (appendCode (lengthMeans l)) (appendWords (lengthMeans l)) (now (answer .entry)) r (now (answer .exit)) ⌝ }

@@ -1,5 +1,6 @@
 // One call of the library for each op, and its line. Each answers where the line ends: 0 where there is none.
 use crate::calls_by;
+use crate::calls_log;
 use crate::requests::Head;
 ghost use Prim.Native.Nat.{_≤_};
 ghost use lib.ListN.{length};
@@ -59,7 +60,7 @@ fn at_most(n: usize, most: usize) -> usize
     if n < most { n } else { most }
 }
 
-// A batch laid over the start of a room; a longer one is cut.
+// A batch or a log laid over the start of a room; a longer one is cut.
 pub fn lay(out: &mut [u8], bytes: &[u8]) {
     fill(out);
     let n = at_most(bytes.len(), out.len());
@@ -167,6 +168,9 @@ fn answer_plain<'a>(
         b'A' => append(line, schema, second, third, &mut out[0..room]),
         b'g' => telling::answer(line, batch::read(schema, second, room, path_of(steps))),
         b'T' => work_out(line, schema, room),
+        b'L' => calls_log::add(line, second, h.value, steps, &mut out[0..room]),
+        b'R' => calls_log::read(line, second, room),
+        b'C' => telling::struck(line, strokes::chord(second, room)),
         _ => 0,
     }
 }

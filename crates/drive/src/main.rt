@@ -4,6 +4,7 @@ ghost use lib.ListN.{length};
 
 mod calls;
 mod calls_by;
+mod calls_log;
 mod requests;
 
 // More requests than any run holds: the loop counts them, so that it ends on every input.

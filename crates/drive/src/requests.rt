@@ -21,7 +21,8 @@ const NO_TABLE: usize = WORDS + 1;
 // The bit of a kind that says: by a table.
 const BY_TABLE: u8 = 0x80;
 
-// The lengths count bytes, `steps` the steps of 4 bytes each, and `room` the bytes lent for an output, or the words for a table.
+// The lengths count bytes, `steps` the steps of 4 bytes each, and `room` the bytes lent for an output, the words for a table, or the numbers
+// for a log's chords.
 pub struct Head {
     pub op: u8,
     pub schema: usize,

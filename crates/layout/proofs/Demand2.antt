@@ -44,7 +44,7 @@ use Rattle.layout.proofs.Rooms.{lists-as, writes-as, write-from, list-o
 
 -- ---- a listing's image
 
-image-is : (s l : List ℕ) (c : Cell) → length l ≤ 65536 → parse (ro (fieldsOf s)) l ≡ some c → imageOf s l ≡ some (content (ro (fieldsOf s)) c)
+pub image-is : (s l : List ℕ) (c : Cell) → length l ≤ 65536 → parse (ro (fieldsOf s)) l ≡ some c → imageOf s l ≡ some (content (ro (fieldsOf s)) c)
 unfolding imageOf
 image-is s l c h e = rw (assert-yes (decLe (length l) 65536) h, e)
 

@@ -235,7 +235,7 @@ unfolding must
 must-yes (yes p) n s h = refl
 must-yes (no q) n s h = absurd (q h)
 
-struct-room : (ts : Tys) (c : Cell) (b : List ℕ) → Lays (ro ts) c b → front 0 8 (count ts) ≤ length b
+pub struct-room : (ts : Tys) (c : Cell) (b : List ℕ) → Lays (ro ts) c b → front 0 8 (count ts) ≤ length b
 unfolding codec struct
 struct-room ts c b y = rw (← (kids-count ts)) (omega (arith, body-total 0 8 (kids ts) (kids-lawful ts) (parts c) b (y .body)))
 

@@ -1,4 +1,4 @@
--- The place of a fault lies in the row, or right behind it. Assumes nothing.
+-- The place of a fault, and where a walk ends, lie in the row, or right behind it. Assumes nothing.
 use mathlib.Core.Path.{_≡_}
 use mathlib.Core.Option.{Option, none, some, Option·some-injective, Option·none-ne-some}
 use mathlib.Core.List.{List, [], _∷_}
@@ -36,7 +36,7 @@ Small N (brokenAt q) = q ≤ N
 pub data Close (N : ℕ) : Seen → Type 0 where
   refuses : {r : Refusal} → Small N r → Close N (bad r)
   absent : {z : Seat} → Close N (nullAt z)
-  present : {z : Seat} {o : ℕ} {b : List ℕ} → Close N (seen z o b)
+  present : {z : Seat} {o : ℕ} {b : List ℕ} → o ≤ N → Close N (seen z o b)
 
 data CloseStep (N : ℕ) : Step → Type 0 where
   refuses : {r : Refusal} → Small N r → CloseStep N (stop r)
@@ -123,7 +123,7 @@ module _ (N : ℕ) where
 
   pub walk-close : (p : List ℕ) (t : Ty) (z : Seat) (o : ℕ) (b : List ℕ) → z .slot ≤ N → o + length b ≤ N → Close N (walk p t z o b)
   unfolding walk
-  walk-close [] t z o b s h = own-close t z o b _ s h λ _. Close.present
+  walk-close [] t z o b s h = own-close t z o b _ s h λ _. Close.present (omega arith)
   walk-close (i ∷ p) t z o b s h =
       own-close t z o b _ s h λ k. on-close p (λ t s o b. walk p t s o b) (λ t z o b s h. walk-close p t z o b s h) (stepIn t i z o b)
       (step-close t i z o b h k)

@@ -1,4 +1,5 @@
--- A place in an answer of an entry is at most N, where a row that is not too long has at most N bytes. Assumes nothing.
+-- A place in an answer of an entry is at most N, where a row that is not too long has at most N bytes; and the range in an answer of reading
+-- starts within the row. Assumes nothing.
 use mathlib.Core.Path.{_≡_, refl}
 use mathlib.Core.Bool.{Bool, true, false, cond}
 use mathlib.Core.Option.{Option, none, some}
@@ -15,6 +16,7 @@ use Rattle.layout.specs.Refusals.{Refusal, numbered, brokenAt}
 use Rattle.layout.specs.Layout.{faultAt}
 use Rattle.layout.specs.Walk.{Seen, rootSeat}
 use Rattle.layout.specs.Reading.{Answer, valueOf, placed, answerOf, found, readIn}
+use Rattle.layout.specs.Places.{startOf}
 use Rattle.layout.specs.Setting.{Setting, isSome, orEmpty, unless, _or_, refusalIn, suits, keeps, judgeAt, Outcome, outcome, setIn}
 use Rattle.layout.specs.Entries.{verdict, isAccepted, schemaBad, rowLong, broken, layoutBad, listingBad, judgeOf, checkOf, readAfter, readOf}
 use Rattle.layout.specs.Entries.{takes, refusedWith, sizedAfter, imageOf, writeOf, listingOf, listOf, setAfter, setOf, setVerdict}
@@ -108,11 +110,11 @@ module _ (N : ℕ) where
     seen-low h t v (Close.refuses {r = numbered n} q) = tt
     seen-low h t v (Close.refuses {r = brokenAt j} q) = omega (arith, k h)
     seen-low h t v Close.absent = tt
-    seen-low h (fix f) v (Close.present {b = b}) = value-low f b
-    seen-low h (text t) v Close.present = tt
-    seen-low h (li t) v Close.present = tt
-    seen-low h (ma a w) v Close.present = tt
-    seen-low h (ro ts) v Close.present = tt
+    seen-low h (fix f) v (Close.present {b = b} _) = value-low f b
+    seen-low h (text t) v (Close.present _) = tt
+    seen-low h (li t) v (Close.present _) = tt
+    seen-low h (ma a w) v (Close.present _) = tt
+    seen-low h (ro ts) v (Close.present _) = tt
 
     found-low : length row ≤ 16384 → (o : Option Ty) (v : Seen) → Close (length row) v → LowIn N (refusalIn (found o v))
     unfolding found refusalIn
@@ -171,3 +173,42 @@ module _ (N : ℕ) where
       (low-or (schemaBad s) (listingBad s l or rowLong (orEmpty (imageOf s l))) (schema-low s)
       (low-or (listingBad s l) (rowLong (orEmpty (imageOf s l))) (low-unless (isSome (imageOf s l)) 2)
       (low-unless (leb (length (orEmpty (imageOf s l))) 16384) 3)))
+
+-- ---- where the range in an answer of reading starts
+
+module _ {N : ℕ} where
+  value-start : (f : Fixed) (b : List ℕ) → startOf (valueOf f b) ≤ N
+  unfolding valueOf startOf
+  value-start bo b = omega arith
+  value-start i1 b = omega arith
+  value-start i2 b = omega arith
+  value-start i4 b = omega arith
+  value-start i8 b = omega arith
+  value-start f4 b = omega arith
+  value-start f8 b = omega arith
+
+  seen-start : (t : Ty) (v : Seen) → Close N v → startOf (answerOf t v) ≤ N
+  unfolding answerOf startOf
+  seen-start t v (Close.refuses q) = omega arith
+  seen-start t v Close.absent = omega arith
+  seen-start (fix f) v (Close.present {b = b} q) = value-start f b
+  seen-start (text t) v (Close.present q) = q
+  seen-start (li t) v (Close.present q) = q
+  seen-start (ma a w) v (Close.present q) = q
+  seen-start (ro ts) v (Close.present q) = q
+
+  found-start : (o : Option Ty) (v : Seen) → Close N v → startOf (found o v) ≤ N
+  unfolding found startOf
+  found-start none v c = omega arith
+  found-start (some t) v c = seen-start t v c
+
+  after-start : (r : Option Refusal) (a : Answer) → startOf a ≤ N → startOf (readAfter r a) ≤ N
+  unfolding startOf
+  after-start none a h = h
+  after-start (some r) a h = omega arith
+
+pub read-start : (s row p : List ℕ) → startOf (readOf s row p) ≤ length row
+unfolding readOf readIn
+read-start s row p =
+    after-start (schemaBad s or rowLong row) (readIn (fieldsOf s) row p)
+    (found-start (placed p (ro (fieldsOf s))) _ (walk-close (length row) p (ro (fieldsOf s)) rootSeat 0 row (omega arith) (omega arith)))

@@ -7,6 +7,7 @@ use answers::refusals;
 use batch::Checked;
 use batch::Counted;
 use batch::Fetched;
+use strokes::Struck;
 
 mod lines;
 
@@ -144,6 +145,32 @@ pub fn length(line: &mut [u8], l: Length, out: &[u8]) -> usize {
             let end = lines::put_byte(line, end, b' ');
             lines::put_bytes(line, end, out)
         }
+    }
+}
+
+// How many of the lent numbers there are, and each of these; or a refusal.
+pub fn numbers(line: &mut [u8], l: Length, out: &[u32]) -> usize {
+    match l {
+        Length::Done(n) => {
+            let end = lines::put_text(line, 0, b"done");
+            let end = lines::put_number(line, end, n as u64);
+            if out.len() < n {
+                return end;
+            }
+            lines::put_numbers(line, end, &out[0..n])
+        }
+        Length::Refused(r) => refused(line, r),
+    }
+}
+
+pub fn struck(line: &mut [u8], s: Struck) -> usize {
+    match s {
+        Struck::Chord(c) => {
+            let end = lines::put_text(line, 0, b"chord");
+            let end = lines::put_number32(line, end, c.tick);
+            lines::put_number32(line, end, c.keys)
+        }
+        Struck::Refused(r) => refused(line, r),
     }
 }
 

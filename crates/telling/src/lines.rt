@@ -25,6 +25,11 @@ pub fn put_number(line: &mut [u8], at: usize, n: u64) -> usize {
     put_decimal(line, start, n)
 }
 
+// The same for a number of 32 bits.
+pub fn put_number32(line: &mut [u8], at: usize, n: u32) -> usize {
+    put_number(line, at, n as u64)
+}
+
 fn put_decimal(line: &mut [u8], at: usize, n: u64) -> usize {
     let mut digits = [0u8; 20];
     let k = io::decimal(n, &mut digits);
@@ -86,6 +91,17 @@ pub fn put_words(line: &mut [u8], at: usize, table: &[u64]) -> usize {
     let mut i = 0;
     while i < table.len() {
         end = put_hex(line, end, table[i], 16);
+        i += 1;
+    }
+    end
+}
+
+// A space and the decimal digits for each number.
+pub fn put_numbers(line: &mut [u8], at: usize, numbers: &[u32]) -> usize {
+    let mut end = at;
+    let mut i = 0;
+    while i < numbers.len() {
+        end = put_number32(line, end, numbers[i]);
         i += 1;
     }
     end

@@ -1,0 +1,17 @@
+-- The laws of logs, and what the functions' proofs cite.
+pub mod Readings
+pub mod Judging
+pub mod RowLaws
+pub mod PlainRows
+pub mod Numbers
+pub mod Logs
+pub mod Adding
+pub mod Listed
+pub mod Walks
+pub mod Entering
+pub mod Demanded
+pub mod Growing
+pub mod Running
+pub mod Kept
+pub mod Cases
+pub mod Low
