@@ -21,7 +21,8 @@ use Rattle.batch.specs.Entries as B
 use Rattle.batch.specs.Places.{joined}
 use Rattle.batch.specs.Batches.{AllChecked, checkedNone, checkedRow, AppendAll, stay, next}
 use Rattle.batch.proofs.Framing.{framing-append, framing-one, framed-on, framed-back, framed-forth}
-use Rattle.batch.proofs.Taken.{or-none, schema-of, rows-of, check-row-is, from-done, sized-of}
+use Rattle.layout.proofs.Entered.{or-none}
+use Rattle.batch.proofs.Taken.{schema-of, rows-of, check-row-is, from-done, sized-of}
 use Rattle.batch.proofs.Added.{row-small, lent-is}
 use Rattle.batch.proofs.Accepting.{sound}
 

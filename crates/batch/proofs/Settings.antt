@@ -22,7 +22,8 @@ use Rattle.batch.specs.Entries.{orNone, rowsOf, rowOf, startOf, noRow, r
 use Rattle.batch.specs.Entries as B
 use Rattle.batch.specs.Batches.{Fetches, SetsRow, SameRow, Meet}
 use Rattle.batch.proofs.Framing.{framed-back, framed-forth}
-use Rattle.batch.proofs.Taken.{or-none, there-of, check-row-is, fetch-of, set-of, within-of, set-long, row-part, row-sets, before, behind}
+use Rattle.layout.proofs.Entered.{or-none}
+use Rattle.batch.proofs.Taken.{there-of, check-row-is, fetch-of, set-of, within-of, set-long, row-part, row-sets, before, behind}
 use Rattle.batch.proofs.Taken.{before-long, rows-lie, set-lie, framable-set, framable-at}
 use Rattle.batch.proofs.Orders.{read-there, set-there}
 use Rattle.batch.proofs.Accepting.{sound, done, checked-at, checked-set}

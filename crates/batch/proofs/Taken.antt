@@ -22,16 +22,13 @@ use Rattle.layout.specs.Walk.{Seat, Seen, bad, nullAt, seen}
 use Rattle.layout.specs.Setting.{Setting, isNull, inBytes, orEmpty, textOf, unless, _or_, writeFixed, write, writeAt, outcome, setIn, Outcome, refuses, becomes}
 use Rattle.layout.specs.Entries.{verdict, takes, refusedWith, schemaBad, rowLong, setAfter, sizedAfter, checkOf as rowCheck, setOf as rowSet}
 use Rattle.layout.specs.Entries as E
+use Rattle.layout.proofs.Entered.{or-none}
 use Rattle.batch.specs.Frames.{be, frame, framing, Framable, noRows, another, framed}
 use Rattle.batch.specs.Entries.{rowsOf, batchBad, rowMissing, noRow, rowBad, range, fetchAfter, within}
 use Rattle.batch.proofs.Sizes.{length-be}
 use Rattle.batch.proofs.Framing.{framing-append}
 
 -- ---- what no refusal shows
-
-pub or-none : (a b : Option N.Refusal) → (a or b) ≡ none → (a ≡ none) × (b ≡ none)
-or-none none b e = (refl, e)
-or-none (some n) b e = let z : _≡_ {A = ℕ} 0 1 = cc in absurd (omega arith)
 
 unless-none : (v : Bool) (n : ℕ) → unless v n ≡ none → v ≡ true
 unless-none true n e = refl

@@ -22,7 +22,7 @@ use Rattle.batch.specs.Entries.{Fetching, range, Checking, countOf, fetchOf, ap
 use Rattle.batch.specs.Meaning.{Appends}
 use Rattle.batch.proofs.Low as P
 use Rattle.batch.proofs.Single.{numbered-read}
-use Rattle.strokes.specs.declared.rows.Chord.{Chord}
+use Rattle.chords.specs.declared.Chord.{Chord}
 use Rattle.strokes.specs.Entries as S
 use Rattle.strokes.specs.Entries.{addOf, addedOf, readInto, Reading, is, chordOf}
 use Rattle.strokes.specs.Meaning.{Adds, ReadsAll}

@@ -32,7 +32,7 @@ use Rattle.batch.specs.Entries.{rowOf, startOf, batchBad, rowMissing, noRow, ro
 use Rattle.batch.specs.Meaning.{countMeans, fetchMeans, checkMeans}
 use Rattle.row.specs.Outcomes.{Low, LowIn, LowSized}
 use Rattle.row.proofs.Low.{read-after}
-use Rattle.batch.proofs.Taken.{or-none}
+use Rattle.layout.proofs.Entered.{or-none}
 use Rattle.codes.specs.Asked.{orEight, unfitOf, Leaves}
 use Rattle.codes.specs.Batch.{countRefusal, countWords, fetchRefusal, fetchWords, checkRefusal, checkCode, checkWords}
 use Rattle.codes.specs.Batch.{appendCode, appendWords, Beside, orElse, unfitIn, setAskedIn}

@@ -5,7 +5,7 @@ use mathlib.Core.List.{List, [], _∷_}
 use Prim.Native.Nat.{ℕ}
 use Rattle.answers.specs.declared.Refusal.{Refusal}
 use Rattle.answers.specs.Meaning.{refusalMeans}
-use Rattle.strokes.specs.declared.rows.Chord.{Chord}
+use Rattle.chords.specs.declared.Chord.{Chord}
 use Rattle.strokes.specs.declared.Struck.{Struck}
 use Rattle.strokes.specs.declared.Struck.the-variants as K
 use Rattle.strokes.specs.Meaning.{chordMeans}

@@ -1,7 +1,7 @@
 // The entries of `strokes` under C names. A log's length and a number of numbers may be over 32 bits, so they stand in a word lent beside the
 // code; a chord stands in two.
 ghost use lib.ListN.{length};
-ghost use Rattle.strokes.specs.Chords.{chord};
+ghost use Rattle.chords.specs.Chords.{chord};
 ghost use Rattle.strokes.specs.Entries.{addOf, addedOf, readOf, readInto, chordOf};
 ghost use Rattle.codes.specs.Batch.{AppendsTo};
 ghost use Rattle.codes.specs.Log.{chordRefusal, chordWords};

@@ -1,7 +1,7 @@
 -- What the entries say of an accepted schema, and of an accepted row. Assumes nothing.
 use mathlib.Core.Path.{_≡_, refl}
 use mathlib.Core.Bool.{Bool, true, false}
-use mathlib.Core.Option.{some}
+use mathlib.Core.Option.{Option, none, some}
 use mathlib.Core.List.{List}
 use Prim.Native.Nat.{ℕ, _≤_}
 use native.Mathlib.Omega.{arith}
@@ -23,6 +23,11 @@ use Rattle.layout.specs.Setting.{Setting, _or_, unless, setIn}
 use Rattle.layout.specs.Entries.{verdict, done, refused, broken, judgeOf, checkOf, readOf, setOf}
 use Rattle.layout.proofs.Faults.{got-some, no-fault}
 use Rattle.layout.proofs.After as After
+
+-- two that together refuse nothing
+pub or-none : (a b : Option Refusal) → (a or b) ≡ none → (a ≡ none) × (b ≡ none)
+or-none none b e = (refl, e)
+or-none (some n) b e = let z : _≡_ {A = ℕ} 0 1 = cc in absurd (omega arith)
 
 clash-done : (n : Refusal) → refused n ≡ done → ⊥
 clash-done n e = let z : _≡_ {A = ℕ} 0 1 = cc in omega arith

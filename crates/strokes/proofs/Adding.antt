@@ -24,14 +24,15 @@ use Rattle.answers.specs.Meaning.{refusalMeans, lengthOf, lengthMeans}
 use Rattle.batch.specs.Frames.{be, frame, framing, framed}
 use Rattle.batch.specs.Entries.{orNone, rowsOf, framedAt}
 use Rattle.batch.specs.Places.{PutsRow}
-use Rattle.batch.proofs.Taken.{or-none}
+use Rattle.layout.proofs.Entered.{or-none}
 use Rattle.batch.proofs.Sizes.{length-be}
 use Rattle.batch.proofs.Framing.{length-frame, framing-append, framing-one, framed-forth}
-use Rattle.strokes.specs.declared.rows.Chord.{Chord}
-use Rattle.strokes.specs.Chords.{rowFor, noStroke, chordAt, rowBad}
+use Rattle.chords.specs.declared.Chord.{Chord}
+use Rattle.chords.specs.Chords.{rowFor, noStroke, chordAt, rowBad}
 use Rattle.strokes.specs.Log.{rowsBad, gap, joins, added}
 use Rattle.strokes.specs.Entries.{heldAfter}
-use Rattle.strokes.specs.Places.{Keeps, PutsFrame, butLast, Ends, AddsTo}
+use Rattle.chords.specs.Places.{Keeps}
+use Rattle.strokes.specs.Places.{PutsFrame, butLast, Ends, AddsTo}
 use Rattle.strokes.proofs.Logs.{bad-append, bad-one, but-last, rowAt}
 
 -- ---- the gap

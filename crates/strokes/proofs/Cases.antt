@@ -20,8 +20,8 @@ use Rattle.layout.specs.Reading.{typeAlong, placed, valueOf, answerOf, found, r
 use Rattle.layout.specs.Entries.{readOf as rowRead, imageOf}
 use Rattle.batch.specs.Frames.{be, big, frame, framing, first, frames, framesIn, framed}
 use Rattle.batch.specs.Entries.{lentRows}
-use Rattle.strokes.specs.Chords.{schema, listed, rowFor, noStroke, noNumber, strokeStart, chordAt, chordsIn, nullsBad, rowBad}
-use Rattle.strokes.specs.Log.{chordsOf, rowsBad, gap, joins, added}
+use Rattle.chords.specs.Chords.{schema, listed, rowFor, noStroke, noNumber, strokeStart, chordAt, nullsBad, rowBad}
+use Rattle.strokes.specs.Log.{chordsIn, chordsOf, rowsBad, gap, joins, added}
 use Rattle.strokes.specs.Entries.{logWith, addOf, addedOf, numbersOf, readOf, readInto, chordOf}
 use Rattle.strokes.specs.Table.{Table}
 

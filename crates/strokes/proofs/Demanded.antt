@@ -18,10 +18,10 @@ use Rattle.row.proofs.Among.{not-among}
 use Rattle.row.proofs.Demand1.{Among, nothing, one, among-or, unless-among}
 use Rattle.batch.specs.Frames.{framed}
 use Rattle.batch.specs.Entries.{rowsOf, lentRows}
-use Rattle.strokes.specs.declared.rows.Chord.{Chord}
+use Rattle.chords.specs.declared.Chord.{Chord}
 use Rattle.strokes.specs.declared.Struck.{Struck}
 use Rattle.strokes.specs.declared.Struck.the-variants as K
-use Rattle.strokes.specs.Chords.{chord}
+use Rattle.chords.specs.Chords.{chord}
 use Rattle.strokes.specs.Log.{chordsOf, logBad, windowBad}
 use Rattle.strokes.specs.Entries as S
 use Rattle.strokes.specs.Entries.{heldAfter, logWith, addOf, addedOf, numbersIn, readOf, readInto, Reading, chordAfter, chordMissing, chordOf}

@@ -19,11 +19,11 @@ use Rattle.answers.specs.Meaning.{refusalMeans, lengthOf, lengthMeans}
 use Rattle.batch.specs.Frames.{framing, framed}
 use Rattle.batch.specs.Entries.{rowsOf}
 use Rattle.batch.proofs.Added.{lent-none, lent-is}
-use Rattle.strokes.specs.declared.rows.Chord.{Chord}
+use Rattle.chords.specs.declared.Chord.{Chord}
 use Rattle.strokes.specs.declared.Judged.{Judged}
 use Rattle.strokes.specs.declared.Judged.the-variants as J
 use Rattle.strokes.specs.declared.Struck.the-variants as K
-use Rattle.strokes.specs.Chords.{chord}
+use Rattle.chords.specs.Chords.{chord}
 use Rattle.strokes.specs.Log.{chordsOf, logBad, added}
 use Rattle.strokes.specs.Entries.{heldAfter, logWith, addOf, addedOf, numbersIn, readOf, readInto, chordOf}
 use Rattle.strokes.specs.Meaning.{Adds, ReadsAll, chordMeans}

@@ -14,14 +14,14 @@ use Rattle.words.proofs.Numbers.{bytes-append, bytes-take, bytes-drop, num-lt}
 use Rattle.words.proofs.Parts.{bytes-part, length-part}
 use Rattle.layout.specs.Setting.{_or_}
 use Rattle.batch.specs.Frames.{be, frame, framing, Framable, noRows, another}
-use Rattle.batch.proofs.Taken.{or-none}
+use Rattle.layout.proofs.Entered.{or-none}
 use Rattle.batch.proofs.Sizes.{bytes-be}
-use Rattle.strokes.specs.declared.rows.Chord.{Chord}
-use Rattle.strokes.specs.Chords.{Proper, rowFor, noStroke, chordAt, chordsIn, rowBad}
-use Rattle.strokes.specs.Log.{chordsOf, rowsBad, gap, joins, added}
-use Rattle.strokes.specs.Places.{Keeps}
-use Rattle.strokes.proofs.Readings.{startIn, no-stroke, stroke, keeps-checked, keeps-nulls}
-use Rattle.strokes.proofs.RowLaws.{SecondProper, one-long, two-long, row-bytes, row-sound, row-free, row-full, row-first, row-second}
+use Rattle.chords.specs.declared.Chord.{Chord}
+use Rattle.chords.specs.Chords.{Proper, rowFor, noStroke, chordAt, rowBad}
+use Rattle.strokes.specs.Log.{chordsIn, chordsOf, rowsBad, gap, joins, added}
+use Rattle.chords.specs.Places.{Keeps}
+use Rattle.chords.proofs.Readings.{startIn, no-stroke, stroke, keeps-checked, keeps-nulls}
+use Rattle.chords.proofs.RowLaws.{SecondProper, one-long, two-long, row-bytes, row-sound, row-free, row-full, row-first, row-second}
 
 -- ---- rows that a log may have, one behind another
 

@@ -16,16 +16,17 @@ use Rattle.batch.specs.Entries as B
 use Rattle.batch.specs.Entries.{orNone, batchBad}
 use Rattle.batch.specs.Batches.{AllChecked, checkedNone, checkedRow}
 use Rattle.batch.proofs.Batches.{batches}
-use Rattle.batch.proofs.Taken.{or-none, rows-of}
+use Rattle.layout.proofs.Entered.{or-none}
+use Rattle.batch.proofs.Taken.{rows-of}
 use Rattle.batch.proofs.Framing.{framing-append}
-use Rattle.strokes.specs.declared.rows.Chord.{Chord}
-use Rattle.strokes.specs.Chords.{Proper, schema, nullsBad, rowBad}
+use Rattle.chords.specs.declared.Chord.{Chord}
+use Rattle.chords.specs.Chords.{Proper, schema, nullsBad, rowBad}
 use Rattle.strokes.specs.Log.{chordsOf, rowsBad, logBad, gap, added}
 use Rattle.strokes.specs.Entries.{addOf, addedOf}
 use Rattle.strokes.specs.Places.{butLast}
 use Rattle.strokes.specs.Kept.{Appended, Kept}
-use Rattle.strokes.proofs.Readings.{schema-good}
-use Rattle.strokes.proofs.RowLaws.{row-writes}
+use Rattle.chords.proofs.Readings.{schema-good}
+use Rattle.chords.proofs.RowLaws.{row-writes}
 use Rattle.strokes.proofs.Running.{gives, Grown, grown, grown-gives, run-rows, run-gives}
 
 -- ---- the rows ahead of the last

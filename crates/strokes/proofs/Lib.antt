@@ -1,8 +1,4 @@
 -- The laws of logs, and what the functions' proofs cite.
-pub mod Readings
-pub mod Judging
-pub mod RowLaws
-pub mod PlainRows
 pub mod Numbers
 pub mod Logs
 pub mod Adding

@@ -7,8 +7,9 @@ use native.Mathlib.Numerals.{add-one}
 use lib.ListN.{length, set}
 use lib.Seq.{sets}
 use Rattle.words.proofs.Runs.{sets-then}
-use Rattle.strokes.specs.declared.rows.Chord.{Chord}
-use Rattle.strokes.specs.Chords.{chordAt, chordsIn}
+use Rattle.chords.specs.declared.Chord.{Chord}
+use Rattle.chords.specs.Chords.{chordAt}
+use Rattle.strokes.specs.Log.{chordsIn}
 use Rattle.strokes.specs.Entries.{numbersOf}
 use Rattle.strokes.proofs.Logs.{one-at-least}
 

@@ -20,9 +20,10 @@ use Rattle.batch.specs.Places.{Stands, joined, Passed}
 use Rattle.batch.proofs.Passing.{passed-start, start-rows, passed-few, passed-next, next-rows, passed-end, passed-broken}
 use Rattle.batch.proofs.Taken.{from-done, from-refused}
 use Rattle.strokes.specs.declared.Judged.the-variants as J
-use Rattle.strokes.specs.Chords.{withSecond, noStroke, chordAt, chordsIn, rowBad}
-use Rattle.strokes.specs.Log.{chordsOf, rowsBad}
-use Rattle.strokes.specs.Places.{Keeps, butLast, Sound, JudgedAs, isSound, isRefused, RefusedAt}
+use Rattle.chords.specs.Chords.{noStroke, chordAt, rowBad}
+use Rattle.strokes.specs.Log.{withSecond, chordsIn, chordsOf, rowsBad}
+use Rattle.chords.specs.Places.{Keeps}
+use Rattle.strokes.specs.Places.{butLast, Sound, JudgedAs, isSound, isRefused, RefusedAt}
 use Rattle.strokes.proofs.Numbers.{row-length}
 
 -- ---- rows one behind another

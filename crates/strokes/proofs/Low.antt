@@ -14,8 +14,8 @@ use Rattle.row.specs.Outcomes.{Low, LowIn, LowSized}
 use Rattle.row.proofs.Low.{low-or, low-unless, low-long, layout-low, read-start}
 use Rattle.batch.specs.Frames.{framed}
 use Rattle.batch.specs.Entries.{orNone, rowsOf, batchBad, lentRows}
-use Rattle.strokes.specs.declared.rows.Chord.{Chord}
-use Rattle.strokes.specs.Chords.{chord, schema, noStroke, noNumber, strokeStart, nullBad, nullsBad, rowBad}
+use Rattle.chords.specs.declared.Chord.{Chord}
+use Rattle.chords.specs.Chords.{chord, schema, noStroke, noNumber, strokeStart, nullBad, nullsBad, rowBad}
 use Rattle.strokes.specs.Log.{chordsOf, rowsBad, logBad, windowBad}
 use Rattle.strokes.specs.Entries as S
 use Rattle.strokes.specs.Entries.{heldAfter, logWith, addOf, numbersIn, readOf, chordAfter, chordMissing, chordOf}

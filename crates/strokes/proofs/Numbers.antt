@@ -22,7 +22,7 @@ use Rattle.row.proofs.Among.{lacks, not-among}
 use Rattle.row.proofs.Demand1.{Among, nothing, one, among-or, unless-among, broken-among}
 use Rattle.batch.specs.Entries.{orNone, batchBad}
 use Rattle.batch.proofs.Taken.{from-refused}
-use Rattle.strokes.specs.Chords.{schema, noStroke, noNumber, strokeStart, nullBad, nullsBad, rowBad}
+use Rattle.chords.specs.Chords.{schema, noStroke, noNumber, strokeStart, nullBad, nullsBad, rowBad}
 use Rattle.strokes.specs.Log.{rowsBad, logBad}
 
 module _ {ns : List ℕ} where

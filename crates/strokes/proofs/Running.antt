@@ -19,16 +19,17 @@ use Rattle.layout.specs.Setting.{_or_}
 use Rattle.layout.specs.Entries.{Sized, takes, refusedWith, filled}
 use Rattle.batch.specs.Frames.{framing, Framable, framed}
 use Rattle.batch.specs.Entries.{orNone, batchBad, lentRows}
-use Rattle.batch.proofs.Taken.{or-none, rows-of}
+use Rattle.layout.proofs.Entered.{or-none}
+use Rattle.batch.proofs.Taken.{rows-of}
 use Rattle.batch.proofs.Framing.{framed-nil, framed-back, framed-forth}
 use Rattle.batch.proofs.Added.{lent-none, lent-is}
-use Rattle.strokes.specs.declared.rows.Chord.{Chord}
-use Rattle.strokes.specs.Chords.{chord, Proper, rowFor, chordAt}
+use Rattle.chords.specs.declared.Chord.{Chord}
+use Rattle.chords.specs.Chords.{chord, Proper, rowFor, chordAt}
 use Rattle.strokes.specs.Log.{chordsOf, rowsBad, logBad, joins, added, windowBad}
 use Rattle.strokes.specs.Entries.{heldAfter, logWith, addOf, addedOf, numbersOf, numbersIn, readOf, readInto, chordOf}
 use Rattle.strokes.specs.Entries as S
 use Rattle.strokes.specs.Kept.{Given, chordsOfAll, AllProper, nothing, another, Run, stay, next, turned, Gives, Made, noRows, one, two, MadeOf}
-use Rattle.strokes.proofs.RowLaws.{row-full, row-first}
+use Rattle.chords.proofs.RowLaws.{row-full, row-first}
 use Rattle.strokes.proofs.Listed.{numbers-long}
 use Rattle.strokes.proofs.Demanded.{demand1}
 use Rattle.strokes.proofs.Growing.{AllKeep, keepNone, keepRow, all-keep, all-bytes, all-sound, joins-by, chords-one, chords-two, new-keeps}

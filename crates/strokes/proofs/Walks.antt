@@ -14,13 +14,14 @@ use Rattle.batch.specs.Frames.{framed}
 use Rattle.batch.specs.Entries.{orNone, rowsOf}
 use Rattle.batch.specs.Places.{Stands, FrameEnd, joined, Passed}
 use Rattle.batch.proofs.Passing.{passed-start, start-rows, passed-next, next-rows, passed-end, passed-stands}
-use Rattle.batch.proofs.Taken.{or-none}
-use Rattle.strokes.specs.declared.rows.Chord.{Chord}
-use Rattle.strokes.specs.Chords.{chord, withSecond, noStroke, chordAt, chordsIn, rowBad}
-use Rattle.strokes.specs.Log.{chordsOf, rowsBad}
+use Rattle.layout.proofs.Entered.{or-none}
+use Rattle.chords.specs.declared.Chord.{Chord}
+use Rattle.chords.specs.Chords.{chord, noStroke, chordAt, rowBad}
+use Rattle.strokes.specs.Log.{withSecond, chordsIn, chordsOf, rowsBad}
 use Rattle.strokes.specs.Entries.{numbersOf, numbersIn}
-use Rattle.strokes.specs.Places.{Keeps, Sound}
-use Rattle.strokes.proofs.Readings.{keeps-first}
+use Rattle.chords.specs.Places.{Keeps}
+use Rattle.strokes.specs.Places.{Sound}
+use Rattle.chords.proofs.Readings.{keeps-first}
 use Rattle.strokes.proofs.Logs.{bad-append, chords-append, chords-one, rowAt}
 use Rattle.strokes.proofs.Listed.{numbers-append}
 

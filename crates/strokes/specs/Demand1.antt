@@ -7,7 +7,7 @@ use lib.ListN.{length}
 use Rattle.layout.specs.Refusals.{Refusal}
 use Rattle.layout.specs.Entries.{Sized, takes, refusedWith}
 use Rattle.row.specs.Demand1.{Told}
-use Rattle.strokes.specs.declared.rows.Chord.{Chord}
+use Rattle.chords.specs.declared.Chord.{Chord}
 use Rattle.strokes.specs.Entries.{addOf, addedOf, readOf, readInto, Reading, is, refused, chordOf}
 
 -- a length within the room; or one of the numbers, with no length

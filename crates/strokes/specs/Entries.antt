@@ -11,8 +11,8 @@ use Rattle.layout.specs.Setting.{unless, _or_}
 use Rattle.layout.specs.Entries.{Sized, takes, refusedWith, filled}
 use Rattle.batch.specs.Frames.{framing, framed}
 use Rattle.batch.specs.Entries.{orNone, rowsOf, lentRows}
-use Rattle.strokes.specs.declared.rows.Chord.{Chord}
-use Rattle.strokes.specs.Chords.{chord}
+use Rattle.chords.specs.declared.Chord.{Chord}
+use Rattle.chords.specs.Chords.{chord}
 use Rattle.strokes.specs.Log.{chordsOf, logBad, added, windowBad}
 
 -- 11: the lent room can't hold the result. No refusal of a log has a length.

@@ -10,8 +10,8 @@ use Rattle.layout.specs.Entries.{takes, refusedWith}
 use Rattle.layout.specs.Demand2.{Writes}
 use Rattle.batch.specs.Frames.{framing, framed}
 use Rattle.batch.specs.Entries as B
-use Rattle.strokes.specs.declared.rows.Chord.{Chord}
-use Rattle.strokes.specs.Chords.{chord, Proper, schema, listed, rowFor}
+use Rattle.chords.specs.declared.Chord.{Chord}
+use Rattle.chords.specs.Chords.{chord, Proper, schema, listed, rowFor}
 use Rattle.strokes.specs.Log.{logBad, gap}
 use Rattle.strokes.specs.Entries.{addOf, addedOf, numbersOf, readOf, readInto, is, refused, chordOf}
 use Rattle.strokes.specs.Places.{butLast}

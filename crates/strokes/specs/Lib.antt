@@ -1,8 +1,6 @@
 -- What the contracts of `strokes` cite, and the laws of logs as statements over definitions alone.
-pub mod Chords
 pub mod Log
 pub mod Entries
-pub mod Plain
 pub mod Meaning
 pub mod Places
 pub mod Kept

@@ -1,5 +1,5 @@
 -- A log: a batch of rows of one or two chords. Assumes nothing: these are definitions.
-use mathlib.Core.Bool.{Bool, _&&_, cond}
+use mathlib.Core.Bool.{Bool, true, false, _&&_, cond}
 use mathlib.Core.Option.{Option, none, some}
 use mathlib.Core.List.{List, [], _∷_, _++_}
 use Prim.Native.Nat.{ℕ, _+_, _-_, _%_, _^_}
@@ -7,13 +7,25 @@ use lib.Dec.{leb}
 use Rattle.layout.specs.Refusals.{Refusal}
 use Rattle.layout.specs.Setting.{unless, _or_}
 use Rattle.batch.specs.Entries.{orNone, batchBad}
-use Rattle.strokes.specs.declared.rows.Chord.{Chord}
-use Rattle.strokes.specs.Chords.{rowFor, noStroke, chordAt, chordsIn, rowBad}
+use Rattle.chords.specs.declared.Chord.{Chord}
+use Rattle.chords.specs.Chords.{rowFor, noStroke, chordAt, rowBad}
 
--- the chords of rows in turn
+-- ---- its chords
+
+abbrev pub withSecond : Bool → Chord → Chord → List Chord
+withSecond true c d = c ∷ []
+withSecond false c d = c ∷ d ∷ []
+
+-- of a row: the first stroke's, and the second's where it is not null
+unfoldable pub chordsIn : List ℕ → List Chord
+chordsIn row = withSecond (noStroke row 1) (chordAt row 0) (chordAt row 1)
+
+-- of rows in turn
 unfoldable pub chordsOf : List (List ℕ) → List Chord
 chordsOf [] = []
 chordsOf (row ∷ rows) = chordsIn row ++ chordsOf rows
+
+-- ---- which logs are accepted
 
 -- each row in turn
 unfoldable pub rowsBad : List (List ℕ) → Option Refusal

@@ -7,7 +7,7 @@ use Rattle.answers.specs.declared.Length.{Length}
 use Rattle.answers.specs.Meaning.{refusalMeans, lengthMeans}
 use Rattle.strokes.specs.declared.Struck.{Struck}
 use Rattle.strokes.specs.declared.Struck.the-variants as K
-use Rattle.strokes.specs.declared.rows.Chord.{Chord}
+use Rattle.chords.specs.declared.Chord.{Chord}
 use Rattle.strokes.specs.Entries.{addOf, addedOf, readOf, readInto, Reading}
 use Rattle.strokes.specs.Entries as S
 

@@ -1,52 +1,27 @@
--- What the functions of `strokes` hand on, of a row and of a log. Assumes nothing: these are definitions.
+-- What the functions of `strokes` hand on of a log. Assumes nothing: these are definitions.
 use mathlib.Core.Path.{_≡_}
-use mathlib.Core.Bool.{Bool, _||_}
 use mathlib.Core.Option.{none, some}
-use mathlib.Core.List.{List, [], _∷_, _++_}
+use mathlib.Core.List.{List, [], _∷_}
 use Prim.Native.Nat.{ℕ, _+_, _*_, _≤_}
 use lib.ListN.{length}
-use Rattle.words.specs.Bytes.{Bytes, le}
-use Rattle.words.specs.Bits.{bit}
-use Rattle.layout.specs.Entries.{done, checkOf, filled}
+use Rattle.words.specs.Bytes.{Bytes}
+use Rattle.layout.specs.Entries.{filled}
 use Rattle.answers.specs.declared.Refusal.{Refusal}
 use Rattle.answers.specs.declared.Length.{Length}
 use Rattle.answers.specs.Meaning.{refusalMeans, lengthOf, lengthMeans}
 use Rattle.batch.specs.Frames.{frame, framing, framed}
 use Rattle.batch.specs.Entries.{rowsOf, framedAt}
 use Rattle.batch.specs.Places.{Passed}
-use Rattle.strokes.specs.declared.rows.Chord.{Chord}
+use Rattle.chords.specs.declared.Chord.{Chord}
 use Rattle.strokes.specs.declared.Judged.{Judged}
 use Rattle.strokes.specs.declared.Judged.the-variants as J
-use Rattle.strokes.specs.Chords.{schema, rowBad}
 use Rattle.strokes.specs.Log.{chordsOf, rowsBad, logBad, added}
 use Rattle.strokes.specs.Entries.{heldAfter}
-
--- ---- a row
-
--- a row that a check accepts
-pub record Checked (row : List ℕ) : Type 0 where
-  pub bytes : Bytes row
-  pub done : checkOf schema row ≡ done
-
--- a row that a log may have
-pub record Keeps (row : List ℕ) : Type 0 where
-  pub bytes : Bytes row
-  pub sound : rowBad row ≡ none
-
--- the tick or the keys of the stroke that starts at the byte numbered at is null
-abbrev pub lacks : List ℕ → ℕ → Bool
-lacks row at = bit row at 0 || bit row at 1
-
--- a stroke as it lies in a row: no bit of its bitmap, then its tick and its keys, each at the start of its slot
-abbrev pub strokeBytes : Chord → List ℕ
-strokeBytes c = le 8 0 ++ (le 8 (c .tick) ++ le 8 (c .keys))
 
 -- a row put in its frame from the byte numbered at on: the answer r, which is 11 where the room can't hold it, and what the room holds after
 pub record PutsFrame (room : List ℕ) (at : ℕ) (row : List ℕ) (r : Length) (room′ : List ℕ) : Type 0 where
   pub answers : lengthMeans r ≡ heldAfter none (at + length (frame row)) (length room)
   pub leaves : room′ ≡ framedAt (heldAfter none (at + length (frame row)) (length room)) room at row
-
--- ---- a log
 
 -- all rows but the last
 unfoldable pub butLast : List (List ℕ) → List (List ℕ)

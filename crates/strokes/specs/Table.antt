@@ -5,8 +5,8 @@ use Prim.Native.Nat.{ℕ}
 use Rattle.words.specs.Bytes.{zeros}
 use Rattle.layout.specs.Refusals.{numbered, brokenAt}
 use Rattle.layout.specs.Entries.{takes, refusedWith}
-use Rattle.strokes.specs.declared.rows.Chord.{Chord}
-use Rattle.strokes.specs.Chords.{chord}
+use Rattle.chords.specs.declared.Chord.{Chord}
+use Rattle.chords.specs.Chords.{chord}
 use Rattle.strokes.specs.Entries.{addOf, addedOf, readOf, readInto, is, refused, chordOf}
 
 abbrev last : Chord

@@ -5,7 +5,7 @@ use mathlib.Core.List.{List}
 use Prim.Native.Nat.{ℕ}
 use Rattle.answers.specs.declared.Length.{Length}
 use Rattle.row.specs.Unique.{Same}
-use Rattle.strokes.specs.declared.rows.Chord.{Chord}
+use Rattle.chords.specs.declared.Chord.{Chord}
 use Rattle.strokes.specs.declared.Struck.{Struck}
 use Rattle.strokes.specs.Entries.{chordOf}
 use Rattle.strokes.specs.Meaning.{Adds, ReadsAll, chordMeans}

@@ -7,20 +7,18 @@ ghost use Prim.Native.Nat.{_+_, _≤_, _<_};
 ghost use lib.ListN.{length, take, getD};
 ghost use lib.Seq.{sets};
 ghost use Rattle.batch.specs.Entries.{rowsOf};
-ghost use Rattle.strokes.specs.Chords.{chord, rowFor, chordsIn};
-ghost use Rattle.strokes.specs.Log.{chordsOf};
-ghost use Rattle.strokes.specs.Log.{joins as rowJoins};
+ghost use Rattle.chords.specs.Chords.{chord, rowFor};
+ghost use Rattle.chords.specs.Places.{Keeps};
+ghost use Rattle.strokes.specs.Log.{chordsIn, chordsOf, joins as rowJoins};
 ghost use Rattle.strokes.specs.Entries.{numbersOf, numbersIn, chordOf};
 ghost use Rattle.strokes.specs.Meaning.{Adds, ReadsAll, chordMeans};
-ghost use Rattle.strokes.specs.Places.{Keeps, PutsFrame, Sound, Ends, JudgedAs, RefusedAt, AddsTo};
+ghost use Rattle.strokes.specs.Places.{PutsFrame, Sound, Ends, JudgedAs, RefusedAt, AddsTo};
 use answers::Length;
 use answers::Outcome;
 use answers::Refusal;
 use batch::Counted;
 use batch::frames;
-use rows::Chord;
-
-pub mod rows;
+use chords::Chord;
 
 // What one chord of a log reads as.
 pub enum Struck {
@@ -50,7 +48,7 @@ fn chords_in(row: &[u8]) -> usize
     requires { ⌜ Keeps (now row) ⌝ }
     ensures { λ r. ⌜ (r ≡ length (chordsIn (now (row .entry)))) × (r ≤ 2) ⌝ }
 {
-    if rows::is_single(row) { 1 } else { 2 }
+    if chords::is_single(row) { 1 } else { 2 }
 }
 
 // Frames and rows in one walk; behind a refused row the frames alone are looked at.
@@ -67,7 +65,7 @@ fn judge_log(log: &[u8]) -> Judged
             return Judged::Refused(Refusal::Batch);
         }
         let start = at + 4;
-        match rows::judge(&log[start..end]) {
+        match chords::judge(&log[start..end]) {
             Outcome::Done => {}
             Outcome::Refused(r) => {
                 return refuse_row(log, end, n + 1, r);
@@ -97,7 +95,7 @@ fn put_one(room: &mut [u8], at: usize, c: Chord) -> Length
     ensures { λ r. ⌜ PutsFrame (now (room .entry)) at (rowFor c none) r (now (room .exit)) ⌝ }
 {
     let mut row = [0u8; 48];
-    rows::fill_one(&mut row, c);
+    chords::fill_one(&mut row, c);
     put_frame(room, at, &row)
 }
 
@@ -106,7 +104,7 @@ fn put_two(room: &mut [u8], at: usize, c: Chord, d: Chord) -> Length
     ensures { λ r. ⌜ PutsFrame (now (room .entry)) at (rowFor c (some d)) r (now (room .exit)) ⌝ }
 {
     let mut row = [0u8; 72];
-    rows::fill_two(&mut row, c, d);
+    chords::fill_two(&mut row, c, d);
     put_frame(room, at, &row)
 }
 
@@ -116,10 +114,10 @@ fn joins(row: &[u8], tick: u32, window: u32) -> bool
     requires { ⌜ Keeps (now row) ⌝ }
     ensures { λ r. ⌜ r ≡ rowJoins (now (row .entry)) tick window ⌝ }
 {
-    if !rows::is_single(row) {
+    if !chords::is_single(row) {
         return false;
     }
-    let first = rows::chord_at(row, 0);
+    let first = chords::chord_at(row, 0);
     std::num::wrapping_sub_u32(tick, first.tick) <= window
 }
 
@@ -136,7 +134,7 @@ fn add_to(room: &mut [u8], used: usize, last: usize, c: Chord, window: u32) -> L
     if !joins(&room[start..used], c.tick, window) {
         return put_one(room, used, c);
     }
-    let first = rows::chord_at(&room[start..used], 0);
+    let first = chords::chord_at(&room[start..used], 0);
     put_two(room, last, first, c)
 }
 
@@ -173,11 +171,11 @@ fn put_row(out: &mut [u32], i: usize, row: &[u8]) -> usize
     ensures { λ r. ⌜ (r ≡ i + length (numbersOf (chordsIn (now (row .entry)))))
         × (now (out .exit) ≡ sets (now (out .entry)) i (numbersOf (chordsIn (now (row .entry))))) ⌝ }
 {
-    put_chord(out, i, rows::chord_at(row, 0));
-    if rows::is_single(row) {
+    put_chord(out, i, chords::chord_at(row, 0));
+    if chords::is_single(row) {
         return i + 2;
     }
-    put_chord(out, i + 2, rows::chord_at(row, 1));
+    put_chord(out, i + 2, chords::chord_at(row, 1));
     i + 4
 }
 
@@ -225,7 +223,7 @@ fn find(log: &[u8], n: usize) -> Chord
         let start = at + 4;
         let held = chords_in(&log[start..end]);
         if left < held {
-            return rows::chord_at(&log[start..end], left);
+            return chords::chord_at(&log[start..end], left);
         }
         left -= held;
         at = end;

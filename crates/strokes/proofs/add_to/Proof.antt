@@ -1,5 +1,5 @@
 use native.Mathlib.Omega.{arith}
-use Rattle.strokes.proofs.Readings.{keeps-first}
+use Rattle.chords.proofs.Readings.{keeps-first}
 use Rattle.strokes.proofs.Adding.{last-of, adds-joined, adds-started, adds-first}
 use borrow.Author.Needs.{needs}
 use Rattle.strokes.proofs.add_to.Statement.{statement}

@@ -1,6 +1,6 @@
 -- `strokes::joins` meets its contract. Assumes nothing.
 use Rattle.strokes.proofs.Adding.{joins-full, joins-free}
-use Rattle.strokes.proofs.Readings.{keeps-first}
+use Rattle.chords.proofs.Readings.{keeps-first}
 use native.Mathlib.Omega.{arith}
 use borrow.Author.Needs.{needs}
 use Rattle.strokes.proofs.joins.Statement.{statement}

@@ -3,7 +3,7 @@ use borrow.Author.Needs.{needs}
 use native.Mathlib.Omega.{arith}
 use mathlib.Core.Path.{sym, _∙_}
 use Rattle.strokes.proofs.Logs.{has-one, has-two}
-use Rattle.strokes.proofs.Readings.{keeps-first}
+use Rattle.chords.proofs.Readings.{keeps-first}
 use Rattle.strokes.proofs.Listed.{two-at-least, four-of, one-put, two-put}
 use Rattle.strokes.proofs.put_row.Statement.{statement}
 use Rattle.strokes.proofs.put_row.Tie as tie

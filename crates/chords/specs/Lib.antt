@@ -1,0 +1,4 @@
+-- What the contracts of `chords` cite.
+pub mod Chords
+pub mod Plain
+pub mod Places
