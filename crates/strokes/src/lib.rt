@@ -27,7 +27,7 @@ pub enum Struck {
 }
 
 // What judging a log comes to: where the frame of its last row starts, and how many chords it has; or a refusal.
-pub enum Judged {
+enum Judged {
     Sound { last: usize, count: usize },
     Refused(Refusal),
 }
