@@ -54,7 +54,7 @@ table-is = record { accepted = rw table-says schema-good; given = rw table-says 
 abbrev strokeBad : List ℕ → ℕ → Option Refusal
 strokeBad row i = nullBad (noNumber row i 0) (strokeStart row i) or nullBad (noNumber row i 1) (strokeStart row i)
 
-or-assoc : (a b c : Option Refusal) → a or (b or c) ≡ (a or b) or c
+pub or-assoc : (a b c : Option Refusal) → a or (b or c) ≡ (a or b) or c
 or-assoc none b c = refl
 or-assoc (some r) b c = refl
 

@@ -1,6 +1,7 @@
 -- The strokes of a row that a check accepts, and their numbers, by the row's bytes: which bit says null, where a stroke starts, where a
 -- number stands. Assumes nothing.
 use mathlib.Core.Path.{_≡_, refl, sym, ap, _∙_}
+use mathlib.Core.Logic.{⊎-elim}
 use mathlib.Core.Bool.{Bool, true, false}
 use mathlib.Core.Option.{Option, none, some, Option·none-ne-some}
 use mathlib.Core.List.{List, [], _∷_}
@@ -13,10 +14,10 @@ use borrow.Author.Tests.{eqb-true, eqb-false}
 use Rattle.words.specs.Bytes.{Bytes, le, num, part}
 use Rattle.words.specs.Bits.{bitOf, bit}
 use Rattle.words.specs.Signed.{halfOf, toSigned, ofSigned}
-use Rattle.words.proofs.Numbers.{num-le, num-lt}
-use Rattle.words.proofs.Parts.{length-part, bytes-part, getD-part, part-part}
+use Rattle.words.proofs.Numbers.{num-lt}
+use Rattle.words.proofs.Parts.{lt-or-le, length-part, bytes-part, getD-part, part-part}
 use Rattle.words.proofs.BitLaws.{bit-num}
-use Rattle.words.proofs.SignedLaws.{ofSigned-lt, toSigned-mag, bytes-back}
+use Rattle.words.proofs.SignedLaws.{to-low, to-high}
 use Rattle.schema.specs.Marks.{types, markAt}
 use Rattle.schema.specs.Kinds.{find, placeOf, kindOf, kindOfPlace, headKind, kindAt}
 use Rattle.schema.specs.Types.{Ty, fix, i4, ro, Tys, end, _then_, count, field, fixedPlace, textPlace, fixedAt, textAt, width}
@@ -38,8 +39,7 @@ use Rattle.layout.proofs.Stepped as Stepped
 use Rattle.layout.proofs.Stepped.{Comes}
 use Rattle.layout.proofs.Walked.{comes, own-holds, struct-room}
 use Rattle.layout.proofs.Slotted.{must-step}
-use Rattle.layout.proofs.Entered.{or-none}
-use Rattle.layout.proofs.Entered.{check-judged, checked, read-same}
+use Rattle.layout.proofs.Entered.{or-none, check-judged, checked, read-same}
 use Rattle.chords.specs.Chords.{schema, bitsOf, isNull, noStroke, noNumber, strokeStart, nullBad, nullsBad, rowBad}
 use Rattle.chords.specs.Places.{Checked, Keeps}
 
@@ -123,14 +123,13 @@ bit-in row o n j h l =
     ap (λ (x : ℕ). bitOf (getD (part row o n) x 0) (j % 8)) (zero-add (j / 8))
     ∙ ap (λ (x : ℕ). bitOf x (j % 8)) (getD-part row o n (j / 8) (omega arith))
 
--- four bytes are the bits of the number that they stand for
-bits-back : {u : List ℕ} → Bytes u → length u ≡ 4 → ofSigned (halfOf 4) (toSigned (halfOf 4) (num u)) ≡ num u
-bits-back {u} y n =
-    let x = ofSigned (halfOf 4) (toSigned (halfOf 4) (num u)) in
-    let l : num u < 256 ^ 4 = rw n at (num-lt y) in
-    let small : x < 256 ^ 4 = ofSigned-lt (halfOf 4) (toSigned (halfOf 4) (num u)) (toSigned-mag (halfOf 4) (num u) l) in
-    let back : le 4 x ≡ u = rw n at (bytes-back y (omega arith)) in
-    sym (num-le 4 x small) ∙ ap num back
+-- an int32's bits, there and back; and of four bytes
+pub bits-back : (n : ℕ) → n < 2 ^ 32 → ofSigned (halfOf 4) (toSigned (halfOf 4) n) ≡ n
+bits-back n l = ⊎-elim (λ h. ap (ofSigned (halfOf 4)) (to-low (halfOf 4) n h))
+    (λ h. ap (ofSigned (halfOf 4)) (to-high (halfOf 4) n h l) ∙ omega arith) (lt-or-le n (halfOf 4))
+
+four-back : {u : List ℕ} → Bytes u → length u ≡ 4 → ofSigned (halfOf 4) (toSigned (halfOf 4) (num u)) ≡ num u
+four-back {u} y n = bits-back (num u) (rw n at (num-lt y))
 
 -- ---- a step into bytes that stand for contents
 
@@ -369,7 +368,7 @@ stroke {row} k i h e = record {
   starts = rw (stroke-read k i h e);
   room = omega (arith, s .long, s .room);
   nulls = λ j l. null j l (bit row (startIn row i) j) refl;
-  numbers = λ j l f. rw (number-read k i h e j l f) (bits-back (bytes-part (startIn row i + (8 + 8 * j)) 4 (k .bytes))
+  numbers = λ j l f. rw (number-read k i h e j l f) (four-back (bytes-part (startIn row i + (8 + 8 * j)) 4 (k .bytes))
       (length-part row (startIn row i + (8 + 8 * j)) 4 (omega (arith, s .long, s .room))));
 }
   where

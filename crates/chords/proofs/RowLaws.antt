@@ -1,7 +1,6 @@
 -- The row that is written for a chord or two: its bytes, that a log may have it, whatever lies under its null, and that its places read as
 -- the chords. Assumes nothing.
 use mathlib.Core.Path.{_≡_, refl, sym, ap, _∙_}
-use mathlib.Core.Logic.{⊎-elim}
 use mathlib.Core.Bool.{true, false}
 use mathlib.Core.Option.{Option, none, some}
 use mathlib.Core.List.{List, [], _∷_, _++_, append-assoc}
@@ -12,11 +11,9 @@ use lib.ListN.{length, length-append}
 use lib.Seq.{sets}
 use borrow.Author.Tests.{le-leb}
 use Rattle.words.specs.Bytes.{Bytes, le, num, fill, zeros}
-use Rattle.words.specs.Signed.{halfOf, toSigned, ofSigned}
+use Rattle.words.specs.Signed.{halfOf, toSigned}
 use Rattle.words.proofs.Numbers.{bytes-append, bytes-zeros, bytes-le, length-le, num-le}
-use Rattle.words.proofs.Parts.{lt-or-le}
 use Rattle.words.proofs.Runs.{sets-then, sets-whole}
-use Rattle.words.proofs.SignedLaws.{to-low, to-high}
 use Rattle.schema.specs.Marks.{types, markAt}
 use Rattle.schema.specs.Kinds.{find, placeOf, kindOf, kindOfPlace as placedKind, headKind, kindAt}
 use Rattle.schema.specs.Types.{i4, Ty, fix, ro, end, _then_, fixedPlace, textPlace, fixedAt, textAt, place, width, mark, count, field}
@@ -41,7 +38,7 @@ use Rattle.layout.proofs.Demand2.{image-is as image-of}
 use Rattle.chords.specs.declared.Chord.{Chord}
 use Rattle.chords.specs.Chords.{Proper, schema, listed, rowFor, noStroke, noNumber, chordAt, nullsBad, rowBad}
 use Rattle.chords.specs.Places.{strokeBytes}
-use Rattle.chords.proofs.Readings.{schema-good}
+use Rattle.chords.proofs.Readings.{schema-good, bits-back}
 
 -- to unfold this is to unfold the definitions
 unfoldable pub computes : Unit {0}
@@ -173,11 +170,6 @@ pub row-writes : (c : Chord) (d : Option Chord) → Proper c → SecondProper d 
 row-writes c d p q = writes-as schema (listed c d) (rowFor c d) schema-good (image-is c d p q ∙ ap some (sym (row-is c d p q))) (row-short c d p q)
 
 -- ---- what its places read
-
--- an int32's bits, there and back
-bits-back : (n : ℕ) → n < 2 ^ 32 → ofSigned (halfOf 4) (toSigned (halfOf 4) n) ≡ n
-bits-back n l = ⊎-elim (λ h. ap (ofSigned (halfOf 4)) (to-low (halfOf 4) n h))
-    (λ h. ap (ofSigned (halfOf 4)) (to-high (halfOf 4) n h l) ∙ omega arith) (lt-or-le n (halfOf 4))
 
 number-lays : (x : ℕ) → x < 2 ^ 32 → Lays (fix i4) (leaf (le 4 x)) (le 4 x)
 unfolding codec number width limit types fixedPlace bytes

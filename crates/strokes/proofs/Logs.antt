@@ -23,19 +23,16 @@ use Rattle.strokes.specs.declared.Judged.the-variants as J
 use Rattle.chords.specs.Chords.{noStroke, chordAt, rowBad}
 use Rattle.strokes.specs.Log.{withSecond, chordsIn, chordsOf, rowsBad}
 use Rattle.chords.specs.Places.{Keeps}
+use Rattle.chords.proofs.Judging.{or-assoc}
 use Rattle.strokes.specs.Places.{butLast, Sound, JudgedAs, isSound, isRefused, RefusedAt}
 use Rattle.strokes.proofs.Numbers.{row-length}
 
 -- ---- rows one behind another
 
-or-again : (a b c : Option N.Refusal) → ((a or b) or c) ≡ (a or (b or c))
-or-again none b c = refl
-or-again (some r) b c = refl
-
 pub bad-append : (us vs : List (List ℕ)) → rowsBad (us ++ vs) ≡ (rowsBad us or rowsBad vs)
 unfolding rowsBad
 bad-append [] vs = refl
-bad-append (u ∷ us) vs = ap (λ (m : Option N.Refusal). rowBad u or m) (bad-append us vs) ∙ sym (or-again (rowBad u) (rowsBad us) (rowsBad vs))
+bad-append (u ∷ us) vs = ap (λ (m : Option N.Refusal). rowBad u or m) (bad-append us vs) ∙ or-assoc (rowBad u) (rowsBad us) (rowsBad vs)
 
 or-nothing : (m : Option N.Refusal) → (m or none) ≡ m
 or-nothing none = refl
