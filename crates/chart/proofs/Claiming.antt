@@ -2,7 +2,9 @@
 use mathlib.Core.Path.{_≡_, refl, sym, ap, ap₂, _∙_}
 use mathlib.Core.Bool.{Bool, true, false, cond}
 use mathlib.Core.List.{List, [], _∷_, _++_, append-nil, append-assoc}
-use Prim.Native.Nat.{ℕ, suc, _+_, _*_, _-_, _/_, _≤_, _<_}
+use Prim.Native.Nat.{ℕ, zero, suc, _+_, _*_, _-_, _/_, _%_, _≤_, _<_}
+use native.Mathlib.Nat.{mod-eq-of-lt, mul-zero, mul-comm, mul-assoc, mul-div-cancel, div-le-self}
+use native.Mathlib.Decide.{decLt}
 use native.Mathlib.Numerals.{add-one}
 use native.Mathlib.Omega.{arith}
 use lib.Dec.{eqb, ltb}
@@ -12,6 +14,7 @@ use borrow.Author.Tests.{eq-eqb, ne-eqb, ltb-true}
 use Rattle.words.specs.Bytes.{part, fill, zeros, bitmap}
 use Rattle.words.proofs.Parts.{part-snoc}
 use Rattle.words.proofs.Numbers.{length-fill, take-filled}
+use Rattle.schema.proofs.Table.{agree}
 use Rattle.answers.specs.declared.Path.{Path}
 use Rattle.answers.specs.Paths.{pathOf}
 use Rattle.answers.proofs.PathLaws.{length-path}
@@ -148,13 +151,42 @@ word-few w = go (eqb w 8)
     go true = omega arith
     go false = omega arith
 
+-- ---- slots of w bytes that fill a line
+
+abbrev slotsOn : ℕ → ℕ
+slotsOn w = cond (eqb w 8) 1 (cond (eqb w 4) 2 (cond (eqb w 2) 4 8))
+
+wide-slots : (w : ℕ) → 8 < w → 8 % w ≡ 0 → ⊥
+wide-slots w l e = absurd (omega (arith, mod-eq-of-lt l))
+
+-- computed for each width
+filled : (w : ℕ) → w < 9 → cond (eqb (8 % w) 0) (slotsOn w * w) 8 ≡ 8
+filled = agree (λ w. cond (eqb (8 % w) 0) (slotsOn w * w) 8) (λ w. 8) 9 refl
+
+pub slots-fill : (w : ℕ) → 8 % w ≡ 0 → slotsOn w * w ≡ 8
+slots-fill w e = go (decLt 8 w)
+  where
+    go : Dec (8 < w) → slotsOn w * w ≡ 8
+    go (yes l) = absurd (wide-slots w l e)
+    go (no l) = rw (eq-eqb (8 % w) 0 e) at (filled w (omega arith))
+
+-- the first slot on the line j
+first-slot : (w each j : ℕ) → each * w ≡ 8 → each * j ≡ 8 * j / w
+first-slot zero each j e = absurd (omega (arith, mul-zero each))
+first-slot (suc w) each j e =
+    sym (ap (λ (x : ℕ). x * j / suc w) (sym e) ∙ ap (λ (x : ℕ). x / suc w) (mul-assoc each (suc w) j ∙ ap (λ (x : ℕ). each * x) (mul-comm (suc w) j)
+    ∙ sym (mul-assoc each j (suc w))) ∙ mul-div-cancel (each * j) (omega arith))
+
+pub first-few : (w each j : ℕ) → each * w ≡ 8 → each * j ≤ 8 * j
+first-few w each j e = rw (first-slot w each j e) (div-le-self (8 * j) w)
+
 module _ (l size : ℕ) (m : List ℕ) (j x : ℕ) (e : x ≡ padding size j) where
   pub byte-turn : (what : ℕ) (p : List ℕ) {m′ : List ℕ} → m′ ≡ claim (header (l + j) (what + x) p) m → m′ ≡ claimAll (byteLine l size what p j) m
   byte-turn what p g = claimed-one _ m (rw e at g)
 
-  pub slot-turn : (w word : ℕ) (p q : List ℕ) {m′ : List ℕ} → word ≡ slotWord w → q ≡ p ++ (8 * j / w ∷ []) → m′ ≡ claim (header (l + j) (word + x) q) m
-      → m′ ≡ claimAll (slotLine l w size p j) m
-  slot-turn w word p q f k g = claimed-one _ m (rw (e, f, k) at g)
+  pub slot-turn : (w word each : ℕ) (p q : List ℕ) {m′ : List ℕ} → each * w ≡ 8 → word ≡ slotWord w → q ≡ p ++ (each * j ∷ [])
+      → m′ ≡ claim (header (l + j) (word + x) q) m → m′ ≡ claimAll (slotLine l w size p j) m
+  slot-turn w word each p q h f k g = claimed-one _ m (rw (e, f, k, first-slot w each j h) at g)
 
 -- the bitmap, and the slots behind it
 pub child-all : (l w n b : ℕ) (p m₀ : List ℕ) {m m′ : List ℕ} → b ≡ bitmap n → m ≡ claimAll (byteLines l b 1 p) m₀

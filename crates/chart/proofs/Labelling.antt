@@ -1,13 +1,13 @@
 -- What a place claims, by its type. Assumes nothing.
 use mathlib.Core.Path.{_≡_, refl, ap, _∙_}
 use mathlib.Core.List.{List, [], _∷_}
-use Prim.Native.Nat.{ℕ, zero, suc, _+_, _*_, _-_, _/_, _≤_, _<_}
+use Prim.Native.Nat.{ℕ, zero, suc, _+_, _*_, _-_, _/_, _%_, _≤_, _<_}
 use native.Mathlib.Omega.{arith}
 use lib.ListN.{length, getD}
 use borrow.Author.Tests.{leb-true}
 use Rattle.words.specs.Bytes.{num, part, bitmap}
 use Rattle.schema.specs.Marks.{types, line}
-use Rattle.schema.specs.Types.{Text, st, bi, Ty, fix, text, li, ma, ro, width, textAt, fixedPlace, textPlace, place}
+use Rattle.schema.specs.Types.{bo, i1, i2, i4, i8, f4, f8, Text, st, bi, Ty, fix, text, li, ma, ro, width, textAt, fixedPlace, textPlace, place}
 use Rattle.schema.proofs.Typing.{typed-count}
 use Rattle.schema.proofs.Places.{typed-place}
 use Rattle.layout.specs.Layout.{front}
@@ -23,7 +23,7 @@ use Rattle.reading.specs.Texts.{countOf}
 use Rattle.reading.specs.declared.Place.{Place}
 use Rattle.reading.proofs.Pointing.{slot-codec}
 use Rattle.reading.proofs.Opening.{ty-fixed, ty-text, ty-list, ty-map, ty-struct, struct-left}
-use Rattle.reading.proofs.Rules.{list-says, map-says, header-is, slot-some, rest-row, rest-list, rest-size}
+use Rattle.reading.proofs.Rules.{list-says, map-says, header-is, rest-row, rest-list, rest-size}
 use Rattle.reading.proofs.Shown.{count-list, count-map, count-struct}
 use Rattle.chart.specs.Claims.{claim, claimAll, byteLines}
 use Rattle.chart.specs.Labels.{unlabelled, textWord, header, childLines, entered, listed, labelled}
@@ -51,6 +51,21 @@ place-wide (li y) = refl
 place-wide (ma a b) = refl
 place-wide (ro ys) = refl
 
+-- slots of a type's bytes fill a line
+slots-whole : (y : Ty) → 8 % slotWidth (wideOf y) ≡ 0
+unfolding slotWidth wideOf width fixedPlace types
+slots-whole (fix bo) = refl
+slots-whole (fix i1) = refl
+slots-whole (fix i2) = refl
+slots-whole (fix i4) = refl
+slots-whole (fix i8) = refl
+slots-whole (fix f4) = refl
+slots-whole (fix f8) = refl
+slots-whole (text u) = refl
+slots-whole (li y) = refl
+slots-whole (ma a b) = refl
+slots-whole (ro ys) = refl
+
 pub element-bytes : {t : List ℕ} {c w v : ℕ} → S.InTable t c 7 → EntryAt t c 7 w → v ≡ widthIn w → v ≡ wideOf (heldTy t c)
 element-bytes {t} {c} h e q =
     q ∙ e .lined .width ∙ ap (λ (k : ℕ). line k .width) (e .place ∙ typed-place (schemaOf t) (posOf t c) 7 (h .typed)) ∙ place-wide (heldTy t c)
@@ -68,7 +83,7 @@ module _ {m row : List ℕ} {start v : ℕ} {path : Path} (L : ListRoom m row st
   list-fits = rw e (omega (arith, L .within, L .short))
 
   pub list-child-room : (w : ℕ) (m′ : List ℕ) → w ≡ slotWidth v → Long m′ → ChildRoom m′ (start / 8 + 1) w n path
-  list-child-room w m′ q l = record { long = l; within = rw q (omega (arith, list-fits)); some = rw q (slot-some v); neat = L .neat; more = L .more }
+  list-child-room w m′ q l = record { long = l; within = rw q (omega (arith, list-fits)); whole = rw q (L .whole); neat = L .neat; more = L .more }
 
   module _ (w : ℕ) (q : w ≡ slotWidth v) {m₁ m₂ : List ℕ} (f : m₁ ≡ claim (header (start / 8) 2 (pathOf path)) m)
       (g : m₂ ≡ claimAll (childLines (start / 8 + 1) w n (pathOf path)) m₁) where
@@ -128,7 +143,14 @@ module _ {m t row : List ℕ} {y : Place} {path : Path} (G : PlaceRoom m t row y
           let n = header-is (rest-row (G .stands .rests)) h refl in
           let f : front 8 (slotWidth v) (num (part row (y .start) 8)) ≤ y .len =
           rw (slot-codec (heldTy t (y .opened .first)), ← q, n, long) at (l .fixed) in
-          record { long = G .long; short = G .stands .rests .short; within = omega (arith, G .stands .rests .within); neat = G .neat; more = G .more }
+          record {
+            long = G .long;
+            short = G .stands .rests .short;
+            within = omega (arith, G .stands .rests .within);
+            whole = rw q (slots-whole (heldTy t (y .opened .first)));
+            neat = G .neat;
+            more = G .more;
+          }
 
       pub place-list : {r : ℕ} {m′ : List ℕ} → Draws (listed (y .start / 8) v (num (part row (y .start) 8)) (pathOf path)) m r m′ → Labelled r m′
       unfolding labelled
@@ -157,7 +179,7 @@ module _ {m t row : List ℕ} {y : Place} {path : Path} (G : PlaceRoom m t row y
     struct-fits = leb-true _ _ (rw (ty-struct t (y .opened) struct, typed-count _ _ 7 _ (fields .types), long, ← q) at (G .stands .holds))
 
     pub struct-room : ChildRoom m (y .start / 8) 8 n path
-    struct-room = record { long = G .long; within = omega (arith, inside, struct-fits); some = omega arith; neat = G .neat; more = G .more }
+    struct-room = record { long = G .long; within = omega (arith, inside, struct-fits); whole = refl; neat = G .neat; more = G .more }
 
     counted : n ≡ countOf row (y .opened) (y .start)
     counted = count-struct row (y .opened) (y .start) b c q

@@ -1,7 +1,7 @@
 -- What the functions of the chart ask and answer. Assumes nothing: these are definitions.
 use mathlib.Core.Path.{_≡_}
 use mathlib.Core.List.{List}
-use Prim.Native.Nat.{ℕ, _+_, _*_, _-_, _/_, _≤_, _<_}
+use Prim.Native.Nat.{ℕ, _+_, _*_, _-_, _/_, _%_, _≤_, _<_}
 use lib.ListN.{length}
 use Rattle.words.specs.Bytes.{num, part, bitmap, fill}
 use Rattle.answers.specs.declared.Path.{Path}
@@ -35,17 +35,18 @@ pub record ByteRoom (m : List ℕ) (line size what : ℕ) (p : Path) : Type 0 wh
   pub known : what < 8
   pub neat : Neat p
 
+-- slots of w bytes fill a line
 pub record SlotRoom (m : List ℕ) (line w size : ℕ) (p : Path) : Type 0 where
   pub long : Long m
   pub within : line + (size + 7) / 8 ≤ 2048
-  pub some : 0 < w
+  pub whole : 8 % w ≡ 0
   pub neat : Neat p
   pub more : p .len < 16
 
 pub record ChildRoom (m : List ℕ) (line w n : ℕ) (p : Path) : Type 0 where
   pub long : Long m
   pub within : line + bitmap n / 8 + (n * w + 7) / 8 ≤ 2048
-  pub some : 0 < w
+  pub whole : 8 % w ≡ 0
   pub neat : Neat p
   pub more : p .len < 16
 
@@ -53,6 +54,7 @@ pub record ListRoom (m row : List ℕ) (start v : ℕ) (p : Path) : Type 0 where
   pub long : Long m
   pub short : length row ≤ 16384
   pub within : start + front 8 (slotWidth v) (num (part row start 8)) ≤ length row
+  pub whole : 8 % slotWidth v ≡ 0
   pub neat : Neat p
   pub more : p .len < 16
 

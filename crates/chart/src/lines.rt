@@ -1,7 +1,7 @@
 // Lines of the chart, claimed one by one: the first claim has the line.
 use answers::Path;
 ghost use mathlib.Core.Path.{_≡_};
-ghost use Prim.Native.Nat.{_≤_};
+ghost use Prim.Native.Nat.{_*_, _%_, _≤_};
 ghost use Rattle.answers.specs.Paths.{pathOf};
 ghost use Rattle.chart.specs.Claims.{claim, claimAll, taken, padding, byteLines, slotWord, slotLines};
 ghost use Rattle.chart.specs.Labels.{header, childLines};
@@ -51,7 +51,7 @@ pub fn byte_lines(chart: &mut [u32], line: usize, size: usize, what: u32, path: 
     requires { ⌜ ByteRoom (now chart) line size what path ⌝ }
     ensures { λ _. ⌜ now (chart .exit) ≡ claimAll (byteLines line size what (pathOf path)) (now (chart .entry)) ⌝ }
 {
-    let lines = (size + 7) / 8;
+    let lines = (size + 7) >> 3;
     let mut j: usize = 0;
     while j < lines {
         claim(chart, line + j, what + padding(size, j), path);
@@ -66,19 +66,34 @@ fn slot_word(w: usize) -> u32
     if w == 8 { 4 } else { 5 }
 }
 
+// How many slots of w bytes are on a line.
+fn slots_on_line(w: usize) -> usize
+    requires { ⌜ 8 % w ≡ 0 ⌝ }
+    ensures { λ r. ⌜ r * w ≡ 8 ⌝ }
+{
+    if w == 8 {
+        return 1;
+    }
+    if w == 4 {
+        return 2;
+    }
+    if w == 2 { 4 } else { 8 }
+}
+
 // The lines of size bytes of slots, w bytes each: a line has the path of the first slot on it.
 fn slot_lines(chart: &mut [u32], line: usize, w: usize, size: usize, path: Path)
     requires { ⌜ SlotRoom (now chart) line w size path ⌝ }
     ensures { λ _. ⌜ now (chart .exit) ≡ claimAll (slotLines line w size (pathOf path)) (now (chart .entry)) ⌝ }
 {
-    let lines = (size + 7) / 8;
+    let lines = (size + 7) >> 3;
     let word = slot_word(w);
+    let each = slots_on_line(w);
     let n = path.len;
     let mut child = path;
     child.len = n + 1;
     let mut j: usize = 0;
     while j < lines {
-        child.steps[n] = (8 * j / w) as u32;
+        child.steps[n] = (each * j) as u32;
         claim(chart, line + j, word + padding(size, j), child);
         j += 1;
     }
@@ -91,5 +106,5 @@ pub fn child_lines(chart: &mut [u32], line: usize, w: usize, n: usize, path: Pat
 {
     let bits = words::sizes::bitmap_size(n);
     byte_lines(chart, line, bits, 1, path);
-    slot_lines(chart, line + bits / 8, w, n * w, path);
+    slot_lines(chart, line + (bits >> 3), w, n * w, path);
 }

@@ -35,7 +35,7 @@ fn list(row: &[u8], chart: &mut [u32], start: usize, v: usize, path: Path) -> us
     ensures { λ r. ⌜ Draws (listed (start / 8) v (num (part (now (row .entry)) start 8)) (pathOf path)) (now (chart .entry)) r (now (chart .exit)) ⌝ }
 {
     let n = words::nums::get8(row, start) as usize;
-    let line = start / 8;
+    let line = start >> 3;
     lines::claim(chart, line, 2, path);
     lines::child_lines(chart, line + 1, reading::own::slot_width(v), n, path);
     if v == 0 { n } else { 0 }
@@ -53,18 +53,18 @@ fn present(t: &[u64], row: &[u8], chart: &mut [u32], p: Place, path: Path) -> us
         return 0;
     }
     if k < table::LIST {
-        lines::byte_lines(chart, start / 8, p.len, text_word(k), path);
+        lines::byte_lines(chart, start >> 3, p.len, text_word(k), path);
         return 0;
     }
     if k == table::LIST {
         return list(row, chart, start, element_width(t, x.first), path);
     }
     if k == table::MAP {
-        lines::claim(chart, start / 8, 3, path);
+        lines::claim(chart, start >> 3, 3, path);
         return 2;
     }
     let n = table::count(x.entry);
-    lines::child_lines(chart, start / 8, 8, n, path);
+    lines::child_lines(chart, start >> 3, 8, n, path);
     n
 }
 
@@ -80,7 +80,7 @@ fn label(t: &[u64], row: &[u8], path: Path, chart: &mut [u32]) -> usize
         Found::Broken(_) => 0,
         Found::Null(_, _) => 0,
         Found::At(p) => {
-            let taken = lines::is_taken(chart, p.start / 8);
+            let taken = lines::is_taken(chart, p.start >> 3);
             let below = present(t, row, chart, p, path);
             if taken { 0 } else { below }
         }

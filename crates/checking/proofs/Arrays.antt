@@ -9,10 +9,12 @@ use mir.Val.{Fits}
 use mir.Syntax.{w64}
 use lib.Dec.{eqb}
 use borrow.Author.Tests.{eq-eqb, ne-eqb}
+use lib.Bits.{bitAnd}
 use lib.ListN.{length, take, drop, length-take, length-drop}
 use lib.Seq.{take-take, take-length}
 use Rattle.words.specs.Bytes.{num, part}
 use Rattle.words.specs.Reads.{Reads}
+use Rattle.words.proofs.Powers.{eights, no-eights}
 use Rattle.schema.specs.Types.{Ty, li, ma}
 use Rattle.table.specs.Tables.{typeOf}
 use Rattle.checking.specs.Sound.{faultOf, inChild}
@@ -62,12 +64,18 @@ module _ {t : List ℕ} {k v d : ℕ} {b : List ℕ} (m : Pair t k v d b) {size 
     pub keys-head : 8 + 8 ≤ length b
     keys-head = omega (arith, long-keys)
 
-  module _ (even : length b % 8 ≡ 0) (head : 8 ≤ length b) where
-    -- the size of its keys array does not fit
-    pub map-bad : (size % 8 ≡ 0 → ⊥) → 2 ≡ faultOf (ma key value) b
-    map-bad h = sym (map-uneven key value b even size (reads .is) head h)
+  module _ (mask : bitAnd (length b) 7 ≡ 0) (head : 8 ≤ length b) where
+    even : length b % 8 ≡ 0
+    even = eights (length b) mask
 
-    module _ (whole : size % 8 ≡ 0) where
+    -- the size of its keys array does not fit
+    pub map-bad : (bitAnd size 7 ≡ 0 → ⊥) → 2 ≡ faultOf (ma key value) b
+    map-bad h = sym (map-uneven key value b even size (reads .is) head (no-eights size h))
+
+    module _ (rest : bitAnd size 7 ≡ 0) where
+      whole : size % 8 ≡ 0
+      whole = eights size rest
+
       pub map-over : length b - 8 < size → 2 ≡ faultOf (ma key value) b
       map-over h = sym (map-unfit key value b even size (reads .is) head whole (omega arith))
 

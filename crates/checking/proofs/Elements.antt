@@ -8,10 +8,12 @@ use native.Mathlib.Omega.{arith}
 use mir.Val.{Fits}
 use mir.Syntax.{w64}
 use lib.Dec.{eqb, ltb}
+use lib.Bits.{bitAnd}
 use lib.ListN.{length}
 use borrow.Author.Tests.{lt-ltb, le-ltb}
 use Rattle.words.specs.Bytes.{Bytes, num, pad, bitmap, part, pastByte}
 use Rattle.words.specs.Reads.{Reads}
+use Rattle.words.proofs.Powers.{eights}
 use Rattle.words.proofs.Numbers.{num-lt}
 use Rattle.schema.specs.Marks.{types, elementWidth}
 use Rattle.schema.specs.Types.{Fixed, bo, st, width, fixedPlace, fixedAt, textAt, Ty, fix, text, li, place}
@@ -53,7 +55,10 @@ module _ {t : List ℕ} {c d : ℕ} {b : List ℕ} (h : Holding t c d b) where
   slotWidth = slotOf (codec own .wide)
 
   -- its count is n
-  module _ (even : length b % 8 ≡ 0) (head : 8 ≤ length b) {n : ℕ} (reads : Reads b 0 8 n) where
+  module _ (mask : bitAnd (length b) 7 ≡ 0) (head : 8 ≤ length b) {n : ℕ} (reads : Reads b 0 8 n) where
+    even : length b % 8 ≡ 0
+    even = eights (length b) mask
+
     -- a count past the end of the list
     pub list-many : length b < n → 2 ≡ faultOf (li own) b
     list-many g =
@@ -198,9 +203,9 @@ module _ {t : List ℕ} {c d : ℕ} {b : List ℕ} (h : Holding t c d b) where
 
 -- what judging elements that are containers asks for
 pub items-room : {n r v start : ℕ} → start ≡ pad (8 + r + n * v) → {t : List ℕ} {c d w : ℕ} {b : List ℕ} → Holding t c d b → EntryAt t c d w
-    → r ≡ bitmap n → v ≡ elementWidth (placeIn w) → length b % 8 ≡ 0 → start ≤ length b → {k : ℕ} → k ≡ placeIn w → 9 ≤ k → Items t c d w b n
+    → r ≡ bitmap n → v ≡ elementWidth (placeIn w) → bitAnd (length b) 7 ≡ 0 → start ≤ length b → {k : ℕ} → k ≡ placeIn w → 9 ≤ k → Items t c d w b n
 unfolding elementWidth
-items-room {n} {r} {v} {start} padded {w = w} h e er ev even room ek lo =
+items-room {n} {r} {v} {start} padded {w = w} {b = b} h e er ev mask room ek lo =
     let eight : v ≡ 8 = ev ∙ rw (le-ltb (placeIn w) 7 (omega arith)) in
     let q : start ≡ pad (8 + r + n * 8) = rw eight at padded in
-    record { stands = h .stands; entry = e; holds = omega arith; small = h .small; whole = even; room = omega arith }
+    record { stands = h .stands; entry = e; holds = omega arith; small = h .small; whole = eights (length b) mask; room = omega arith }

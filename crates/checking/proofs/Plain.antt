@@ -3,15 +3,16 @@
 use mathlib.Core.Path.{_≡_, refl, sym, ap, _∙_, subst}
 use mathlib.Core.Bool.{Bool, true, false, not}
 use mathlib.Core.List.{List}
-use Prim.Native.Nat.{ℕ, _+_, _*_, _-_, _/_, _%_, _^_, _≤_, _<_}
+use Prim.Native.Nat.{ℕ, _+_, _*_, _-_, _/_, _^_, _≤_, _<_}
 use native.Mathlib.Decide.{ℕ-discrete}
 use native.Mathlib.Omega.{arith}
 use mir.Val.{Fits}
 use mir.Syntax.{w64}
-use lib.Bits.{bitAnd, and-mask}
+use lib.Bits.{bitAnd}
 use lib.Dec.{eqb, ltb}
 use lib.ListN.{length}
 use borrow.Author.Tests.{eq-eqb, ne-eqb, not-false}
+use Rattle.words.proofs.Powers.{mask-is, eights}
 use Rattle.words.specs.Bytes.{Bytes, num, pad, bitmap, part}
 use Rattle.words.specs.Bits.{bitOf, bit}
 use Rattle.words.specs.Reads.{Reads}
@@ -49,15 +50,21 @@ module _ {t : List ℕ} {first n d : ℕ} {b : List ℕ} (f : Fields t first n d
     pub plain-word : 8 ≤ length b
     plain-word = omega arith
 
-    pub plain-start : length b % 8 ≡ 0 → Bytes b → {nulls : ℕ} → Reads b 0 8 nulls → nulls / 2 ^ n ≡ 0 → PlainAt t first d n b nulls 0 (8 + 8 * n)
-    plain-start e8 hb r z = record {
+    pub plain-start : bitAnd (length b) 7 ≡ 0 → Bytes b → {nulls : ℕ} → Reads b 0 8 nulls → nulls / 2 ^ n ≡ 0
+        → PlainAt t first d n b nulls 0 (8 + 8 * n)
+    plain-start mask hb r z = record {
       given = f;
       some = some;
       few = few;
       word = r;
       past = z;
       field = leaves-start
-          (record { table = f .table; typed = f .typed; high = f .high; slots = record { small = f .small; whole = e8; room = omega arith } })
+          (record {
+            table = f .table;
+            typed = f .typed;
+            high = f .high;
+            slots = record { small = f .small; whole = eights (length b) mask; room = omega arith };
+          })
           (omega arith) hb;
     }
 
@@ -73,7 +80,7 @@ module _ {t : List ℕ} {first d n : ℕ} {b : List ℕ} {nulls i cur : ℕ} (a 
 
   pub plain-whole : n ≤ i → eqb cur (length b) ≡ true → 0 ≡ faultOf (ro (typesOf t first d n)) b
   plain-whole over e =
-      fields-whole (a .given) one-word (a .field .state .fixed .whole)
+      fields-whole (a .given) one-word (mask-is (length b) 3 ∙ a .field .state .fixed .whole)
       (omega (arith, a .field .state .fixed .room)) clear (rw (eq-eqb (nulls / 2 ^ n) 0 (a .past))) (loop-plain (a .field .state) over e)
 
   -- ---- its body
@@ -106,10 +113,10 @@ module _ {t : List ℕ} {first d n : ℕ} {b : List ℕ} {nulls i cur : ℕ} (a 
     bit-is : bit b 0 i ≡ eqb (bitAnd (nulls / 2 ^ i) 1) 1
     bit-is =
         sym (bit-num 0 8 i (a .field .state .fixed .bytes) (omega (arith, plain-shift)))
-        ∙ ap (λ (x : ℕ). bitOf x i) (sym (a .word .is)) ∙ ap (λ (x : ℕ). eqb x 1) (sym (and-mask (nulls / 2 ^ i) 1))
+        ∙ ap (λ (x : ℕ). bitOf x i) (sym (a .word .is)) ∙ ap (λ (x : ℕ). eqb x 1) (sym (mask-is (nulls / 2 ^ i) 1))
 
     bit-null : (bitAnd (nulls / 2 ^ i) 1 ≡ 0 → ⊥) → bit b 0 i ≡ true
-    bit-null ne = bit-is ∙ eq-eqb (bitAnd (nulls / 2 ^ i) 1) 1 (omega (arith, and-mask (nulls / 2 ^ i) 1))
+    bit-null ne = bit-is ∙ eq-eqb (bitAnd (nulls / 2 ^ i) 1) 1 (omega (arith, mask-is (nulls / 2 ^ i) 1))
 
     bit-here : bitAnd (nulls / 2 ^ i) 1 ≡ 0 → bit b 0 i ≡ false
     bit-here e = bit-is ∙ ne-eqb (bitAnd (nulls / 2 ^ i) 1) 1 (λ q. omega arith)

@@ -8,9 +8,11 @@ use native.Mathlib.Omega.{arith}
 use mir.Val.{Fits}
 use mir.Syntax.{w64}
 use lib.Dec.{ltb}
+use lib.Bits.{bitAnd}
 use lib.ListN.{length}
 use Rattle.words.specs.Bytes.{Bytes, num, bitmap, part, pastByte}
 use Rattle.words.specs.Bits.{bit}
+use Rattle.words.proofs.Powers.{eights, no-eights}
 use Rattle.schema.specs.Types.{Ty, fix, text, li, ma, Tys, ro, fixedAt, width, place, field}
 use Rattle.schema.specs.Walk.{size, Typed, typeAt, nextAt, fieldAt}
 use Rattle.schema.proofs.Table.{width-8}
@@ -54,10 +56,13 @@ module _ {t : List ℕ} {first n d : ℕ} {b : List ℕ} (f : Fields t first n d
   pub struct-end : Fits w64 (slots + 8 * n)
   struct-end = omega (arith, f .high)
 
-  pub fields-odd : (length b % 8 ≡ 0 → ⊥) → 1 ≡ faultOf (ro all) b
-  fields-odd h = sym (struct-odd all n b kids-n h)
+  pub fields-odd : (bitAnd (length b) 7 ≡ 0 → ⊥) → 1 ≡ faultOf (ro all) b
+  fields-odd h = sym (struct-odd all n b kids-n (no-eights (length b) h))
 
-  module _ (e8 : length b % 8 ≡ 0) where
+  module _ (mask : bitAnd (length b) 7 ≡ 0) where
+    e8 : length b % 8 ≡ 0
+    e8 = eights (length b) mask
+
     pub fields-short : length b < slots + 8 * n → 1 ≡ faultOf (ro all) b
     fields-short h = sym (struct-short all n b kids-n e8 (omega arith))
 

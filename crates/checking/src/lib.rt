@@ -115,7 +115,7 @@ fn is_plain(t: &[u64], first: usize, n: usize, depth: usize, b: &[u8]) -> bool
     requires { ⌜ Fields (now t) first n depth (now b) × (1 ≤ n) × (n < 64) ⌝ }
     ensures { λ r. ⌜ (r ≡ true → 0 ≡ faultOf (ro (typesOf (now (t .entry)) first depth n)) (now (b .entry))) ⌝ }
 {
-    if b.len() % 8 != 0 {
+    if b.len() & 7 != 0 {
         return false;
     }
     if b.len() < 8 + 8 * n {
@@ -168,7 +168,7 @@ fn check_struct(t: &[u64], first: usize, n: usize, depth: usize, b: &[u8]) -> us
     ensures { λ r. ⌜ r ≡ faultOf (ro (typesOf (now (t .entry)) first depth n)) (now (b .entry)) ⌝ }
 {
     let slots = words::sizes::bitmap_size(n);
-    if b.len() % 8 != 0 {
+    if b.len() & 7 != 0 {
         return 1;
     }
     if b.len() < slots + 8 * n {
@@ -185,7 +185,7 @@ fn check_list(t: &[u64], c: usize, depth: usize, b: &[u8]) -> usize
     requires { ⌜ Holding (now t) c depth (now b) ⌝ }
     ensures { λ r. ⌜ r ≡ faultOf (li (typeOf (now (t .entry)) c depth)) (now (b .entry)) ⌝ }
 {
-    if b.len() % 8 != 0 {
+    if b.len() & 7 != 0 {
         return 1;
     }
     if b.len() < 8 {
@@ -290,14 +290,14 @@ fn check_map(t: &[u64], k: usize, v: usize, depth: usize, b: &[u8]) -> usize
     requires { ⌜ Pair (now t) k v depth (now b) ⌝ }
     ensures { λ r. ⌜ r ≡ faultOf (ma (typeOf (now (t .entry)) k depth) (typeOf (now (t .entry)) v depth)) (now (b .entry)) ⌝ }
 {
-    if b.len() % 8 != 0 {
+    if b.len() & 7 != 0 {
         return 1;
     }
     if b.len() < 8 {
         return 1;
     }
     let size = words::nums::get8(b, 0) as usize;
-    if size % 8 != 0 {
+    if size & 7 != 0 {
         return 2;
     }
     if b.len() - 8 < size {

@@ -2,20 +2,23 @@
 use mathlib.Core.Path.{_≡_, refl, ap, sym, _∙_, subst}
 use mathlib.Core.Bool.{true, cond}
 use mathlib.Core.List.{List}
-use Prim.Native.Nat.{ℕ, _/_, _%_, _<_}
+use Prim.Native.Nat.{ℕ, _/_, _%_, _^_, _<_}
 use native.Mathlib.Omega.{arith}
 use lib.Dec.{eqb, ltb}
+use lib.Bits.{bitAnd}
 use lib.ListN.{length, getD}
 use borrow.Author.Tests.{eqb-true, eq-eqb, ltb-true}
+use Rattle.words.proofs.Powers.{mask-is}
 use Rattle.schema.specs.Marks.{types}
 use Rattle.schema.proofs.Table.{agree}
 use Rattle.table.specs.Words.{lower, lineWord, lineFor, linesOf}
 use Rattle.compare.specs.Lines.{leavesOf, isLeaf}
 
 -- the code's table is that of the specification
-pub leaf-in : (w : ℕ) {r : ℕ} {l : List ℕ} → l ≡ leavesOf → r ≡ getD l (w / 268435456 % 16) 0 → eqb r w ≡ isLeaf w
+pub leaf-in : (w : ℕ) {r : ℕ} {l : List ℕ} → l ≡ leavesOf → r ≡ getD l (bitAnd (w / 2 ^ 28) 15) 0 → eqb r w ≡ isLeaf w
 unfolding isLeaf
-leaf-in w {r} {l} e f = ap (λ (u : ℕ). eqb u w) (f ∙ ap (λ (u : List ℕ). getD u (w / 268435456 % 16) 0) e)
+leaf-in w {r} {l} e f =
+    ap (λ (u : ℕ). eqb u w) (f ∙ ap (λ (i : ℕ). getD l i 0) (mask-is (w / 2 ^ 28) 4) ∙ ap (λ (u : List ℕ). getD u (w / 268435456 % 16) 0) e)
 
 pub sixteen : length leavesOf ≡ 16
 unfolding leavesOf

@@ -43,22 +43,25 @@ const MAP_ENTRY: u64 = 0x616D + MAP as u64 * KIND + 2 * COUNT;
 
 const STRUCT_ENTRY: u64 = STRUCT_MARK + STRUCT as u64 * KIND;
 
+// All of an entry but the place behind the last descendant.
+const COLUMNS: u64 = AFTER - 1;
+
 // Whether w is a leaf's line.
 fn is_leaf(lines: &[u32], w: u64) -> bool
     requires { ⌜ now lines ≡ leavesOf ⌝ }
     ensures { λ r. ⌜ r ≡ isLeaf w ⌝ }
 {
-    table::widen(lines[(w / KIND % 16) as usize]) == w
+    table::widen(lines[(w >> 28 & 15) as usize]) == w
 }
 
 // How many children a list or a map has by what its entry says; 0 where it says neither.
 fn held_by(w: u64) -> u64
     ensures { λ r. ⌜ r ≡ heldBy w ⌝ }
 {
-    if w % AFTER == LIST_ENTRY {
+    if w & COLUMNS == LIST_ENTRY {
         return 1;
     }
-    if w % AFTER == MAP_ENTRY {
+    if w & COLUMNS == MAP_ENTRY {
         return 2;
     }
     0
@@ -110,7 +113,7 @@ pub fn gives(s: &[u8], t: &[u64]) -> bool
         // The entry, less the place and the depth that are due here: a leaf's is then its line.
         let w = std::num::wrapping_sub_u64(t[i], base);
         if is_leaf(&lines, w) {
-            if table::mark_at(s, 2 * i + extra) != w % 65536 {
+            if table::mark_at(s, 2 * i + extra) != w & 0xFFFF {
                 return false;
             }
             i += 1;
@@ -122,11 +125,11 @@ pub fn gives(s: &[u8], t: &[u64]) -> bool
                     return left == 1 && extra == most;
                 }
                 let f = frames[d];
-                let p = (f / 256) as usize;
-                if t[p] / AFTER != i as u64 {
+                let p = (f >> 8) as usize;
+                if t[p] >> 54 != i as u64 {
                     return false;
                 }
-                n = f % 256;
+                n = f & 0xFF;
                 d -= 1;
                 base -= DEPTH;
             }
@@ -147,7 +150,7 @@ pub fn gives(s: &[u8], t: &[u64]) -> bool
             if 128 < c {
                 return false;
             }
-            if w % AFTER != STRUCT_ENTRY + c * COUNT {
+            if w & COLUMNS != STRUCT_ENTRY + c * COUNT {
                 return false;
             }
             if left <= c as usize {
@@ -162,7 +165,7 @@ pub fn gives(s: &[u8], t: &[u64]) -> bool
             base += CHILD;
             continue;
         }
-        if m != w % 65536 {
+        if m != w & 0xFFFF {
             return false;
         }
         let c = held_by(w);

@@ -3,9 +3,11 @@ use mathlib.Core.Path.{_≡_, ap₂, _∙_, sym}
 use mathlib.Core.List.{List, [], _∷_, _++_}
 use Prim.Native.Nat.{ℕ, _+_, _/_, _%_, _≤_, _<_}
 use native.Mathlib.Omega.{arith}
+use lib.Bits.{bitAnd}
 use lib.ListN.{length, length-append}
 use Rattle.words.specs.Bytes.{part}
 use Rattle.words.proofs.Parts.{length-part}
+use Rattle.words.proofs.Powers.{mask-is}
 use Rattle.schema.specs.Marks.{line as lineIn, markAt}
 use Rattle.schema.proofs.Table.{mark-two}
 use Rattle.layout.specs.Reading as R
@@ -28,12 +30,12 @@ unfolding markIn
 mark-small w e = rw e (omega arith)
 
 module _ {w m : ℕ} (l : Lined w) (e : m ≡ markIn w) where
-  pair-is : m % 256 ∷ m / 256 ∷ [] ≡ markAt (placeIn w)
+  pair-is : bitAnd m 255 ∷ m / 256 ∷ [] ≡ markAt (placeIn w)
   unfolding markAt
   pair-is =
       let b = below (placeIn w) (l .few) in
       let is : m ≡ lower (placeIn w) % 65536 = e ∙ l .mark ∙ sym (b .mark) in
-      let first : m % 256 ≡ lineIn (placeIn w) .first = halves-first m (lower (placeIn w)) is ∙ b .first in
+      let first : bitAnd m 255 ≡ lineIn (placeIn w) .first = mask-is m 8 ∙ halves-first m (lower (placeIn w)) is ∙ b .first in
       let second : m / 256 ≡ lineIn (placeIn w) .second = halves-second m (lower (placeIn w)) is ∙ b .second in
       ap₂ (λ (x y : ℕ). x ∷ y ∷ []) first second
     where
@@ -43,7 +45,7 @@ module _ {w m : ℕ} (l : Lined w) (e : m ≡ markIn w) where
       halves-second : (m n : ℕ) → m ≡ n % 65536 → m / 256 ≡ n / 256 % 256
       halves-second m n e = omega arith
 
-  pub mark-puts : {a b c : List ℕ} {at next r : ℕ} → Puts a at (m % 256 ∷ []) next b → Puts b next (m / 256 ∷ []) r c
+  pub mark-puts : {a b c : List ℕ} {at next r : ℕ} → Puts a at (bitAnd m 255 ∷ []) next b → Puts b next (m / 256 ∷ []) r c
       → Puts a at (markAt (placeIn w)) r c
   mark-puts p q = puts-as pair-is (puts-then p q)
 

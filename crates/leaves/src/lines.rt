@@ -19,8 +19,8 @@ fn mark(out: &mut [u8], at: usize, w: u64) -> usize
     ensures { λ r. ⌜ Puts (now (out .entry)) at (markAt (placeIn w)) r (now (out .exit)) ⌝ }
 {
     let m = table::mark(w);
-    let next = text::byte(out, at, (m % 256) as u8);
-    text::byte(out, next, (m / 256) as u8)
+    let next = text::byte(out, at, (m & 0xFF) as u8);
+    text::byte(out, next, (m >> 8) as u8)
 }
 
 // A container has no contents of its own, and a refusal none at all.

@@ -1,10 +1,11 @@
 -- Text put piece by piece: numbers digit by digit, bytes one by one, a path step by step. Assumes nothing.
-use mathlib.Core.Path.{_≡_, refl, sym, ap, _∙_}
+use mathlib.Core.Path.{_≡_, refl, sym, ap, ap₂, _∙_}
 use mathlib.Core.Bool.{true, false, true≢false}
 use mathlib.Core.List.{List, [], _∷_, _++_, append-assoc, append-nil}
-use Prim.Native.Nat.{ℕ, zero, suc, _+_, _-_, _/_, _%_, _≤_, _<_}
+use Prim.Native.Nat.{ℕ, zero, suc, _+_, _*_, _-_, _/_, _%_, _≤_, _<_}
 use native.Mathlib.Omega.{arith}
 use native.Mathlib.Numerals.{add-one}
+use lib.Bits.{bitAnd}
 use lib.IntN.{ℤ, pos, negsuc}
 use lib.Signed.{mag}
 use lib.ListN.{length, take, drop, getD, length-append}
@@ -13,6 +14,7 @@ use borrow.Author.Tests.{lt-ltb, le-ltb}
 use Rattle.io.specs.Digits.{glyph}
 use Rattle.words.specs.Bytes.{part}
 use Rattle.words.specs.Signed.{isNegative}
+use Rattle.words.proofs.Powers.{mask-is}
 use Rattle.words.proofs.Runs.{sets-then}
 use Rattle.words.proofs.Parts.{length-part, part-snoc, part-whole}
 use Rattle.lettering.specs.Text.{hex, decimalIn, decimal, signed, hexes, bytes, dotted, path, Puts}
@@ -49,9 +51,14 @@ pub hex-none : (out : List ℕ) (at k n : ℕ) → k ≡ 0 → Puts out at (hex 
 unfolding hex
 hex-none out at k n e = rw e (puts-none out at)
 
-pub hex-more : {a b c : List ℕ} {at m r : ℕ} (k n d : ℕ) → (k ≡ 0 → ⊥) → d ≡ glyph (n % 16) → Puts a at (hex (k - 1) (n / 16)) m b → Puts b m (d ∷ []) r c
-    → Puts a at (hex k n) r c
-hex-more k n d h e p q = puts-as (ap (λ (x : ℕ). hex (k - 1) (n / 16) ++ (x ∷ [])) e ∙ hex-digit k n h) (puts-then p q)
+pub hex-more : {a b c : List ℕ} {at m r : ℕ} (k n d : ℕ) → (k ≡ 0 → ⊥) → d ≡ glyph (bitAnd n 15) → Puts a at (hex (k - 1) (n / 16)) m b
+    → Puts b m (d ∷ []) r c → Puts a at (hex k n) r c
+hex-more k n d h e p q =
+    puts-as (ap (λ (x : ℕ). hex (k - 1) (n / 16) ++ (x ∷ [])) (e ∙ ap glyph (mask-is n 4)) ∙ hex-digit k n h) (puts-then p q)
+
+-- what a tenth leaves is the last digit
+pub last-digit : (n q : ℕ) → q ≡ n / 10 → n - 10 * q ≡ n % 10
+last-digit n q e = omega arith
 
 decimal-first : (k n : ℕ) → (k ≡ 0 → ⊥) → n < 10 → glyph n ∷ [] ≡ decimalIn k n
 unfolding decimalIn
@@ -70,9 +77,10 @@ decimal-none out at k n e = rw e (puts-none out at)
 pub decimal-one : {a b : List ℕ} {at r : ℕ} (k n d : ℕ) → (k ≡ 0 → ⊥) → n < 10 → d ≡ glyph n → Puts a at (d ∷ []) r b → Puts a at (decimalIn k n) r b
 decimal-one k n d h l e p = puts-as (ap (λ (x : ℕ). x ∷ []) e ∙ decimal-first k n h l) p
 
-pub decimal-more : {a b c : List ℕ} {at m r : ℕ} (k n d : ℕ) → (k ≡ 0 → ⊥) → 10 ≤ n → d ≡ glyph (n % 10) → Puts a at (decimalIn (k - 1) (n / 10)) m b
-    → Puts b m (d ∷ []) r c → Puts a at (decimalIn k n) r c
-decimal-more k n d h l e p q = puts-as (ap (λ (x : ℕ). decimalIn (k - 1) (n / 10) ++ (x ∷ [])) e ∙ decimal-digit k n h l) (puts-then p q)
+pub decimal-more : {a b c : List ℕ} {at m r : ℕ} (k n q d : ℕ) → (k ≡ 0 → ⊥) → 10 ≤ n → q ≡ n / 10 → d ≡ glyph (n - 10 * q)
+    → Puts a at (decimalIn (k - 1) q) m b → Puts b m (d ∷ []) r c → Puts a at (decimalIn k n) r c
+decimal-more k n q d h l t e p s =
+    puts-as (ap₂ (λ (x y : ℕ). decimalIn (k - 1) x ++ (y ∷ [])) t (e ∙ ap glyph (last-digit n q t)) ∙ decimal-digit k n h l) (puts-then p s)
 
 pub decimal-whole : {a b : List ℕ} {at r : ℕ} (n : ℕ) → Puts a at (decimalIn 20 n) r b → Puts a at (decimal n) r b
 unfolding decimal

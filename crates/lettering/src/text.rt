@@ -1,7 +1,7 @@
 // Numbers, bytes and paths as text. Each function puts its text into the lent bytes at a place with room for it, and answers the place after it.
 ghost use mathlib.Core.Path.{_≡_};
 ghost use mathlib.Core.List.{[], _∷_};
-ghost use Prim.Native.Nat.{_+_, _*_, _≤_, _<_};
+ghost use Prim.Native.Nat.{_+_, _*_, _/_, _^_, _≤_, _<_};
 ghost use lib.ListN.{length};
 ghost use Rattle.io.specs.Digits.{glyph as glyphOf};
 ghost use Rattle.words.specs.Bytes.{part};
@@ -42,8 +42,28 @@ pub fn hex(out: &mut [u8], at: usize, n: u64, k: usize) -> usize
     if k == 0 {
         return at;
     }
-    let next = hex(out, at, n / 16, k - 1);
-    byte(out, next, glyph((n % 16) as u8))
+    let next = hex(out, at, n >> 4, k - 1);
+    byte(out, next, glyph((n & 15) as u8))
+}
+
+// A tenth of a number of 32 bits, rounded down, by its reciprocal: 10 * 0xCCCC_CCCD is 2^35 + 2.
+fn short_tenth(n: u64) -> u64
+    requires { ⌜ n < 2 ^ 32 ⌝ }
+    ensures { λ r. ⌜ r ≡ n / 10 ⌝ }
+{
+    (n * 0xCCCC_CCCD) >> 35
+}
+
+// A tenth of any number, rounded down: of its upper half, then of 16 bits more at a time. What is left is below 0xA_0000, ten times 2^16.
+pub fn tenth(n: u64) -> u64
+    ensures { λ r. ⌜ r ≡ n / 10 ⌝ }
+{
+    if n < 0x1_0000_0000 {
+        return short_tenth(n);
+    }
+    let a = short_tenth(n >> 32);
+    let b = a * 0x1_0000 + short_tenth((n >> 16) - a * 0xA_0000);
+    b * 0x1_0000 + short_tenth(n - b * 0xA_0000)
 }
 
 // The decimal digits of a number, and no more than the last k.
@@ -57,8 +77,9 @@ fn decimal_in(out: &mut [u8], at: usize, n: u64, k: usize) -> usize
     if n < 10 {
         return byte(out, at, glyph(n as u8));
     }
-    let next = decimal_in(out, at, n / 10, k - 1);
-    byte(out, next, glyph((n % 10) as u8))
+    let q = tenth(n);
+    let next = decimal_in(out, at, q, k - 1);
+    byte(out, next, glyph((n - 10 * q) as u8))
 }
 
 // No number of 64 bits has more than 20 digits.

@@ -1,21 +1,23 @@
 -- A line of the picture, piece by piece, and how long each is at most. Assumes nothing.
-use mathlib.Core.Path.{_≡_, refl, sym, ap, _∙_}
+use mathlib.Core.Path.{_≡_, refl, sym, ap, ap₂, _∙_}
 use mathlib.Core.Bool.{Bool, true, false, cond}
 use mathlib.Core.Option.{Option, none, some}
 use mathlib.Core.List.{List, [], _∷_, _++_, append-assoc, append-nil}
 use Prim.Native.Nat.{ℕ, zero, suc, _+_, _-_, _*_, _/_, _%_, _≤_, _<_}
 use native.Mathlib.Omega.{arith}
 use native.Mathlib.Numerals.{add-one}
+use lib.Bits.{bitAnd}
 use lib.Dec.{eqb, ltb}
 use lib.ListN.{length, take, drop, getD, length-append, length-take}
 use borrow.Author.Tests.{lt-ltb, le-ltb, eq-eqb, ne-eqb, ltb-true, ltb-false}
 use Rattle.io.specs.Digits.{glyph}
 use Rattle.words.specs.Bytes.{part}
 use Rattle.words.proofs.Parts.{length-part, part-snoc}
+use Rattle.words.proofs.Powers.{mask-is}
 use Rattle.chart.specs.Claims.{whatAt, held, stepsAt}
 use Rattle.chart.proofs.Claiming.{held-few}
 use Rattle.lettering.specs.Text.{hex, path, Puts}
-use Rattle.lettering.proofs.Putting.{puts-none, puts-then, puts-as, less-one}
+use Rattle.lettering.proofs.Putting.{puts-none, puts-then, puts-as, less-one, last-digit}
 use Rattle.lettering.proofs.Lengths.{hex-length, path-most}
 use Rattle.picture.specs.Picture.{spaces, right, spaced, onLine, word, padding, link, linked, label, labelled, lineOf, mark, under, behind, faultOf}
 
@@ -70,9 +72,10 @@ pub right-one : {a b c : List ℕ} {at m r : ℕ} (k n d : ℕ) → (k ≡ 0 →
     → Puts b m (d ∷ []) r c → Puts a at (right k n) r c
 right-one k n d h l e p q = puts-as (ap (λ (x : ℕ). spaces (k - 1) ++ (x ∷ [])) e ∙ right-first k n h l) (puts-then p q)
 
-pub right-more : {a b c : List ℕ} {at m r : ℕ} (k n d : ℕ) → (k ≡ 0 → ⊥) → 10 ≤ n → d ≡ glyph (n % 10)
-    → Puts a at (right (k - 1) (n / 10)) m b → Puts b m (d ∷ []) r c → Puts a at (right k n) r c
-right-more k n d h l e p q = puts-as (ap (λ (x : ℕ). right (k - 1) (n / 10) ++ (x ∷ [])) e ∙ right-digit k n h l) (puts-then p q)
+pub right-more : {a b c : List ℕ} {at m r : ℕ} (k n q d : ℕ) → (k ≡ 0 → ⊥) → 10 ≤ n → q ≡ n / 10 → d ≡ glyph (n - 10 * q) → Puts a at (right (k - 1) q) m b
+    → Puts b m (d ∷ []) r c → Puts a at (right k n) r c
+right-more k n q d h l t e p s =
+    puts-as (ap₂ (λ (x y : ℕ). right (k - 1) x ++ (y ∷ [])) t (e ∙ ap glyph (last-digit n q t)) ∙ right-digit k n h l) (puts-then p s)
 
 -- ---- bytes
 
@@ -181,6 +184,11 @@ unfolding linked
 linked-most w [] h = omega arith
 linked-most w (i ∷ p) h = omega (arith, length-append (link w) (path (i ∷ p)), link-most w, path-most (i ∷ p), h)
 
+pub label-puts : {a b c d : List ℕ} {at i j r : ℕ} (w : ℕ) (p : List ℕ) → Puts a at (word (bitAnd w 7)) i b → Puts b i (padding w) j c
+    → Puts c j (linked (bitAnd w 7) p) r d → Puts a at (label w p) r d
+unfolding label
+label-puts w p s t v = puts-as (ap (λ (x : ℕ). word x ++ (padding w ++ linked x p)) (mask-is w 3)) (puts-then s (puts-then t v))
+
 label-most : (w : ℕ) (p : List ℕ) → length p ≤ 16 → length (label w p) ≤ 366
 unfolding label
 label-most w p h =
@@ -234,6 +242,11 @@ line-most row m u h =
     (omega (arith, right-length 5 (8 * u), spaced-most row u n refl h, labelled-most n (whatAt m u) (stepsAt m u) (steps-most m u)))
 
 -- ---- the mark
+
+pub mark-puts : {a b c : List ℕ} {at m r : ℕ} (place : ℕ) → Puts a at (spaces (7 + 3 * bitAnd place 7)) m b → Puts b m (94 ∷ 94 ∷ 10 ∷ []) r c
+    → Puts a at (mark place) r c
+unfolding mark
+mark-puts place p q = puts-as (ap (λ (x : ℕ). spaces (7 + 3 * x) ++ (94 ∷ 94 ∷ 10 ∷ [])) (mask-is place 3)) (puts-then p q)
 
 mark-most : (place : ℕ) → length (mark place) ≤ 31
 unfolding mark

@@ -41,8 +41,9 @@ fn right(out: &mut [u8], at: usize, n: usize, k: usize) -> usize
         let last = spaces(out, at, k - 1);
         return text::byte(out, last, text::glyph(n as u8));
     }
-    let next = right(out, at, n / 10, k - 1);
-    text::byte(out, next, text::glyph((n % 10) as u8))
+    let q = text::tenth(n as u64) as usize;
+    let next = right(out, at, q, k - 1);
+    text::byte(out, next, text::glyph((n - 10 * q) as u8))
 }
 
 // The n bytes from the one numbered start on, each a space and two digits.
@@ -132,9 +133,9 @@ fn label(out: &mut [u8], at: usize, w: u32, path: Path) -> usize
     requires { ⌜ (at + 366 ≤ length (now out)) × (path .len ≤ 16) ⌝ }
     ensures { λ r. ⌜ Puts (now (out .entry)) at (labelOf w (pathOf path)) r (now (out .exit)) ⌝ }
 {
-    let p = word(out, at, w % 8);
+    let p = word(out, at, w & 7);
     let l = padding(out, p, w);
-    linked(out, l, w % 8, path)
+    linked(out, l, w & 7, path)
 }
 
 // The label of the line u behind its k bytes, where it has one.
@@ -166,7 +167,7 @@ fn mark(out: &mut [u8], at: usize, place: usize) -> usize
     requires { ⌜ at + 31 ≤ length (now out) ⌝ }
     ensures { λ r. ⌜ Puts (now (out .entry)) at (markOf place) r (now (out .exit)) ⌝ }
 {
-    let next = spaces(out, at, 7 + 3 * (place % 8));
+    let next = spaces(out, at, 7 + 3 * (place & 7));
     text::put(out, next, b"^^\n")
 }
 
@@ -178,7 +179,7 @@ fn under(out: &mut [u8], at: usize, sound: bool, place: usize, u: usize) -> usiz
     if sound {
         return at;
     }
-    if place / 8 == u {
+    if place >> 3 == u {
         return mark(out, at, place);
     }
     at
@@ -192,7 +193,7 @@ fn behind(out: &mut [u8], at: usize, sound: bool, place: usize, n: usize) -> usi
     if sound {
         return at;
     }
-    if place / 8 < n {
+    if place >> 3 < n {
         return at;
     }
     mark(out, at, place)
@@ -202,7 +203,7 @@ fn picture(row: &[u8], chart: &[u32], sound: bool, place: usize, out: &mut [u8])
     requires { ⌜ Long (now chart) × (length (now row) ≤ 16384) × (length (now out) ≡ 262144) ⌝ }
     ensures { λ r. ⌜ Walked (pictureOf (now (row .entry)) (now (chart .entry)) (faultOf sound place)) (now (out .entry)) 0 r (now (out .exit)) ⌝ }
 {
-    let n = (row.len() + 7) / 8;
+    let n = (row.len() + 7) >> 3;
     let mut used = 0;
     let mut u = 0;
     while u < n {

@@ -6,6 +6,7 @@ use native.Mathlib.Nat.{mod-eq-of-lt, lt-of-le-of-lt, one-mul}
 use native.Mathlib.Omega.{arith}
 use lib.Dec.{lit<}
 use lib.Pow.{pow-mono, pow-pos}
+use lib.Bits.{bitAnd}
 use lib.ListN.{length, getD, length-append}
 use lib.Seq.{sets, length-sets}
 use mir.Syntax.{w8, w64}
@@ -13,6 +14,7 @@ use mir.Val.{Fits}
 use Rattle.words.specs.Bytes.{Bytes, le, num, part, zeros, pad, padded, fill, bitmap}
 use Rattle.words.specs.Pairs.{lowIn, highIn, Paired}
 use Rattle.words.specs.Reads.{Reads}
+use Rattle.words.proofs.Powers.{mask-is}
 use Rattle.words.proofs.Runs.{sets-then}
 use Rattle.words.proofs.Parts.{length-part, bytes-part, part-add}
 use Rattle.words.proofs.Numbers.{le-num, length-le, slice-bytes}
@@ -29,15 +31,16 @@ short-power k h =
     let m : 2 ^ (8 * k) ≤ 2 ^ 56 = pow-mono {i = 8 * k} {j = 56} (omega arith) in
     rw one-mul (mod-eq-of-lt (lt-of-le-of-lt m (lit< tt)))
 
-pub short-some : (k : ℕ) → k < 8 → 0 < 1 * 2 ^ (8 * k) % 2 ^ 64
+pub short-some : (k : ℕ) → k < 8 → 1 ≤ 1 * 2 ^ (8 * k) % 2 ^ 64
 short-some k h = rw (short-power k h) (pow-pos (8 * k))
 
-pub short-reads : {l : List ℕ} {at k x : ℕ} → Octets l → at + k ≤ length l → k < 8 → Reads l at 8 x → Reads l at k (x % (1 * 2 ^ (8 * k) % 2 ^ 64))
+pub short-reads : {l : List ℕ} {at k x : ℕ} → Octets l → at + k ≤ length l → k < 8 → Reads l at 8 x
+    → Reads l at k (bitAnd x (1 * 2 ^ (8 * k) % 2 ^ 64 - 1))
 short-reads {l} {at} {k} {x} o h lo r =
     let hb = slice-bytes o in
     let q : k + (8 - k) ≡ 8 = omega arith in
     let low = rw q at (num-low {b = l} at k (8 - k) hb h) in
-    let e : x % (1 * 2 ^ (8 * k) % 2 ^ 64) ≡ num (part l at k) = rw (short-power k lo, ← pow256 k, r .is) low in
+    let e : bitAnd x (1 * 2 ^ (8 * k) % 2 ^ 64 - 1) ≡ num (part l at k) = rw (short-power k lo, mask-is x (8 * k), ← pow256 k, r .is) low in
     record { is = e; below = rw e (part-lt at k hb h) }
 
 -- a number of v bytes in w is those bytes and zeros

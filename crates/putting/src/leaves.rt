@@ -17,7 +17,7 @@ fn short_number(l: &[u8], at: usize, k: usize) -> u64
     if l.len() - at < 8 {
         return words::nums::get_num(l, at, k);
     }
-    words::nums::get8(l, at) % (1 << (8 * k))
+    words::nums::get8(l, at) & ((1 << (8 * k)) - 1)
 }
 
 // The number of v bytes.

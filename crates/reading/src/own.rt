@@ -53,7 +53,7 @@ fn map_holds(row: &[u8], base: usize, size: usize) -> bool
         return false;
     }
     let z = words::nums::get8(row, base) as usize;
-    if z % 8 != 0 {
+    if z & 7 != 0 {
         return false;
     }
     z <= size - 8

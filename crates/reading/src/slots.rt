@@ -17,7 +17,7 @@ fn pointed(row: &[u8], base: usize, size: usize, fixed: usize, seat: Seat) -> Ch
     if off < fixed as u64 {
         return Child::Broken(at);
     }
-    if off % 8 != 0 {
+    if off & 7 != 0 {
         return Child::Broken(at);
     }
     if (size as u64) < off + len {

@@ -8,8 +8,9 @@ use native.Mathlib.Nat.{lt-of-lt-of-le, mod-lt, mod-eq-of-lt, one-mul}
 use native.Mathlib.Numerals.{add-one}
 use native.Mathlib.Omega.{arith}
 use lib.ListN.{length, getD, set}
-use lib.Bits.{bitAnd, bitOr, and-mask}
+use lib.Bits.{bitAnd, bitOr}
 use lib.Pow.{pow-lt}
+use Rattle.words.proofs.Powers.{mask-is, eights, no-eights}
 use Rattle.words.specs.Bytes.{pad}
 use Rattle.words.specs.Bits.{bitOf, withBit, bit, putBit}
 use Rattle.words.specs.Slots.{Offset, Size}
@@ -82,7 +83,7 @@ module _ (m : List ℕ) (a b : ℕ) where
 pub unit-mask : (a : ℕ) → 1 * 2 ^ bitAnd a 7 % 2 ^ 64 ≡ 2 ^ (a % 8)
 unit-mask a =
     let l : 2 ^ (a % 8) < 2 ^ 64 = pow-lt {j = 64} (lt-of-lt-of-le (mod-lt a (lit< tt)) (lit≤ {m = 8} {n = 64} tt)) in
-    rw (and-mask a 3, one-mul) (mod-eq-of-lt l)
+    rw (mask-is a 3, one-mul) (mod-eq-of-lt l)
 
 module _ (m : List ℕ) (a : ℕ) {old x : ℕ} (was : old ≡ getD m (a / 8) 0) (is : x ≡ 2 ^ (a % 8)) where
   with-unit : bitOr old x ≡ withBit old (a % 8) true
@@ -124,12 +125,9 @@ odd {start = start} {r = r} e l h = record {
   maps = refl;
 }
 
-even : (from : ℕ) → bitAnd from 7 ≡ 0 → from % 8 ≡ 0
-even from f = sym (and-mask from 3) ∙ f
-
 pub place-odd : {m : List ℕ} {start len : ℕ} {r : Range} {from : ℕ} → from ≡ r .start → start ≤ from → (bitAnd from 7 ≡ 0 → ⊥)
     → Placing m start len r false m
-place-odd {from = from} e l h = odd e l (λ z. h (and-mask from 3 ∙ z))
+place-odd e l h = odd e l (no-eights _ h)
 
 -- it begins at from, at or behind start, and has size bytes without its padding
 pub record Bounds (start : ℕ) (r : Range) (from size : ℕ) : Type 0 where
@@ -162,9 +160,10 @@ module _ {start : ℕ} {r : Range} {from size : ℕ} (d : Bounds start r from si
           → Placing m start len r v m′
       unfolding places withRange
       place-beside {next} n a =
-          let z : next ≡ ends r = omega (arith, d .ends-is, even from f) in
+          let even = eights from f in
+          let z : next ≡ ends r = omega (arith, d .ends-is, even) in
           record {
-            is = rw (le-ltb (r .start) start first, eq-eqb (r .start % 8) 0 (eight (even from f)), le-ltb len (ends r) (omega (arith, d .ends-is, even from f)))
+            is = rw (le-ltb (r .start) start first, eq-eqb (r .start % 8) 0 (eight even), le-ltb len (ends r) (omega (arith, d .ends-is, even)))
                 (rw (d .from-is, z) at (a .0));
             maps = rw (d .from-is, z) at (a .1);
           }
@@ -173,7 +172,7 @@ module _ {start : ℕ} {r : Range} {from size : ℕ} (d : Bounds start r from si
       pub place-unit : (size ≡ 0 → ⊥) → size ≤ 8 → {v : Bool} {m′ : List ℕ}
           → (v ≡ admits m (from / 8) (from / 8 + 1)) × (m′ ≡ admitted m (from / 8) (from / 8 + 1) v)
           → Placing m start len r v m′
-      place-unit o l a = let z : from / 8 + 1 ≡ pad (from + size) / 8 = omega (arith, even from f) in place-beside refl (rw z at a)
+      place-unit o l a = let z : from / 8 + 1 ≡ pad (from + size) / 8 = omega (arith, eights from f) in place-beside refl (rw z at a)
 
 -- where the value of a slot begins, and its size
 pub slot-bounds : {b : List ℕ} {slot from size start : ℕ} → Offset b slot from → Size b slot size → start ≤ from → Bounds start (rangeAt b slot) from size

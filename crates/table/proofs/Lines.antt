@@ -3,11 +3,13 @@
 use mathlib.Core.Path.{_≡_, refl, ap, sym, _∙_, subst}
 use mathlib.Core.Bool.{Bool, true, false, cond}
 use mathlib.Core.List.{List}
-use Prim.Native.Nat.{ℕ, _+_, _*_, _-_, _/_, _%_, _≤_, _<_}
+use Prim.Native.Nat.{ℕ, _+_, _*_, _-_, _/_, _%_, _^_, _≤_, _<_}
 use native.Mathlib.Omega.{arith}
 use lib.Dec.{eqb, ltb, leb}
+use lib.Bits.{bitAnd}
 use lib.ListN.{length, getD, List·getD-eq-default}
 use borrow.Author.Tests.{ltb-true, eq-eqb, ne-eqb, le-leb, lt-leb, leb-true}
+use Rattle.words.proofs.Powers.{mask-is}
 use Rattle.schema.specs.Marks.{types, line}
 use Rattle.schema.specs.Kinds.{find, placeOf, placeAt}
 use Rattle.schema.proofs.Table.{agree}
@@ -66,9 +68,9 @@ module _ {s : List ℕ} {at m : ℕ} (q : MarkAt s at m) where
       rw (← x, ← y) p
 
 -- the code's table is that of the specification, so what stands there is too
-pub line-in : (m : ℕ) {l : List ℕ} {w : ℕ} → l ≡ linesOf → w ≡ getD l (m * 109 / 1024 % 16) 0 → w ≡ lineFor m
+pub line-in : (m : ℕ) {l : List ℕ} {w : ℕ} → l ≡ linesOf → w ≡ getD l (bitAnd (m * 109 / 2 ^ 10) 15) 0 → w ≡ lineFor m
 unfolding lineFor
-line-in m e f = f ∙ ap (λ (l : List ℕ). getD l (hash m) 0) e
+line-in m {l} e f = f ∙ ap (λ (i : ℕ). getD l i 0) (mask-is (m * 109 / 2 ^ 10) 4) ∙ ap (λ (l : List ℕ). getD l (hash m) 0) e
 
 -- ---- what a container holds
 

@@ -103,7 +103,7 @@ fn line_of(lines: &[u32], m: u64) -> u64
     requires { ⌜ (now lines ≡ linesOf) × (m < 65536) ⌝ }
     ensures { λ r. ⌜ r ≡ lineFor m ⌝ }
 {
-    widen(lines[(m * 109 / 1024 % 16) as usize])
+    widen(lines[(m * 109 >> 10 & 15) as usize])
 }
 
 // How many children a container has, whose place in the table of types is k and whose mark ends at a position; 0 where that is refused.
@@ -166,7 +166,7 @@ pub fn build(s: &[u8], t: &mut [u64]) -> usize
         }
         let m = mark_at(s, at);
         let w = line_of(&lines, m);
-        if w % 65536 != m {
+        if w & 0xFFFF != m {
             return 0;
         }
         n -= 1;
@@ -177,7 +177,7 @@ pub fn build(s: &[u8], t: &mut [u64]) -> usize
             base += NEXT;
             while n == 0 {
                 let f = frames[d];
-                let p = (f / 256) as usize;
+                let p = (f >> 8) as usize;
                 t[p] = std::num::wrapping_add_u64(t[p], i as u64 * AFTER);
                 if d == 0 {
                     if at == len {
@@ -185,7 +185,7 @@ pub fn build(s: &[u8], t: &mut [u64]) -> usize
                     }
                     return 0;
                 }
-                n = f % 256;
+                n = f & 0xFF;
                 d -= 1;
                 base -= DEPTH;
             }
@@ -194,7 +194,7 @@ pub fn build(s: &[u8], t: &mut [u64]) -> usize
         if d == 6 {
             return 0;
         }
-        let k = (w / KIND) as usize;
+        let k = (w >> 28) as usize;
         let c = held(s, at + 2, k);
         if c == 0 {
             return 0;
@@ -221,41 +221,41 @@ pub fn entry_at(t: &[u64], c: usize, depth: usize) -> u64
 pub fn place(w: u64) -> usize
     ensures { λ r. ⌜ r ≡ placeIn w ⌝ }
 {
-    (w / KIND % 16) as usize
+    (w >> 28 & 15) as usize
 }
 
 pub fn mark(w: u64) -> usize
     ensures { λ r. ⌜ r ≡ markIn w ⌝ }
 {
-    (w % 0x1_0000) as usize
+    (w & 0xFFFF) as usize
 }
 
 // the bytes in a row, 0 where they vary,
 pub fn width(w: u64) -> usize
     ensures { λ r. ⌜ r ≡ widthIn w ⌝ }
 {
-    (w / 0x40_0000 % 16) as usize
+    (w >> 22 & 15) as usize
 }
 
 // the highest bit of a fixed width's contents in a slot,
 pub fn top(w: u64) -> u64
     ensures { λ r. ⌜ r ≡ topIn w ⌝ }
 {
-    w / 0x1_0000 % 64
+    w >> 16 & 63
 }
 
 // a struct's fields,
 pub fn count(w: u64) -> usize
     ensures { λ r. ⌜ r ≡ countIn w ⌝ }
 {
-    (w / COUNT % 256) as usize
+    (w >> 36 & 0xFF) as usize
 }
 
 // and the place behind the last descendant.
 pub fn after(w: u64) -> usize
     ensures { λ r. ⌜ r ≡ afterIn w ⌝ }
 {
-    (w / AFTER) as usize
+    (w >> 54) as usize
 }
 
 // The bytes of an element of the type: a slot's 8 where they vary.

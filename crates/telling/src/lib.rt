@@ -28,7 +28,7 @@ pub fn verdict(line: &mut [u8], code: u64) -> usize {
     if code >> 32 == 0 {
         lines::put_text(line, 0, b"done")
     } else {
-        refused_with(line, code >> 32, code % 0x1_0000_0000)
+        refused_with(line, code >> 32, code & 0xFFFF_FFFF)
     }
 }
 

@@ -62,7 +62,7 @@ pub fn put_bits(line: &mut [u8], at: usize, n: u64, width: usize) -> usize {
 
 // The digit of the lower half.
 fn hex_digit(n: u8) -> u8 {
-    let d = n % 16;
+    let d = n & 15;
     if d < 10 { 48 + d } else { 87 + d }
 }
 
@@ -75,7 +75,7 @@ pub fn put_bytes(line: &mut [u8], at: usize, bytes: &[u8]) -> usize {
     let mut i = 0;
     while i < bytes.len() {
         let b = bytes[i];
-        end = put_byte(line, end, hex_digit(b / 16));
+        end = put_byte(line, end, hex_digit(b >> 4));
         end = put_byte(line, end, hex_digit(b));
         i += 1;
     }

@@ -13,8 +13,9 @@ use lib.ListN.{length, getD, length-set}
 use lib.Seq.{sets, getD-set-same, getD-set-other}
 use lib.Arith.{digits-lt}
 use lib.Pow.{pow-pos, pow-add, split, high, shr-shr, shr-lt, high-ones, ones-lt, pow-mono}
-use lib.Bits.{bitAnd, bitOr, and-high, and-mask, and-block, or-block, or-step, or-zero-r}
+use lib.Bits.{bitAnd, bitOr, and-high, and-block, or-block, or-step, or-zero-r}
 use borrow.Author.Tests.{ne-eqb}
+use Rattle.words.proofs.Powers.{mask-is}
 use Rattle.words.specs.Bytes.{Bytes, empty, byte, num, part}
 use Rattle.words.specs.Bits.{bitOf, digit, withBit, bit, putBit}
 use Rattle.words.proofs.Numbers.{byte-at}
@@ -58,7 +59,7 @@ and-not-bit j k x h =
     let hr : r < 2 ^ k = mod-lt x (pow-pos k) in
     let ha : a / 2 < 2 ^ j = shr-lt j 1 (shr-lt (j + 1) k (rw (add-assoc j 1 k) h)) in
     let hi : bitAnd a (2 ^ (j + 1) - 2 ^ 1) ≡ a / 2 * 2 = and-high a j 1 ∙ ap (λ (n : ℕ). n * 2) (mod-eq-of-lt ha) in
-    let lo : bitAnd r (2 ^ k - 1) ≡ r = and-mask r k ∙ mod-eq-of-lt hr in
+    let lo : bitAnd r (2 ^ k - 1) ≡ r = mask-is r k ∙ mod-eq-of-lt hr in
     ap₂ bitAnd (sym (split x k)) (mask-eq j k)
     ∙ and-block k a (2 ^ (j + 1) - 2 ^ 1) r (2 ^ k - 1) hr (ones-lt k)
     ∙ ap₂ (λ (m n : ℕ). m * 2 ^ k + n) (hi ∙ sym (add-zero (a / 2 * 2))) lo

@@ -2,6 +2,7 @@
 pub mod Numbers
 pub mod Parts
 pub mod Runs
+pub mod Powers
 pub mod NumLaws
 pub mod FirstSet
 pub mod Turns

@@ -12,8 +12,9 @@ use lib.ListN.{length, getD, set, length-replicate, replicate-append-replicate}
 use lib.Seq.{sets}
 use lib.Arith.{digits-lt}
 use lib.Pow.{pow-add, pow-pos, shl-exact, shr-shr, split}
-use lib.Bits.{bitAnd, bitOr, or-shifted, or-shifted-r, and-mask}
+use lib.Bits.{bitAnd, bitOr, or-shifted, or-shifted-r}
 use borrow.Author.Tests.{lt-ltb, le-ltb, eq-eqb, ne-eqb}
+use Rattle.words.proofs.Powers.{mask-is}
 use Rattle.words.specs.Bytes.{Bytes, le, num, part, zeros, bitmap, pad}
 use Rattle.words.specs.Reads.{Reads}
 use Rattle.words.proofs.Numbers.{length-le, byte-at}
@@ -43,18 +44,18 @@ reads-next {b} at n w x h r e l f =
 -- ---- a straight write, byte by byte from the lowest on
 
 pub low-byte : (x : ℕ) → bitAnd x 255 ≡ x % 256
-low-byte x = and-mask x 8
+low-byte x = mask-is x 8
 
 pub puts-next : (b l : List ℕ) (at n v x : ℕ) → l ≡ sets b at (le n v) → x ≡ v / 256 ^ n → set l (at + n) (bitAnd x 255) ≡ sets b at (le (suc n) v)
 puts-next b l at n v x e f =
     ap (λ (t : List ℕ). set t (at + n) (bitAnd x 255)) e
     ∙ set-sets b at (at + n) (le n v) (bitAnd x 255) (ap (λ (k : ℕ). at + k) (sym (length-le n v)))
-    ∙ ap (λ (y : ℕ). sets b at (le n v ++ (y ∷ []))) (and-mask x 8 ∙ ap (λ (y : ℕ). y % 256) f)
+    ∙ ap (λ (y : ℕ). sets b at (le n v ++ (y ∷ []))) (mask-is x 8 ∙ ap (λ (y : ℕ). y % 256) f)
     ∙ ap (sets b at) (sym (le-snoc n v))
 
 pub puts-one : (b : List ℕ) (at v : ℕ) → set b at (bitAnd v 255) ≡ sets b at (le 1 v)
 unfolding le
-puts-one b at v = ap (set b at) (and-mask v 8)
+puts-one b at v = ap (set b at) (mask-is v 8)
 
 -- ---- the turns of the loops
 

@@ -3,6 +3,7 @@
 mod Places
 use mathlib.Core.Path.{sym}
 use borrow.Author.Needs.{needs}
+use Rattle.words.proofs.Powers.{eights, no-eights}
 use Rattle.words.proofs.Numbers.{slice-bytes}
 use Rattle.checking.proofs.Tests.{at-fault, failed, map-asks, past-asks, past-fits, falls-list, falls-map, falls-struct}
 use Rattle.checking.proofs.Containers.{list-odd, list-short, map-odd, map-short}
@@ -177,8 +178,8 @@ pub +check-fields+check-items+check-list+check-map+check-struct-spec : {M : Type
     (λ c. search (loop-over (c .before .before .before .loop .inv)))  -- returns-4
     (λ c. search (loop-done (c .before .before .before .loop .inv))))  -- returns-5
     (λ t. in-list.spec (list-calls t) (list-at t) check-list.Post
-    (λ c. sym (search list-odd))  -- returns
-    (λ c. sym (search list-short))  -- returns-2
+    (λ c. sym (search (list-odd, no-eights)))  -- returns
+    (λ c. sym (search (list-short, eights)))  -- returns-2
     (λ c κs. search)  -- get8-requires
     (λ c. search list-many)  -- returns-3
     (λ c κs. search)  -- entry-at-requires
@@ -203,8 +204,8 @@ pub +check-fields+check-items+check-list+check-map+check-struct-spec : {M : Type
     (λ c κs. (search falls-list, search (items-room (c .before .before .before .before .before .before .before .pad-size .ensures))))  -- check-items-requires
     (λ c. search list-items))  -- returns-9
     (λ t. in-map.spec (map-calls t) (map-at t) check-map.Post
-    (λ c. sym (search map-odd))  -- returns
-    (λ c. sym (search map-short))  -- returns-2
+    (λ c. sym (search (map-odd, no-eights)))  -- returns
+    (λ c. sym (search (map-short, eights)))  -- returns-2
     (λ c κs. search)  -- get8-requires
     (λ c. search map-bad)  -- returns-3
     (λ c. search)  -- sub-if4

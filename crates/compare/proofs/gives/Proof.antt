@@ -5,6 +5,7 @@ use Prim.Native.Nat.{ℕ, _-_, _≤_, _<_}
 use native.Mathlib.Omega.{arith}
 use lib.ListN.{length, getD}
 use borrow.Author.Needs.{needs}
+use Rattle.words.proofs.Powers.{mask-is}
 use Rattle.compare.specs.Lent.{Own}
 use Rattle.compare.specs.Lines.{leavesOf, isLeaf}
 use Rattle.compare.proofs.Root.{own-root}
@@ -210,7 +211,9 @@ mark-at-requires-2 : tie.Need-mark-at-requires-2 Inv-loop2 μ-loop2 Inv-loop μ-
 mark-at-requires-2 c κs = mark-in (loop-at (word-at (c .before)) .loop .inv)
 
 returns-9 : tie.Need-returns-9 Inv-loop2 μ-loop2 Inv-loop μ-loop
-returns-9 c = λ o. c .if10 .taken (own-mark (takes (leaf-word (one-at (c .before)))) (c .before .mark-at2 .ensures) o)
+returns-9 c = λ o.
+    let e = leaf-word (one-at (c .before)) in
+    c .if10 .taken (own-mark (takes e) (c .before .mark-at2 .ensures) o ∙ sym (mask-is (e .wrapping-sub-u64 .result) 16))
 
 add-i : tie.Need-add-i Inv-loop2 μ-loop2 Inv-loop μ-loop
 add-i c = omega (arith, small (loop-at (leaf-word (one-at (c .before))) .loop .inv .follows), word-in (loop-at (leaf-word (one-at (c .before))) .loop .inv))
@@ -222,7 +225,9 @@ sub-n : tie.Need-sub-n Inv-loop2 μ-loop2 Inv-loop μ-loop
 sub-n c = loop-at (leaf-word (one-at (c .before))) .loop .inv .some
 
 loop2-holds : tie.Need-loop2-holds Inv-loop2 μ-loop2 Inv-loop μ-loop
-loop2-holds c = follow-leaf (takes (leaf-word (one-at (c .before)))) (is-one (c .before .before)) (c .before .mark-at2 .ensures) (c .if10 .left)
+loop2-holds c =
+    let e = leaf-word (one-at (c .before)) in
+    follow-leaf (takes e) (is-one (c .before .before)) (c .before .mark-at2 .ensures) (c .if10 .left ∙ mask-is (e .wrapping-sub-u64 .result) 16)
 
 returns-10 : tie.Need-returns-10 Inv-loop2 μ-loop2 Inv-loop μ-loop
 returns-10 c = tells (c .before .before .before .loop2 .inv) (c .before .before .loop2-test .taken) (c .before .if11 .taken) (c .if12 .taken)
@@ -262,7 +267,9 @@ loop2-less c = omega (arith, c .before .before .if11 .left)
 loop2-again : tie.Need-loop2-again Inv-loop2 μ-loop2 Inv-loop μ-loop
 loop2-again c =
     let e = c .before .before in
-    follow-pop (e .before .before .loop2 .inv) (e .before .loop2-test .taken) (e .if11 .left) (c .if13 .left)
+    let p = e .before .before in
+    let frames = loop-at (leaf-word (one-at (p .before .before))) .loop .frames in
+    rw (mask-is (getD frames (p .loop2 .d) 0) 8) (follow-pop (p .loop2 .inv) (e .before .loop2-test .taken) (e .if11 .left) (c .if13 .left))
 
 loop-less : tie.Need-loop-less Inv-loop2 μ-loop2 Inv-loop μ-loop
 loop-less c = omega (arith, word-in (loop-at (leaf-word (one-at (c .before .before .before))) .loop .inv))
@@ -321,7 +328,9 @@ add-if19 : tie.Need-add-if19 Inv-loop2 μ-loop2 Inv-loop μ-loop
 add-if19 c = omega (arith, c .if18 .left)
 
 returns-17 : tie.Need-returns-17 Inv-loop2 μ-loop2 Inv-loop μ-loop
-returns-17 c = λ o. let e = c .before .before .before in c .if19 .taken (own-entry (holder (wide-mark e) o) (wide-struct e) (e .wide2 .ensures .0))
+returns-17 c = λ o.
+    let e = c .before .before .before in
+    c .if19 .taken (mask-is (held-word (wide-mark e) .wrapping-sub-u64 .result) 54 ∙ own-entry (holder (wide-mark e) o) (wide-struct e) (e .wide2 .ensures .0))
 
 returns-18 : tie.Need-returns-18 Inv-loop2 μ-loop2 Inv-loop μ-loop
 returns-18 c = λ o.
@@ -367,10 +376,12 @@ loop-again-2 c =
     let e = c .before .before .before .before in
     follow-struct (takes (held-word (wide-mark e))) (wide-mark e .mark-at3 .ensures) (wide-mark e .before .if14 .left) (omega (arith, c .if20 .left))
     (c .before .before .before .if17 .left) (wide-struct e) (e .before .before .if16 .left) (e .wide2 .ensures .0) (c .before .before .if18 .left)
-    (c .before .if19 .left)
+    (sym (mask-is (held-word (wide-mark e) .wrapping-sub-u64 .result) 54) ∙ c .before .if19 .left)
 
 returns-19 : tie.Need-returns-19 Inv-loop2 μ-loop2 Inv-loop μ-loop
-returns-19 c = λ o. c .if21 .taken (own-mark (takes (held-word (c .before .before))) (c .before .before .mark-at3 .ensures) o)
+returns-19 c = λ o.
+    let e = held-word (c .before .before) in
+    c .if21 .taken (own-mark (takes e) (c .before .before .mark-at3 .ensures) o ∙ sym (mask-is (e .wrapping-sub-u64 .result) 16))
 
 held-by-requires : tie.Need-held-by-requires Inv-loop2 μ-loop2 Inv-loop μ-loop
 held-by-requires c κs = search needs
@@ -421,7 +432,7 @@ loop-again-3 : tie.Need-loop-again-3 Inv-loop2 μ-loop2 Inv-loop μ-loop
 loop-again-3 c =
     let e = c .before .before .before .before .before in
     follow-other (takes (held-word e)) (e .mark-at3 .ensures) (e .before .if14 .left) (omega (arith, c .if23 .left)) (c .before .if22 .left)
-    (c .before .before .before .if21 .left) (c .before .before .held-by .ensures)
+    (c .before .before .before .if21 .left ∙ mask-is (held-word e .wrapping-sub-u64 .result) 16) (c .before .before .held-by .ensures)
 
 pub gives-spec : {M : Type 1} → statement M
 gives-spec =

@@ -1,22 +1,22 @@
 -- `picture::label` meets its contract: three texts one behind the other. Assumes nothing.
 use native.Mathlib.Omega.{arith}
 use borrow.Author.Needs.{needs}
-use Prim.Native.Nat.{_%_}
-use Rattle.lettering.proofs.Putting.{puts-then}
-use Rattle.picture.specs.Picture.{label}
-use Rattle.picture.proofs.Drawing.{word-most, padding-most}
+use lib.Bits.{bitAnd}
+use Rattle.words.proofs.Powers.{mask-is}
+use Rattle.picture.proofs.Drawing.{word-most, padding-most, label-puts}
 use Rattle.picture.proofs.label.Statement.{statement}
 use Rattle.picture.proofs.label.Tie as tie
 
 word-requires : tie.Need-word-requires
-word-requires c κs = search needs
+word-requires c κs = search (needs, mask-is (c .before .before .args .w) 3)
 
 padding-requires : tie.Need-padding-requires
 padding-requires c κs =
     let pre = c .before .before .before .before .before .before .pre in
     let word = c .before .before .before .word in
     let args = c .before .before .before .before .before .before .args in
-    omega (arith, pre .0, word .ensures .next, word .kept .0, word-most (args .w % 8) (omega arith))
+    let few = word-most (bitAnd (args .w) 7) (omega (arith, mask-is (args .w) 3)) in
+    omega (arith, pre .0, word .ensures .next, word .kept .0, few)
 
 linked-requires : tie.Need-linked-requires
 linked-requires c κs =
@@ -24,19 +24,18 @@ linked-requires c κs =
     let padding = c .before .before .before .padding in
     let pre = c .before .before .before .before .before .before .before .before .before .before .pre in
     let args = c .before .before .before .before .before .before .before .before .before .before .args in
-    let few = word-most (args .w % 8) (omega arith) in
+    let few = word-most (bitAnd (args .w) 7) (omega (arith, mask-is (args .w) 3)) in
     (omega (arith, pre .0, word .ensures .next, word .kept .0, padding .ensures .next, padding .kept .0, few, padding-most (args .w)), pre .1)
 
 same-length : tie.Need-same-length
 same-length c = search needs
 
 returns : tie.Need-returns
-unfolding label
 returns c =
     let word = c .before .before .before .before .before .before .before .before .before .before .word in
     let padding = c .before .before .before .before .before .before .padding in
     let linked = c .before .before .linked in
-    puts-then (word .ensures) (puts-then (padding .ensures) (linked .ensures))
+    label-puts _ _ (word .ensures) (padding .ensures) (linked .ensures)
 
 pub label-spec : {M : Type 1} → statement M
 label-spec =

@@ -1,9 +1,10 @@
 -- `table::build` meets its contract: the invariant says what the fields left at each depth lead to. Assumes nothing.
-use mathlib.Core.Path.{_≡_, refl}
+use mathlib.Core.Path.{_≡_, refl, sym, _∙_}
 use Prim.Native.Nat.{_+_, _-_, _/_}
 use native.Mathlib.Omega.{arith}
 use lib.ListN.{length, getD, set}
 use borrow.Author.Needs.{needs}
+use Rattle.words.proofs.Powers.{mask-is}
 use Rattle.table.specs.Words.{linesOf}
 use Rattle.table.proofs.Lines.{mark-small}
 use Rattle.table.proofs.Rooting.{Headed, Rooted, refuse-long, refuse-short, start-other, start-shut, start-looking, fields-scaled}
@@ -72,7 +73,7 @@ marked : (c : tie.Else6 Inv-loop2 μ-loop2 Inv-loop μ-loop)
     → let l = loop-at (c .before) .loop in
     let w = c .before .line-of .result in
     Marked (entry (loop-at (c .before)) .args .s .now) (l .t) (l .frames) (l .d) (l .at) (l .i) (l .n) (l .base) w (w / 268435456)
-marked c = is-marked (scanned (c .before)) (c .if6 .left)
+marked c = is-marked (scanned (c .before)) (sym (mask-is (c .before .line-of .result) 16) ∙ c .if6 .left)
 
 opened : (c : tie.Else11 Inv-loop2 μ-loop2 Inv-loop μ-loop)
     → let l = loop-at (line-at c) .loop in
@@ -149,7 +150,7 @@ same-length-2 : tie.Need-same-length-2 Inv-loop2 μ-loop2 Inv-loop μ-loop
 same-length-2 c = room-kept (loop-at (c .before))
 
 returns-6 : tie.Need-returns-6 Inv-loop2 μ-loop2 Inv-loop μ-loop
-returns-6 c = unmarked (scanned (c .before)) (c .if6 .taken)
+returns-6 c = unmarked (scanned (c .before)) (λ e. c .if6 .taken (mask-is (c .before .line-of .result) 16 ∙ e))
 
 sub-n : tie.Need-sub-n Inv-loop2 μ-loop2 Inv-loop μ-loop
 sub-n c = one-less (marked c)
@@ -221,7 +222,10 @@ loop2-less : tie.Need-loop2-less Inv-loop2 μ-loop2 Inv-loop μ-loop
 loop2-less c = pop-falls (leaving (c .before)) (c .if8 .left)
 
 loop2-again : tie.Need-loop2-again Inv-loop2 μ-loop2 Inv-loop μ-loop
-loop2-again c = (going-pop (leaving (c .before)) (c .if8 .left), pop-kept (leaving (c .before)) (c .before .before .before .before .loop2 .inv .1))
+loop2-again c =
+    let frames = loop-at (c .before .before .before .before .before .before .before) .loop .frames in
+    let p = c .before .before .before .before .loop2 in
+    (rw (mask-is (getD frames (p .d) 0) 8) (going-pop (leaving (c .before)) (c .if8 .left)), pop-kept (leaving (c .before)) (p .inv .1))
 
 loop-less : tie.Need-loop-less Inv-loop2 μ-loop2 Inv-loop μ-loop
 loop-less c = leaf-falls (marked (c .before .before .before))

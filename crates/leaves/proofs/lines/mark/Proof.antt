@@ -1,6 +1,7 @@
 -- `leaves::lines::mark` meets its contract: the two bytes that the entry says. Assumes nothing.
 use native.Mathlib.Omega.{arith}
 use borrow.Author.Needs.{needs}
+use Rattle.words.proofs.Powers.{mask-is}
 use Rattle.leaves.proofs.Lengths.{mark-small, mark-puts}
 use Rattle.leaves.proofs.lines.mark.Statement.{statement}
 use Rattle.leaves.proofs.lines.mark.Tie as tie
@@ -9,7 +10,7 @@ mark-requires : tie.Need-mark-requires
 mark-requires c κs = search needs
 
 cast-byte : tie.Need-cast-byte
-cast-byte c = search needs
+cast-byte c = search (needs, mask-is (c .before .mark .result) 8)
 
 byte-requires : tie.Need-byte-requires
 byte-requires c κs = search needs

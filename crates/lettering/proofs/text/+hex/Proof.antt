@@ -1,6 +1,7 @@
 -- `lettering::text::hex` meets its contract: the digits but the last, and the last behind them. The measure is their number. Assumes nothing.
 use native.Mathlib.Omega.{arith}
 use borrow.Author.Needs.{needs}
+use Rattle.words.proofs.Powers.{mask-is}
 use Rattle.lettering.proofs.Putting.{hex-none, hex-more}
 use Rattle.lettering.proofs.Lengths.{hex-length}
 use Prim.Native.Nat.{ℕ, _<_, _-_, _/_}
@@ -36,10 +37,10 @@ hex-hex-requires : (t : ℕ) → hex-lts.Need-hex-requires (hex-calls t) (hex-at
 hex-hex-requires t c κs = (omega arith, omega arith)
 
 hex-cast-glyph : (t : ℕ) → hex-lts.Need-cast-glyph (hex-calls t) (hex-at t) hex.Post
-hex-cast-glyph t c = search needs
+hex-cast-glyph t c = record { fits = omega (arith, mask-is (c .before .before .before .before .before .before .before .args .n) 4) }
 
 hex-glyph-requires : (t : ℕ) → hex-lts.Need-glyph-requires (hex-calls t) (hex-at t) hex.Post
-hex-glyph-requires t c κs = omega arith
+hex-glyph-requires t c κs = omega (arith, mask-is (c .before .before .before .before .before .before .before .args .n) 4)
 
 hex-byte-requires : (t : ℕ) → hex-lts.Need-byte-requires (hex-calls t) (hex-at t) hex.Post
 hex-byte-requires t c κs =

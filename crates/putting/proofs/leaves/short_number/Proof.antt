@@ -22,8 +22,8 @@ mul-result c = search needs
 shl-result : tie.Need-shl-result
 shl-result c = search needs
 
-rem-result : tie.Need-rem-result
-rem-result c = search short-some
+sub-result : tie.Need-sub-result
+sub-result c = search short-some
 
 returns-2 : tie.Need-returns-2
 returns-2 c = search short-reads
@@ -38,5 +38,5 @@ short-number-spec =
     get8-requires
     mul-result
     shl-result
-    rem-result
+    sub-result
     returns-2)

@@ -1,6 +1,7 @@
 -- `reading::slots::pointed` meets its contract. Assumes nothing.
-use Rattle.reading.proofs.Pointing.{pointed-low, pointed-odd, pointed-long, pointed-at}
 use borrow.Author.Needs.{needs}
+use Rattle.words.proofs.Powers.{eights, no-eights}
+use Rattle.reading.proofs.Pointing.{pointed-low, pointed-odd, pointed-long, pointed-at}
 use Rattle.reading.proofs.slots.pointed.Statement.{statement}
 use Rattle.reading.proofs.slots.pointed.Tie as tie
 
@@ -26,7 +27,7 @@ returns-2 c =
     let get8 = c .before .before .before .before .get8 in
     let slot-offset = c .before .before .before .slot-offset in
     let slot-size = c .before .before .slot-size in
-    pointed-odd pre (get8 .ensures .is) (slot-offset .ensures) (slot-size .ensures) (c .before .if1 .left) (c .if2 .taken)
+    pointed-odd pre (get8 .ensures .is) (slot-offset .ensures) (slot-size .ensures) (c .before .if1 .left) (no-eights _ (c .if2 .taken))
 
 add-if3 : tie.Need-add-if3
 add-if3 c = search needs
@@ -38,7 +39,7 @@ returns-3 c =
     let slot-offset = c .before .before .before .before .slot-offset in
     let slot-size = c .before .before .before .slot-size in
     let if1 = c .before .before .if1 in
-    pointed-long pre (get8 .ensures .is) (slot-offset .ensures) (slot-size .ensures) (if1 .left) (c .before .if2 .left) (c .if3 .taken)
+    pointed-long pre (get8 .ensures .is) (slot-offset .ensures) (slot-size .ensures) (if1 .left) (eights _ (c .before .if2 .left)) (c .if3 .taken)
 
 add-start : tie.Need-add-start
 add-start c = search needs
@@ -50,7 +51,7 @@ returns-4 c =
     let slot-offset = c .before .before .before .before .slot-offset in
     let slot-size = c .before .before .before .slot-size in
     let if1 = c .before .before .if1 in
-    pointed-at pre (get8 .ensures .is) (slot-offset .ensures) (slot-size .ensures) (if1 .left) (c .before .if2 .left) (c .if3 .left)
+    pointed-at pre (get8 .ensures .is) (slot-offset .ensures) (slot-size .ensures) (if1 .left) (eights _ (c .before .if2 .left)) (c .if3 .left)
 
 pub pointed-spec : {M : Type 1} → statement M
 pointed-spec =

@@ -1,7 +1,8 @@
 -- `words::finds::past_byte` meets its contract. Assumes nothing.
 use Prim.Native.Nat.{_-_}
 use native.Mathlib.Omega.{arith}
-use lib.Bits.{and-mask, mask-lt}
+use lib.Bits.{mask-lt}
+use Rattle.words.proofs.Powers.{mask-is}
 use Rattle.words.proofs.FirstSet.{past-here, past-later}
 use borrow.Author.Needs.{needs}
 use Rattle.words.proofs.finds.past_byte.Statement.{statement}
@@ -29,7 +30,7 @@ returns : tie.Need-returns
 returns c =
     let a = c .before .before .before .before .args in let B = a .b .now in let e = c .before .before .bitmap-size .ensures in
     rw e (past-here B (a .n) (a .end) (c .before .before .before .before .pre .0) (c .before .before .before .before .pre .1)
-    (c .before .before .before .before .pre .3) (λ z. c .if1 .taken (rw (e, and-mask (a .n) 3) z)))
+    (c .before .before .before .before .pre .3) (λ z. c .if1 .taken (rw (e, mask-is (a .n) 3) z)))
 
 add-first-set : tie.Need-add-first-set
 add-first-set c = search needs
@@ -41,7 +42,7 @@ returns-2 : tie.Need-returns-2
 returns-2 c =
     let a = c .before .before .before .before .before .args in let B = a .b .now in let e = c .before .before .before .bitmap-size .ensures in
     past-later B (a .n) (a .end) (c .before .before .before .before .before .pre .0) (c .before .before .before .before .before .pre .1)
-    (c .before .before .before .before .before .pre .3) (rw (e, and-mask (a .n) 3) at (c .before .if1 .left)) _ (rw e at (c .first-set .ensures))
+    (c .before .before .before .before .before .pre .3) (rw (e, mask-is (a .n) 3) at (c .before .if1 .left)) _ (rw e at (c .first-set .ensures))
 
 pub past-byte-spec : {M : Type 1} → statement M
 past-byte-spec =

@@ -2,7 +2,8 @@
 use mathlib.Core.Path.{_≡_}
 use Prim.Native.Nat.{ℕ, _+_, _*_, _%_, _^_}
 use native.Mathlib.Omega.{arith}
-use lib.Bits.{bitAnd, and-mask}
+use lib.Bits.{bitAnd}
+use Rattle.words.proofs.Powers.{mask-is}
 use Rattle.words.proofs.Numbers.{bytes-of}
 use Rattle.words.proofs.Turns.{pad-word}
 use borrow.Author.Needs.{needs}
@@ -10,7 +11,7 @@ use Rattle.words.proofs.sizes.pad_clear.Statement.{statement}
 use Rattle.words.proofs.sizes.pad_clear.Tie as tie
 
 shift : (end : ℕ) → bitAnd (end + 7) 7 * 2 ^ 3 % 2 ^ 64 ≡ 8 * ((end + 7) % 8)
-shift end = rw (and-mask (end + 7) 3) (omega arith)
+shift end = rw (mask-is (end + 7) 3) (omega arith)
 
 sub-get8 : tie.Need-sub-get8
 sub-get8 c = search needs
