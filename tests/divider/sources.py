@@ -31,12 +31,12 @@ def main():
     for text, count in CONTROLS:
         if len(divisions(text)) != count:
             sys.exit(f"divider: the look at the source is wrong about: {text}")
-    crates = [line.split(":")[0] for line in open("crates.txt") if re.match(r"[a-z_]+:", line)]
+    crates = [line.split(":")[0] for line in open("crates.txt", encoding="utf-8") if re.match(r"[a-z_]+:", line)]
     looked = 0
     for crate in sorted(set(crates) - PROGRAMS):
         for source in sorted(pathlib.Path("crates", crate, "src").rglob("*.rt")):
             looked += 1
-            text = source.read_text()
+            text = source.read_text(encoding="utf-8")
             found = divisions(text)
             if found:
                 sys.exit(f"divider: {source}:{found[0]} divides: {text.splitlines()[found[0] - 1].strip()}")
