@@ -30,7 +30,8 @@ refusal (N.numbered n) l =
     (cond (eqb n 3) F.TooLong
     (cond (eqb n 4) (F.Room l)
     (cond (eqb n 5) F.NoPlace
-    (cond (eqb n 6) F.NullBefore (cond (eqb n 8) F.Unfit (cond (eqb n 9) F.Resize (cond (eqb n 10) F.Batch F.Log))))))))
+    (cond (eqb n 6) F.NullBefore
+    (cond (eqb n 8) F.Unfit (cond (eqb n 9) F.Resize (cond (eqb n 10) F.Batch (cond (eqb n 11) F.Log (cond (eqb n 12) F.Full F.NoNumber))))))))))
 
 refusal-back : (r : Refusal) → refusal (refusalMeans r) (lengthOf r) ≡ r
 refusal-back F.Schema = refl
@@ -44,6 +45,8 @@ refusal-back F.Unfit = refl
 refusal-back F.Resize = refl
 refusal-back F.Batch = refl
 refusal-back F.Log = refl
+refusal-back F.Full = refl
+refusal-back F.NoNumber = refl
 
 -- a refusal is its number, its place and its length
 pub refusal-one : (r s : Refusal) → refusalMeans r ≡ refusalMeans s → lengthOf r ≡ lengthOf s → r ≡ s
@@ -61,6 +64,8 @@ number-means F.Unfit = refl
 number-means F.Resize = refl
 number-means F.Batch = refl
 number-means F.Log = refl
+number-means F.Full = refl
+number-means F.NoNumber = refl
 
 -- only 4 has a length
 pub no-length : (r : Refusal) → (refusalMeans r ≡ N.numbered 4 → ⊥) → lengthOf r ≡ 0
@@ -75,6 +80,8 @@ no-length F.Unfit h = refl
 no-length F.Resize h = refl
 no-length F.Batch h = refl
 no-length F.Log h = refl
+no-length F.Full h = refl
+no-length F.NoNumber h = refl
 
 -- so number and place tell any other
 pub number-one : (r s : Refusal) → refusalMeans r ≡ refusalMeans s → (refusalMeans r ≡ N.numbered 4 → ⊥) → r ≡ s

@@ -39,6 +39,8 @@ numberOf F.Unfit = 8
 numberOf F.Resize = 9
 numberOf F.Batch = 10
 numberOf F.Log = 11
+numberOf F.Full = 12
+numberOf F.NoNumber = 13
 
 -- a refusal's length is 0 except for 4, which answers the length needed
 abbrev pub lengthOf : Refusal → ℕ
@@ -53,6 +55,8 @@ lengthOf F.Unfit = 0
 lengthOf F.Resize = 0
 lengthOf F.Batch = 0
 lengthOf F.Log = 0
+lengthOf F.Full = 0
+lengthOf F.NoNumber = 0
 
 -- only 7 has a place
 abbrev pub placeOf : Refusal → ℕ
@@ -67,6 +71,8 @@ placeOf F.Unfit = 0
 placeOf F.Resize = 0
 placeOf F.Batch = 0
 placeOf F.Log = 0
+placeOf F.Full = 0
+placeOf F.NoNumber = 0
 
 -- the number, and of a 7 the place
 abbrev pub refusalMeans : Refusal → N.Refusal
@@ -81,6 +87,8 @@ refusalMeans F.Unfit = N.numbered 8
 refusalMeans F.Resize = N.numbered 9
 refusalMeans F.Batch = N.numbered 10
 refusalMeans F.Log = N.numbered 11
+refusalMeans F.Full = N.numbered 12
+refusalMeans F.NoNumber = N.numbered 13
 
 -- ---- outcomes
 

@@ -18,6 +18,8 @@ pub enum Refusal {
     Resize,
     Batch,
     Log,
+    Full,
+    NoNumber,
 }
 
 pub enum Outcome {

@@ -18,6 +18,8 @@ pub fn number(r: Refusal) -> u8
         Refusal::Resize => 9,
         Refusal::Batch => 10,
         Refusal::Log => 11,
+        Refusal::Full => 12,
+        Refusal::NoNumber => 13,
     }
 }
 
@@ -36,6 +38,8 @@ pub fn length(r: Refusal) -> usize
         Refusal::Resize => 0,
         Refusal::Batch => 0,
         Refusal::Log => 0,
+        Refusal::Full => 0,
+        Refusal::NoNumber => 0,
     }
 }
 
@@ -54,5 +58,7 @@ pub fn place(r: Refusal) -> usize
         Refusal::Resize => 0,
         Refusal::Batch => 0,
         Refusal::Log => 0,
+        Refusal::Full => 0,
+        Refusal::NoNumber => 0,
     }
 }

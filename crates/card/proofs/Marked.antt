@@ -36,6 +36,8 @@ broken-means F.Unfit h = absurd (omega arith)
 broken-means F.Resize h = absurd (omega arith)
 broken-means F.Batch h = absurd (omega arith)
 broken-means F.Log h = absurd (omega arith)
+broken-means F.Full h = absurd (omega arith)
+broken-means F.NoNumber h = absurd (omega arith)
 
 other-means : (f : Refusal) → (numberOf f ≡ 7 → ⊥) → refusalMeans f ≡ N.numbered (numberOf f)
 other-means F.Schema h = refl
@@ -49,6 +51,8 @@ other-means F.Unfit h = refl
 other-means F.Resize h = refl
 other-means F.Batch h = refl
 other-means F.Log h = refl
+other-means F.Full h = refl
+other-means F.NoNumber h = refl
 
 abbrev numberBy : Verdict → ℕ
 numberBy done = 0

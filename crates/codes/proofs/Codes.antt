@@ -1,4 +1,4 @@
--- A code's halves do not meet: a refusal's number is at most 11, a place and a length are below 2^32. Assumes nothing.
+-- A code's halves do not meet: a refusal's number is at most 13, a place and a length are below 2^32. Assumes nothing.
 use mathlib.Core.Path.{_≡_, refl, ap}
 use Prim.Native.Nat.{ℕ, _+_, _*_, _%_, _≤_, _<_}
 use native.Mathlib.Omega.{arith}
@@ -13,7 +13,7 @@ use Rattle.answers.specs.Meaning.{numberOf, lengthOf, placeOf, refusalMeans, ou
 use Rattle.row.specs.Outcomes.{lengthIn, Low, LowVerdict, LowSized}
 use Rattle.codes.specs.Codes.{refusalCode, verdictCode, sizedCode, Halved}
 
-pub number-small : (r : Refusal) → numberOf r ≤ 11
+pub number-small : (r : Refusal) → numberOf r ≤ 13
 number-small F.Schema = omega arith
 number-small F.Listing = omega arith
 number-small F.TooLong = omega arith
@@ -25,6 +25,8 @@ number-small F.Unfit = omega arith
 number-small F.Resize = omega arith
 number-small F.Batch = omega arith
 number-small F.Log = omega arith
+number-small F.Full = omega arith
+number-small F.NoNumber = omega arith
 
 place-small : (r : Refusal) → Low 16384 (refusalMeans r) → placeOf r ≤ 16384
 place-small F.Schema h = omega arith
@@ -38,6 +40,8 @@ place-small F.Unfit h = omega arith
 place-small F.Resize h = omega arith
 place-small F.Batch h = omega arith
 place-small F.Log h = omega arith
+place-small F.Full h = omega arith
+place-small F.NoNumber h = omega arith
 
 code-is : (r : Refusal) → numberOf r * 4294967296 + placeOf r ≡ refusalCode (refusalMeans r)
 code-is F.Schema = refl
@@ -51,6 +55,8 @@ code-is F.Unfit = refl
 code-is F.Resize = refl
 code-is F.Batch = refl
 code-is F.Log = refl
+code-is F.Full = refl
+code-is F.NoNumber = refl
 
 module _ (r : Refusal) (n k : ℕ) (q : n ≡ numberOf r) (p : k ≡ placeOf r) (h : Low 16384 (refusalMeans r)) where
   pub code-fits : n * 4294967296 % 18446744073709551616 + k < 18446744073709551616
@@ -59,7 +65,7 @@ module _ (r : Refusal) (n k : ℕ) (q : n ≡ numberOf r) (p : k ≡ placeOf r) 
   pub code-sum : n * 4294967296 % 18446744073709551616 + k ≡ refusalCode (refusalMeans r)
   code-sum = omega (arith, number-small r, place-small r h, code-is r)
 
-pub code-small : (r : Refusal) → Low 16384 (refusalMeans r) → refusalCode (refusalMeans r) ≤ 51539607552
+pub code-small : (r : Refusal) → Low 16384 (refusalMeans r) → refusalCode (refusalMeans r) ≤ 60129542144
 code-small r h = omega (arith, number-small r, place-small r h, code-is r)
 
 pub low-refused : (o : Outcome) (r : Refusal) → o ≡ O.Refused r → LowVerdict 16384 (outcomeMeans o) → Low 16384 (refusalMeans r)

@@ -57,6 +57,8 @@ words-none F.Unfit h = refl
 words-none F.Resize h = refl
 words-none F.Batch h = refl
 words-none F.Log h = refl
+words-none F.Full h = refl
+words-none F.NoNumber h = refl
 
 words-one : (r : Refusal) → numberOf r ≡ 4 → appendWords (refusedWith (refusalMeans r) (lengthOf r)) ≡ lengthOf r ∷ []
 words-one F.Schema h = absurd (omega arith)
@@ -70,6 +72,8 @@ words-one F.Unfit h = absurd (omega arith)
 words-one F.Resize h = absurd (omega arith)
 words-one F.Batch h = absurd (omega arith)
 words-one F.Log h = absurd (omega arith)
+words-one F.Full h = absurd (omega arith)
+words-one F.NoNumber h = absurd (omega arith)
 
 -- ---- counting, fetching, checking
 

@@ -1,24 +1,24 @@
 -- What a caller has of a table that is its schema's own, and of one that is not. Assumes nothing.
 use mathlib.Core.Path.{_≡_, refl, sym, ap, _∙_, subst}
-use mathlib.Core.Bool.{Bool, true, false, cond}
+use mathlib.Core.Bool.{Bool, true, false, not, cond}
 use mathlib.Core.List.{List, [], _∷_}
 use Prim.Native.Nat.{ℕ}
 use lib.Dec.{eqb, T}
-use borrow.Author.Tests.{eq-eqb, eqb-true}
+use borrow.Author.Tests.{eq-eqb, eqb-true, not-true, not-false}
 use Rattle.schema.specs.Kinds.{headKind}
 use Rattle.schema.specs.Reading.{judged, parseType, parseKind}
 use Rattle.schema.specs.declared.Judged.{Judged}
 use Rattle.schema.specs.declared.Judged.the-variants.{Accepted, Refused}
 use Rattle.table.specs.Tables.{Table, tableOf, schemaOf}
-use Rattle.compare.specs.Lent.{same, schemaBy, Own}
+use Rattle.compare.specs.Lent.{same, schemaBy, Own, Gives}
 use Rattle.table.proofs.Places.{says-schema, table-of}
 
-same-self : (t : List ℕ) → same t t ≡ true
+pub same-self : (t : List ℕ) → same t t ≡ true
 unfolding same
 same-self [] = refl
 same-self (x ∷ t) = rw (eq-eqb x x refl) (same-self t)
 
-same-eq : (t u : List ℕ) → T (same t u) → t ≡ u
+pub same-eq : (t u : List ℕ) → T (same t u) → t ≡ u
 unfolding same
 same-eq [] [] h = refl
 same-eq [] (y ∷ u) h = absurd h
@@ -70,3 +70,11 @@ other-refused {s} {t} n = go (same t (tableOf s)) refl (judged s) refl
     go false e j q = none-refused
     go true e Refused q = q
     go true e Accepted q = absurd (n (record { accepted = q; given = same-eq t (tableOf s) (subst T (sym e) tt) }))
+
+-- ---- as comparing told
+
+pub owned : (s t : List ℕ) (r : Bool) → Gives s t r → not r ≡ false → Own s t
+owned s t r g e = subst (Gives s t) (not-false r e) g
+
+pub not-owned : (s t : List ℕ) (r : Bool) → Gives s t r → not r ≡ true → judged (schemaBy s t) ≡ Refused
+not-owned s t r g e = other-refused (subst (Gives s t) (not-true r e) g)

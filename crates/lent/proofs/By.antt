@@ -1,11 +1,8 @@
--- An entry by a table that is its schema's own, and by one that is not. Assumes nothing.
+-- An entry by a table that is its schema's own. Assumes nothing.
 use mathlib.Core.Path.{_≡_, ap, _∙_, subst}
-use mathlib.Core.Bool.{Bool, true, false, not}
 use mathlib.Core.List.{List}
 use Prim.Native.Nat.{ℕ}
-use borrow.Author.Tests.{not-true, not-false}
 use Rattle.schema.specs.Reading.{judged}
-use Rattle.schema.specs.declared.Judged.the-variants.{Refused}
 use Rattle.layout.specs.Setting.{Setting}
 use Rattle.layout.specs.Entries.{Verdict, done, judgeOf, checkOf, setOf}
 use Rattle.answers.specs.declared.Answer.{Answer}
@@ -17,15 +14,8 @@ use Rattle.setting.specs.Writes.{SetAs}
 use Rattle.engine.specs.Lists.{ListsTo}
 use Rattle.row.specs.Outcomes.{WritesTo}
 use Rattle.row.proofs.Opening.{judge-yes}
-use Rattle.compare.specs.Lent.{schemaBy, Own, Gives}
-use Rattle.compare.proofs.Lent.{by-own, own-says, other-refused}
-
--- what an entry has of its table where it goes on, and where it ends
-pub owned : (s t : List ℕ) (r : Bool) → Gives s t r → not r ≡ false → Own s t
-owned s t r g e = subst (Gives s t) (not-false r e) g
-
-pub not-owned : (s t : List ℕ) (r : Bool) → Gives s t r → not r ≡ true → judged (schemaBy s t) ≡ Refused
-not-owned s t r g e = other-refused (subst (Gives s t) (not-true r e) g)
+use Rattle.compare.specs.Lent.{schemaBy, Own}
+use Rattle.compare.proofs.Lent.{by-own, own-says}
 
 -- what an entry does by its schema's own table is what it does with the schema that counts
 module _ {s t : List ℕ} (o : Own s t) where

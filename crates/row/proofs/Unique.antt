@@ -33,11 +33,11 @@ no-four ns v h D.done e = let z : _≡_ {A = ℕ} 0 1 = cc in omega arith
 no-four ns v h (D.refused (D.number {n = n} o _)) e = let z : n ≡ 4 = cc in not-among 4 o h z
 no-four ns v h (D.refused (D.place o)) e = let z : _≡_ {A = ℕ} 0 1 = cc in omega arith
 
-outcomes : (ns : List ℕ) (v : Verdict) → lacks 4 ns ≡ true → Ends ns v → (r r′ : Outcome) → outcomeMeans r ≡ v → outcomeMeans r′ ≡ v → r ≡ r′
+pub outcomes : (ns : List ℕ) (v : Verdict) → lacks 4 ns ≡ true → Ends ns v → (r r′ : Outcome) → outcomeMeans r ≡ v → outcomeMeans r′ ≡ v → r ≡ r′
 outcomes ns v h g r r′ e e′ = outcome-one r r′ (e ∙ sym e′) (λ q. no-four ns v h g (sym e ∙ q))
 
 -- a setting's verdict is one of its numbers too
-set-ends : (ns : List ℕ) (o : S.Outcome) → Sets ns o → Ends ns (setVerdict o)
+pub set-ends : (ns : List ℕ) (o : S.Outcome) → Sets ns o → Ends ns (setVerdict o)
 set-ends ns o D.becomes = D.done
 set-ends ns o (D.refused q) = D.refused q
 

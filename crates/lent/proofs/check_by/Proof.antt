@@ -1,7 +1,7 @@
 -- `lent::check_by` meets its contract. Assumes nothing.
-use Rattle.compare.proofs.Lent.{own-table}
+use Rattle.compare.proofs.Lent.{own-table, owned, not-owned}
 use Rattle.row.proofs.Opening.{check-no}
-use Rattle.lent.proofs.By.{owned, not-owned, check-own}
+use Rattle.lent.proofs.By.{check-own}
 use borrow.Author.Needs.{needs}
 use Rattle.lent.proofs.check_by.Statement.{statement}
 use Rattle.lent.proofs.check_by.Tie as tie

@@ -1,6 +1,7 @@
 -- `lent::judge_by` meets its contract. Assumes nothing.
 use Rattle.row.proofs.Opening.{judge-no}
-use Rattle.lent.proofs.By.{owned, not-owned, judge-own}
+use Rattle.compare.proofs.Lent.{owned, not-owned}
+use Rattle.lent.proofs.By.{judge-own}
 use borrow.Author.Needs.{needs}
 use Rattle.lent.proofs.judge_by.Statement.{statement}
 use Rattle.lent.proofs.judge_by.Tie as tie

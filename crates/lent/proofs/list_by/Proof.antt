@@ -1,7 +1,7 @@
 -- `lent::list_by` meets its contract. Assumes nothing.
-use Rattle.compare.proofs.Lent.{own-table}
+use Rattle.compare.proofs.Lent.{own-table, owned, not-owned}
 use Rattle.row.proofs.Opening.{list-no}
-use Rattle.lent.proofs.By.{owned, not-owned, list-own}
+use Rattle.lent.proofs.By.{list-own}
 use borrow.Author.Needs.{needs}
 use Rattle.lent.proofs.list_by.Statement.{statement}
 use Rattle.lent.proofs.list_by.Tie as tie

@@ -1,7 +1,7 @@
 -- `lent::look_by` meets its contract. Assumes nothing.
-use Rattle.compare.proofs.Lent.{own-table}
+use Rattle.compare.proofs.Lent.{own-table, owned, not-owned}
 use Rattle.row.proofs.Opening.{read-no}
-use Rattle.lent.proofs.By.{owned, not-owned, read-own}
+use Rattle.lent.proofs.By.{read-own}
 use borrow.Author.Needs.{needs}
 use Rattle.lent.proofs.look_by.Statement.{statement}
 use Rattle.lent.proofs.look_by.Tie as tie

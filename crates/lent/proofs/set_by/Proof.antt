@@ -1,7 +1,7 @@
 -- `lent::set_by` meets its contract. Assumes nothing.
-use Rattle.compare.proofs.Lent.{own-table}
+use Rattle.compare.proofs.Lent.{own-table, owned, not-owned}
 use Rattle.setting.proofs.Refused.{set-schema}
-use Rattle.lent.proofs.By.{owned, not-owned, set-own}
+use Rattle.lent.proofs.By.{set-own}
 use borrow.Author.Needs.{needs}
 use Rattle.lent.proofs.set_by.Statement.{statement}
 use Rattle.lent.proofs.set_by.Tie as tie

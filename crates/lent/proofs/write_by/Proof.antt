@@ -1,7 +1,7 @@
 -- `lent::write_by` meets its contract. Assumes nothing.
-use Rattle.compare.proofs.Lent.{own-table}
+use Rattle.compare.proofs.Lent.{own-table, owned, not-owned}
 use Rattle.row.proofs.Opening.{write-no}
-use Rattle.lent.proofs.By.{owned, not-owned, write-own}
+use Rattle.lent.proofs.By.{write-own}
 use borrow.Author.Needs.{needs}
 use Rattle.lent.proofs.write_by.Statement.{statement}
 use Rattle.lent.proofs.write_by.Tie as tie

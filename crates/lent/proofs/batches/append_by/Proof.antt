@@ -2,10 +2,10 @@
 use mathlib.Core.Path.{sym, ap, _∙_}
 use lib.Seq.{length-take-le}
 use Rattle.answers.specs.Meaning.{outcomeMeans}
-use Rattle.compare.proofs.Lent.{own-table}
+use Rattle.compare.proofs.Lent.{own-table, owned, not-owned}
 use Rattle.batch.proofs.Passing.{count-whole, count-none}
 use Rattle.batch.proofs.Added.{row-small, lent-none, lent-is, append-broken, append-refused, append-put}
-use Rattle.lent.proofs.By.{owned, not-owned, check-own}
+use Rattle.lent.proofs.By.{check-own}
 use Rattle.lent.proofs.InBatch.{append-no, not-one}
 use borrow.Author.Needs.{needs}
 use Rattle.lent.proofs.batches.append_by.Statement.{statement}

@@ -1,7 +1,6 @@
 -- `lent::batches::check_by` meets its contract. Assumes nothing.
-use Rattle.compare.proofs.Lent.{own-table}
+use Rattle.compare.proofs.Lent.{own-table, owned, not-owned}
 use Rattle.batch.proofs.InTurn.{check-no}
-use Rattle.lent.proofs.By.{owned, not-owned}
 use Rattle.lent.proofs.InBatch.{rows-by}
 use borrow.Author.Needs.{needs}
 use Rattle.lent.proofs.batches.check_by.Statement.{statement}

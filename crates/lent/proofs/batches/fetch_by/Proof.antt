@@ -2,10 +2,10 @@
 use mathlib.Core.Path.{sym, ap, _∙_}
 use native.Mathlib.Omega.{arith}
 use Rattle.answers.specs.Meaning.{outcomeMeans}
-use Rattle.compare.proofs.Lent.{own-table}
+use Rattle.compare.proofs.Lent.{own-table, owned, not-owned}
 use Rattle.batch.proofs.Passing.{found-broken, found-past, found-at}
 use Rattle.batch.proofs.Orders.{no-row-broken, no-row-past, fetch-none, fetch-done, fetch-refused}
-use Rattle.lent.proofs.By.{owned, not-owned, check-own}
+use Rattle.lent.proofs.By.{check-own}
 use Rattle.lent.proofs.InBatch.{no-row, not-one}
 use borrow.Author.Needs.{needs}
 use Rattle.lent.proofs.batches.fetch_by.Statement.{statement}

@@ -1,9 +1,9 @@
 -- `lent::batches::read_by` meets its contract. Assumes nothing.
 use native.Mathlib.Omega.{arith}
-use Rattle.compare.proofs.Lent.{own-table}
+use Rattle.compare.proofs.Lent.{own-table, owned, not-owned}
 use Rattle.batch.proofs.Passing.{found-broken, found-past, found-at}
 use Rattle.batch.proofs.Orders.{no-row-broken, no-row-past, read-none, read-by}
-use Rattle.lent.proofs.By.{owned, not-owned, read-own}
+use Rattle.lent.proofs.By.{read-own}
 use Rattle.lent.proofs.InBatch.{no-row, not-one}
 use borrow.Author.Needs.{needs}
 use Rattle.lent.proofs.batches.read_by.Statement.{statement}
