@@ -2,10 +2,10 @@
  *
  * A slice is a pointer and a length; a pointer to no byte may be any but NULL, and what is lent to be written overlaps nothing else that
  * is lent. Every function takes any bytes of any length and ends with a result or a numbered refusal, and a refusal alters no byte of a
- * row, a batch, a log or an output.
+ * row, a batch, a log, a catalogue or an output.
  *
  * Each answers one number: the refusal's number in the upper half, 0 there for done, and in the lower half a length, or for 7 the
- * place of the first fault, counted from the row's first byte. */
+ * place of the first fault, counted from the row's first byte; of a schema that is added to a catalogue its number. */
 #ifndef LOAFCOMPASS_H
 #define LOAFCOMPASS_H
 
@@ -18,7 +18,7 @@ extern "C" {
 
 enum loaf_refusal {
     LOAF_DONE = 0,
-    LOAF_SCHEMA = 1,      /* the schema breaks its rules, or the table is not its own */
+    LOAF_SCHEMA = 1,      /* the schema breaks its rules, or the table is not its own, or the catalogue is none that adding leaves */
     LOAF_LISTING = 2,     /* the listing breaks its rules or does not fit the schema */
     LOAF_TOO_LONG = 3,    /* the row is over 16,384 bytes */
     LOAF_ROOM = 4,        /* the output is too small; the length is the length needed, of a table in words */
@@ -28,7 +28,9 @@ enum loaf_refusal {
     LOAF_UNFIT = 8,       /* the value does not fit the place */
     LOAF_RESIZE = 9,      /* the value would change the place's size, or the nullness of a string or binary */
     LOAF_BATCH = 10,      /* the batch or the log ends inside a size or a row */
-    LOAF_LOG = 11         /* the room can't hold the log with its chord, or the numbers its chords; or the window is over 1,000 */
+    LOAF_LOG = 11,        /* the room can't hold the log with its chord, or the numbers its chords; or the window is over 1,000 */
+    LOAF_FULL = 12,       /* the catalogue has 16 schemas, and this one is not among them */
+    LOAF_NO_NUMBER = 13   /* the catalogue has not given out the number */
 };
 
 static inline uint32_t loaf_number(uint64_t answer) { return (uint32_t)(answer >> 32); }
@@ -142,6 +144,37 @@ uint64_t loaf_log_read(const uint8_t *log, size_t log_length, uint32_t *out, siz
 /* Chord n of the log, counted from 0, its tick in answer[0] and its keys in answer[1]: done, or 10, 3, 7 of the log, then 5, and 4 with the
  * length 2 if fewer than two words are lent. */
 uint64_t loaf_log_chord(const uint8_t *log, size_t log_length, size_t n, uint64_t *answer, size_t answer_length);
+
+/* The catalogue: at most LOAF_CATALOGUE_SCHEMAS schemas, so that a row goes with a number where it would go with its schema. Its two parties, as
+ * the reporter's writer and the scopist's desk, lend the same LOAF_CATALOGUE_BYTES bytes, and either adds. Numbers count from 0, in the order of
+ * first adding; a number stays with its schema, and nothing is removed. The next number, and the room left, depend on both parties.
+ *
+ * An empty catalogue is LOAF_CATALOGUE_BYTES bytes of which the first is 0, whatever the others are. The first byte says how many schemas there
+ * are; behind it stands each schema's length in 2 bytes, little endian, and the schema. What lies behind these used bytes is not looked at.
+ *
+ * Each entry judges the whole catalogue, and refuses with 1 lent bytes that no run of adding leaves: another length, a count over 16, a schema
+ * that breaks its rules, or one twice. The library takes no lock: while any call runs on a catalogue, no other party adds to it. */
+enum { LOAF_CATALOGUE_BYTES = 16417, LOAF_CATALOGUE_SCHEMAS = 16 };
+
+/* The schema's number, in the lower half: its old one if these bytes are there, in a full catalogue too, and then no byte is written; otherwise
+ * the next, and the schema stands behind the others. Done, or 1 of the catalogue or the schema, 12. */
+uint64_t loaf_catalogue_add(uint8_t *catalogue, size_t catalogue_length, const uint8_t *schema, size_t schema_length);
+
+/* As loaf_catalogue_add, by the schema's table: 1 also where the table is not its own. */
+uint64_t loaf_catalogue_add_by(uint8_t *catalogue, size_t catalogue_length, const uint8_t *schema, size_t schema_length,
+    const uint64_t *table, size_t table_length);
+
+/* The entries of one row, of the schema at a number: 1 of the catalogue, 13, then as the entry without catalogue_ with that schema. None of them
+ * writes a byte of the catalogue. */
+uint64_t loaf_catalogue_check(const uint8_t *catalogue, size_t catalogue_length, size_t number, const uint8_t *row, size_t row_length);
+uint64_t loaf_catalogue_write(const uint8_t *catalogue, size_t catalogue_length, size_t number,
+    const uint8_t *listing, size_t listing_length, uint8_t *out, size_t out_length);
+uint64_t loaf_catalogue_list(const uint8_t *catalogue, size_t catalogue_length, size_t number,
+    const uint8_t *row, size_t row_length, uint8_t *out, size_t out_length);
+uint64_t loaf_catalogue_read(const uint8_t *catalogue, size_t catalogue_length, size_t number,
+    const uint8_t *row, size_t row_length, const uint32_t *path, size_t path_length, uint64_t *answer, size_t answer_length);
+uint64_t loaf_catalogue_set(const uint8_t *catalogue, size_t catalogue_length, size_t number,
+    uint8_t *row, size_t row_length, const uint32_t *path, size_t path_length, uint32_t kind, uint64_t value, const uint8_t *bytes, size_t bytes_length);
 
 #ifdef __cplusplus
 }

@@ -4,6 +4,7 @@ import struct
 from collections import namedtuple
 
 import batches
+import catalogue
 import rows
 import strokes
 import worked_tables
@@ -17,18 +18,25 @@ NUMBERS = {
     'n': (10,), 'f': (1, 10, 5, 3, 7), 'k': (1, 10, 3, 7), 'A': (1, 10, 3, 7, 4),
     'g': (1, 10, 5, 3, 7, 6), 'z': (1, 10, 5, 3, 7, 6, 8, 9), 'T': (1, 4),
     'L': (10, 3, 7, 11), 'R': (10, 3, 7, 11), 'C': (10, 3, 7, 5),
+    'a': (1, 12), 'x': (1, 13, 3, 7), 'W': (1, 13, 2, 3, 4), 'I': (1, 13, 3, 7, 4),
+    'y': (1, 13, 3, 5, 7, 6), 'v': (1, 13, 3, 7, 5, 6, 8, 9),
 }
 OPS = ''.join(NUMBERS)
 
 # The ops that take a schema, which also work from a table lent beside it.
-OPS_BY_TABLE = 'jcwlszrotfkAg'
+OPS_BY_TABLE = 'jcwlszrotfkAga'
 
-# A request: `second` is the listing, the row, the batch or the log, `third` the
-# stand-in, the setting's bytes or the row to append, `room` the length of the
-# lent output, in words or numbers where it has those, or, where the op asks for
-# one row of a batch or one chord of a log, its number. Of a chord to add, `value`
-# is the tick and, in the upper half, the keys, and the first step the window.
-# `table` is the lent table's words, None where none is lent.
+# The ops by a number, each with the op of one row that it answers as.
+BY_NUMBER = {'x': 'c', 'y': 'r', 'v': 's', 'W': 'w', 'I': 'l'}
+
+# A request: `second` is the listing, the row, the batch, the log or the catalogue
+# to add to, `third` the stand-in, the setting's bytes or the row to append,
+# `room` the length of the lent output, in words or numbers where it has those,
+# or, where the op asks for one row of a batch or one chord of a log, its number.
+# Of a chord to add, `value` is the tick and, in the upper half, the keys, and the
+# first step the window. Of an op by a number, `schema` is the catalogue and `room`
+# the number, or `value` where the op lends an output. `table` is the lent table's
+# words, None where none is lent.
 Request = namedtuple('Request', 'op schema second steps room third kind value table')
 
 HEAD = struct.Struct('<c5IBQ')
@@ -37,7 +45,7 @@ HEAD = struct.Struct('<c5IBQ')
 BY_TABLE = 0x80
 
 # What the driver takes; beyond these a request ends its run.
-SCHEMA_ROOM, SECOND_ROOM, STEPS_ROOM, OUT_ROOM, THIRD_ROOM, WORDS_ROOM, NUMBERS_ROOM = 2048, 70000, 64, 70000, 20000, 1024, 17500
+SCHEMA_ROOM, SECOND_ROOM, STEPS_ROOM, OUT_ROOM, THIRD_ROOM, WORDS_ROOM, NUMBERS_ROOM = 20000, 70000, 64, 70000, 20000, 1024, 17500
 
 FILL = 0xAA
 FILL_WORD = int.from_bytes(bytes([FILL]) * 8, 'little')
@@ -188,6 +196,29 @@ def set_line(call, req, *where):
         return '%s %s' % (refusal(r), hex_or_dash(req.second))
 
 
+def number_of(req):
+    """The number of an op by a number."""
+    return req.value if req.op in 'WI' else req.room
+
+
+def number_line(req):
+    """The used bytes of the catalogue stand behind, after the call or as they were; `-` where it is none."""
+    after = req.second
+    try:
+        number, after = catalogue.add(after, req.schema)
+        line = 'number %d' % number
+    except Refused as r:
+        line = refusal(r)
+    return '%s %s' % (line, used_or_dash(after))
+
+
+def used_or_dash(lent):
+    try:
+        return lent[:len(catalogue.used_bytes(catalogue.schemas_of(lent)))].hex()
+    except Refused:
+        return '-'
+
+
 def value_line(value):
     name = value[0]
     if name == 'float32':
@@ -213,16 +244,23 @@ def answer(req):
             raise ValueError('no op by a table: %r' % req.op)
         req = by_schema(req)
     op, schema, second = req.op, req.schema, req.second
+
+    def entry(call):
+        """The entry of one row, by a number where the op is."""
+        return catalogue.by_number(call, number_of(req)) if op in BY_NUMBER else call
+
     if op == 'T':
         return table_line(req)
-    if op == 'w':
-        return output_line(rows.write, req)
-    if op == 'l':
-        return output_line(rows.list_back, req)
+    if op == 'a':
+        return number_line(req)
+    if op in 'wW':
+        return output_line(entry(rows.write), req)
+    if op in 'lI':
+        return output_line(entry(rows.list_back), req)
     if op == 't':
         return hex_or_dash(rows.text_or(schema, second, req.steps, req.third))
-    if op == 's':
-        return set_line(rows.set_leaf, req)
+    if op in 'sv':
+        return set_line(entry(rows.set_leaf), req)
     if op == 'z':
         return set_line(batches.set_leaf, req, req.room)
     if op == 'A':
@@ -233,11 +271,11 @@ def answer(req):
         if op == 'j':
             judge(schema)
             return 'done'
-        if op == 'c':
-            rows.check(schema, second)
+        if op in 'cx':
+            entry(rows.check)(schema, second)
             return 'done'
-        if op in ('r', 'o'):
-            return value_line(rows.read(schema, second, req.steps))
+        if op in 'roy':
+            return value_line(entry(rows.read)(schema, second, req.steps))
         if op == 'n':
             return 'count %d' % batches.count(second)
         if op == 'f':

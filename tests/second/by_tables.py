@@ -20,7 +20,7 @@ def portion(seed, number, count, ops=answers.OPS):
     made = []
     schema, before = None, ()
     for i, req in enumerate(requests.portion(seed, number)[:count], number * requests.PORTION):
-        if req.schema != schema:
+        if req.schema != schema and req.op not in answers.BY_NUMBER:
             schema = req.schema
             if 'T' in ops:
                 asked = table_request(choose, schema)

@@ -1,4 +1,4 @@
-"""The document's table A to N, its further cases, those of batches, of places, of lent tables and of stroke logs, as requests with answers.
+"""The document's table A to N, its further cases, those of batches, places, lent tables, stroke logs and catalogues, as requests with answers.
 
 Where the document states bytes, sizes or numbers they are written out by hand
 and not computed; the rest is answered by the second reading.  Making the cases
@@ -9,6 +9,8 @@ import answers
 from answers import request
 from batch_cases import THREE, framing_cases
 from batch_orders import order_cases
+from catalogue_bytes import lent
+from catalogue_cases import SMALL as CATALOGUE, catalogue_cases
 from further import further_cases
 from lent_tables import lent_table_cases
 from log_cases import SMALL, log_cases
@@ -66,6 +68,7 @@ def requests_and_answers():
     place_cases(cases)
     lent_table_cases(cases)
     log_cases(cases)
+    catalogue_cases(cases)
     assert all(answers.within_rooms(req) for _, req, _ in cases.made)
     return cases.made
 
@@ -74,11 +77,12 @@ def runs(ops=answers.OPS):
     """Whole inputs that end a run, of these ops: name, input, lines."""
     good = answers.encode(request('c', A_SCHEMA, A_ROW))
     made = [('nothing', b'', []), ('two', good + good, ['done', 'done']),
-            ('unknown op', good + b'x' + good[1:], ['done', 'end']),
+            ('unknown op', good + b'q' + good[1:], ['done', 'end']),
             ('op zero', b'\0' + good[1:], ['end'])]
     setting = request('s', C_SCHEMA, C_ROW, (0,), kind=5, third=b'TPH')
     for req in (setting, setting._replace(table=table_of(C_SCHEMA)), request('A', C_SCHEMA, THREE, room=92, third=C_ROW),
-                request('L', second=SMALL, steps=(5,), room=180, value=7)):
+                request('L', second=SMALL, steps=(5,), room=180, value=7), request('a', C_SCHEMA, b'\0'),
+                request('v', b'\0', C_ROW, (0,), kind=5, third=b'TPH')):
         full = answers.encode(req)
         for n in range(1, len(full)):
             made.append(('cut of %s after %d' % (req.op, n), good + full[:n], ['done', 'end']))
@@ -96,10 +100,12 @@ def runs(ops=answers.OPS):
                 made.append(('length %d at its limit' % at, data + schema + rest + good, [line, 'done']))
             else:
                 made.append(('length %d over its limit' % at, data + bytes(80000), [line]))
-    # A row's or a chord's number has the limit of the room, whose field it stands in; where the op has no use for it, too.
-    for op in filter(ops.__contains__, 'nfkAgzLRC'):
+    # A row's, a chord's or a schema's number has the limit of the room, whose field it stands in; where the op has no use for it, too.
+    for op in filter(ops.__contains__, 'nfkAgzLRCaxyvWI'):
         limit = answers.room_limit(op)
-        at_limit = request(op, C_SCHEMA, SMALL if op in 'LRC' else THREE, room=limit, third=C_ROW)
+        schema = lent(CATALOGUE) if op in answers.BY_NUMBER else C_SCHEMA
+        second = {'L': SMALL, 'R': SMALL, 'C': SMALL, 'a': lent(CATALOGUE)}.get(op, THREE)
+        at_limit = request(op, schema, second, room=limit, third=C_ROW)
         made.append(('room of %s at its limit' % op, answers.encode(at_limit) + good, [answers.answer(at_limit), 'done']))
         for room in sorted({limit + 1, answers.OUT_ROOM + 1, 0xFFFFFFFF}):
             made.append(('room of %s over its limit' % op, good + answers.encode(at_limit._replace(room=room)), ['done', 'end']))
@@ -108,7 +114,7 @@ def runs(ops=answers.OPS):
 
 def table_runs(good):
     """Whole inputs that end a run for what they say of a table."""
-    made = [('%s by a table' % op, good + answers.encode(request(op, A_SCHEMA, table=table_of(A_SCHEMA))), ['done', 'end']) for op in 'nTLRCx']
+    made = [('%s by a table' % op, good + answers.encode(request(op, A_SCHEMA, table=table_of(A_SCHEMA))), ['done', 'end']) for op in 'nTLRCxyvWIq']
     for room in (answers.WORDS_ROOM + 1, answers.OUT_ROOM, answers.OUT_ROOM + 1, 0xFFFFFFFF):
         made.append(('room of T over its limit', good + answers.encode(request('T', A_SCHEMA, room=room)), ['done', 'end']))
     table = (0,) * answers.WORDS_ROOM

@@ -7,6 +7,7 @@ import itertools
 from collections import namedtuple
 
 import batches
+import catalogue_bytes
 import layouts
 import schemas
 from answers import FILL_WORD, OPS_BY_TABLE, WORDS_ROOM, hex_or_dash, hex_words, request
@@ -48,6 +49,9 @@ SMALLS = (
           (0, 0, 0, 1, 0, 0, 0, 0), 5, 0, b'xyz'),
 )
 
+# A catalogue of one schema, which is none of the above.
+CATALOGUE = catalogue_bytes.used(b'ro\x01bo')
+
 # Schemas of as many types each, which differ in how these hold each other.
 ALIKE_IN_NUMBER = (
     (b'ro\x02i4i8', b'ro\x02i8i4', b'ro\x01lii4', b'ro\x01ro\x01i4', b'ro\x02stbi', b'ro\x02i4i4'),
@@ -81,6 +85,7 @@ def questions(small):
         request('A', schema, one, room=len(two) + 1, third=row),
         request('g', schema, two, path, room=1),
         request('z', schema, two, path, room=1, **setting),
+        request('a', schema, catalogue_bytes.lent(CATALOGUE)),
     )
 
 
@@ -89,7 +94,7 @@ def refused_line(req):
     if req.op == 't':
         return hex_or_dash(req.third)
     lent = {'w': fill(b'', req.room), 'l': fill(b'', req.room), 's': hex_or_dash(req.second), 'z': hex_or_dash(req.second),
-            'A': fill(req.second, req.room)}.get(req.op)
+            'A': fill(req.second, req.room), 'a': CATALOGUE.hex()}.get(req.op)
     return 'refused 1 0' if lent is None else 'refused 1 0 ' + lent
 
 

@@ -1,5 +1,6 @@
 """Answers about stroke logs with one slip each, as a driver could give them: the comparison must find every one."""
 
+from functools import partial
 from unittest import mock
 
 import answers
@@ -13,12 +14,15 @@ add, bits, chord_at, judged, joins, numbers, read, with_chord = (
     strokes.add, strokes.bits, strokes.chord_at, strokes.judged, strokes.joins, strokes.numbers, strokes.read, strokes.with_chord)
 
 
-def slip(**others):
-    """Answers by the second reading with these functions or numbers in the place of its own."""
+def slip_in(module, **others):
+    """Answers by the second reading with these functions or numbers in the place of a module's own."""
     def answer(req):
-        with mock.patch.multiple(strokes, **others):
+        with mock.patch.multiple(module, **others):
             return answers.answer(req)
     return answer
+
+
+slip = partial(slip_in, strokes)
 
 
 # --- Where a chord goes ------------------------------------------------------

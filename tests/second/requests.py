@@ -12,6 +12,7 @@ import layouts
 import rows
 import schemas
 from batch_requests import batch_scene
+from catalogue_requests import catalogue_scene
 from damage import bad_listing, bad_row, bad_schema, lengthened
 from log_requests import log_scene
 from making import Chooser, Contents, mark_bytes, root_cell, sound_schema, struct_tree
@@ -20,9 +21,10 @@ from schemas import BYTES, Null
 
 PORTION = 1000
 
-# The shares of scenes that are about batches and about logs: about a quarter and a tenth of the requests.
+# The shares of scenes that are about batches, logs and catalogues: about a quarter, a tenth and a twelfth of the requests.
 BATCHES = 0.25
 LOGS = 0.1
+CATALOGUES = 0.08
 
 
 def portion(seed, number):
@@ -53,6 +55,8 @@ class Maker:
             return batch_scene(choose, self.before)
         if p < BATCHES + LOGS:
             return log_scene(choose)
+        if p < BATCHES + LOGS + CATALOGUES:
+            return catalogue_scene(choose)
         p = choose.random()
         if p < 0.06:
             return self.limit_scene()

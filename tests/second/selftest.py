@@ -14,6 +14,8 @@ import all_orders
 import answers
 import batches
 import cases
+import catalogue
+import catalogue_checks
 import faults
 import layouts
 import log_checks
@@ -389,6 +391,8 @@ def check_junk(rng):
     refusal(strokes.add, data, rng.randrange(70), strokes.Chord(rng.getrandbits(32), 1), rng.randrange(1200))
     refusal(strokes.numbers, bytes(3) + bytes([len(data)]) + data, 4)
     refusal(strokes.chord_at, data, 0)
+    refusal(catalogue.add, data, schema)
+    refusal(catalogue.schema_at, (bytes([rng.randrange(4), len(data), 0]) + data).ljust(catalogue.LENGTH, b'\1'), rng.randrange(4))
     refusal(batches.read, schema, bytes(3) + bytes([len(data)]) + data, 0, path)
     for setting in (None, ('null',), ('bool', 1), ('number', 5), ('float32', 1), ('bytes', b'x')):
         refusal(rows.set_leaf, schema, data, path, setting)
@@ -404,11 +408,12 @@ def main():
     print('%d places of single bits agree' % check_places())
     print('%d slips with tables are found' % table_checks.check_slips())
     print('%d slips with logs are found' % log_checks.check_slips(log_checks.check_runs(args.seed)))
+    print('%d slips with catalogues are found' % catalogue_checks.check_slips(catalogue_checks.check_runs(args.seed)))
     choose = Chooser('selftest/%d' % args.seed)
     tally = dict.fromkeys(('places', 'damaged rows', 'of them sound', 'broken reads',
                            'rows of which all orders were tried', 'settings', 'of them done',
                            'damaged listings', 'of them taken', 'requests about batches', 'batches taken apart',
-                           'requests about logs', 'chords added'), 0)
+                           'requests about logs', 'chords added', 'requests about catalogues', 'schemas added'), 0)
     for number in range(args.scenes):
         check_scene(choose, tally)
         check_junk(choose)
@@ -416,6 +421,7 @@ def main():
             check_batch(choose, tally)
         if number % 10 == 0:
             log_checks.check_log(choose, tally)
+            catalogue_checks.check_catalogue(choose, tally)
     for number in range(3):
         for req in table_checks.check_requests(args.seed, number):
             check_numbers(req)

@@ -1,5 +1,5 @@
 #!/usr/bin/env python3
-"""The run that is kept beside the driver: each op, refusals with their bytes, a path of 17 steps, places, tables, stroke logs.
+"""The run that is kept beside the driver: each op, refusals with their bytes, a path of 17 steps, places, tables, stroke logs, catalogues.
 
     stored.py            whether crates/drive/stdin and stdout are what is made here
     stored.py --write    write them
@@ -9,10 +9,12 @@ import pathlib
 import sys
 
 import answers
+import catalogue_cases
 import log_cases
 import places
 import table
 from answers import request
+from catalogue_bytes import lent, used
 from log_cases import adding
 from log_rows import crossed, framed
 from worked_tables import table_of
@@ -29,6 +31,11 @@ CUT = TWO_ROWS[:-1]
 # The rest of the second row's slot is not zero, at that row's byte 12.
 BROKEN = SIX[:12] + b'\x01' + SIX[13:]
 BROKEN_ROW = ONE_ROW + bytes.fromhex('00000010') + BROKEN
+
+# A catalogue of three schemas, of which C's has the number 1; its used bytes alone are none.
+CATALOGUE = catalogue_cases.SMALL
+LENT = lent(CATALOGUE, b'junk')
+FULL = lent(used(*catalogue_cases.MANY[:16]))
 
 # A log of one row whose tick is null.
 NULL_TICK = framed(log_cases.WRONG_NULLS[4][1])
@@ -103,6 +110,19 @@ REQUESTS = (
     request('C', second=log_cases.SMALL, room=1),
     request('C', second=log_cases.SMALL, room=2),
     request('C', second=log_cases.SMALL, room=3),
+    request('a', table.F_SCHEMA, LENT),
+    request('a', b'x', LENT),
+    request('a', table.C_SCHEMA, CATALOGUE),
+    request('a', table.C_SCHEMA, FULL),
+    request('x', LENT, table.I_ROW_9, room=1),
+    request('x', CATALOGUE, table.C_ROW, room=3),
+    request('y', LENT, table.C_ROW, (0,), room=1),
+    request('v', LENT, table.C_ROW, (0,), room=1, kind=5, third=b'TPH'),
+    request('v', CATALOGUE, table.C_ROW, (0,), room=3),
+    request('W', LENT, table.C_LISTING, room=25, value=1),
+    request('W', LENT, table.C_LISTING, room=2, value=1 << 32),
+    request('I', LENT, table.C_ROW, room=11, value=1),
+    request('I', b'', table.C_ROW, room=2),
 ) + by_their_tables(
     request('j', table.F_SCHEMA),
     request('c', table.H_SCHEMA, table.H_ROW),
@@ -117,6 +137,7 @@ REQUESTS = (
     request('A', SMALL, ONE_ROW, room=len(TWO_ROWS) + 1, third=SIX),
     request('g', SMALL, TWO_ROWS, (0,), room=1),
     request('z', SMALL, TWO_ROWS, (0,), room=1, kind=2, value=7),
+    request('a', table.C_SCHEMA, LENT),
 )
 
 

@@ -1,8 +1,10 @@
-// A setting that a C program asks for by a kind and a value, in a row or in a batch, plain and by a table lent beside the schema. Where they
-// stand for none it is refused with 8, after the refusals of the table, of the batch, of the row and of the place.
+// A setting that a C program asks for by a kind and a value, in a row or in a batch, plain and by a table lent beside the schema, and in a row
+// by its schema's number in a catalogue. Where they stand for none it is refused with 8, after the refusals of the table or the catalogue, of the
+// batch, of the row and of the place.
 ghost use Rattle.compare.specs.Lent.{schemaBy};
 ghost use Rattle.codes.specs.Asked.{askedOf, setAsked, Leaves};
 ghost use Rattle.codes.specs.Batch.{setAskedIn};
+ghost use Rattle.codes.specs.Catalogue.{setAskedAt};
 use codes::Asked;
 use codes::kinds;
 use lent::batches;
@@ -88,5 +90,28 @@ pub fn set_in_by(
             batches::read_by(schema, table, batch, k, p),
         ),
         Asked::Of(x) => codes::outcome_code(batches::set_by(schema, table, batch, k, p, x, bytes)),
+    }
+}
+
+pub fn set_at(
+    catalogue: &[u8],
+    number: usize,
+    row: &mut [u8],
+    path: &[u32],
+    kind: u32,
+    value: u64,
+    bytes: &[u8],
+) -> u64
+    ensures { λ r. ⌜ Leaves
+        (setAskedAt (now (catalogue .entry)) number (now (row .entry)) (now (path .entry)) (askedOf kind value (now (bytes .entry))))
+        (now (row .entry)) r (now (row .exit)) ⌝ }
+{
+    let p = codes::path_of(path);
+    match kinds::of_kind(kind, value) {
+        Asked::Nothing => codes::unfit(
+            catalogue::check(catalogue, number, row),
+            catalogue::read(catalogue, number, row, p),
+        ),
+        Asked::Of(x) => codes::outcome_code(catalogue::set(catalogue, number, row, p, x, bytes)),
     }
 }

@@ -30,7 +30,9 @@ use Rattle.shelf.proofs.Finding.{whole}
 use Rattle.catalogue.specs.declared.Numbered.{Numbered}
 use Rattle.catalogue.specs.declared.Numbered.the-variants as N
 use Rattle.catalogue.specs.Entries.{given, refused, addOf, addedOf}
-use Rattle.catalogue.specs.Meaning.{Entering, Adds}
+use Rattle.catalogue.specs.declared.Standing.{Standing}
+use Rattle.catalogue.specs.declared.Standing.the-variants as S
+use Rattle.catalogue.specs.Meaning.{Behind, StandsAs, Entering, Adds}
 use Rattle.catalogue.proofs.Adding.{old-at}
 
 -- no catalogue, or no schema
@@ -46,37 +48,51 @@ adds-none t s e = go (isCatalogue t) refl
     go true c = record { answers = rw (c, e); leaves = rw (c, e) }
     go false c = adds-broken t s c
 
--- ---- in a catalogue, whose schemas were all judged
+-- a schema that is refused, as judging it told
+pub adds-refused : {t s : List ℕ} {end : ℕ} → Behind t s end → {o : Outcome} {r : Refusal} → outcomeMeans o ≡ judgeOf s → o ≡ O.Refused r
+    → Adds t s (N.Refused r) t
+unfolding addOf addedOf judgeOf
+adds-refused {t} {s} y {r = r} e f = go (judged s) refl (sym (ap outcomeMeans f) ∙ e)
+  where
+    go : (j : Judged) → judged s ≡ j → E.refused (refusalMeans r) ≡ verdict (unless (isAccepted (judged s)) 1) → Adds t s (N.Refused r) t
+    go Accepted j q = let z : E.refused (refusalMeans r) ≡ E.done = rw j at q in let x : _≡_ {A = ℕ} 0 1 = cc in absurd (omega arith)
+    go Refused j q =
+        let z : E.refused (refusalMeans r) ≡ E.refused (numbered 1) = rw j at q in
+        let m : refusalMeans r ≡ numbered 1 = cc in
+        record { answers = ap refused m ∙ rw (y .sound, j); leaves = rw (y .sound, j) }
 
-module _ {t : List ℕ} {end : ℕ} (y : SoundBut t 16 end) where
+-- and one that is accepted
+pub enters : {t s : List ℕ} {end : ℕ} → Behind t s end → {o : Outcome} → outcomeMeans o ≡ judgeOf s → o ≡ O.Done → Entering t end s
+enters {s = s} y e f = record { behind = y; schema = judged-done s (sym e ∙ ap outcomeMeans f) }
+
+-- ---- where it stands in a catalogue, whose schemas were all judged
+
+module _ {t : List ℕ} {end : ℕ} (y : SoundBut t 16 end) (b : Bytes t) (s : List ℕ) {k : ℕ} (n : k ≡ numberAmong s (schemasTo t (countIn t))) where
   sound : isCatalogue t ≡ true
   sound = whole y (y .lies .few)
 
-  pub adds-refused : (s : List ℕ) {o : Outcome} {r : Refusal} → outcomeMeans o ≡ judgeOf s → o ≡ O.Refused r → Adds t s (N.Refused r) t
-  unfolding addOf addedOf judgeOf
-  adds-refused s {r = r} e f = go (judged s) refl (sym (ap outcomeMeans f) ∙ e)
-    where
-      go : (j : Judged) → judged s ≡ j → E.refused (refusalMeans r) ≡ verdict (unless (isAccepted (judged s)) 1) → Adds t s (N.Refused r) t
-      go Accepted j q = let z : E.refused (refusalMeans r) ≡ E.done = rw j at q in let x : _≡_ {A = ℕ} 0 1 = cc in absurd (omega arith)
-      go Refused j q =
-          let z : E.refused (refusalMeans r) ≡ E.refused (numbered 1) = rw j at q in
-          let m : refusalMeans r ≡ numbered 1 = cc in
-          record { answers = ap refused m ∙ rw (sound, j); leaves = rw (sound, j) }
+  pub stands-old : k < countIn t → Adds t s (N.Number k) t
+  unfolding schemasIn
+  stands-old h =
+      let l : numberAmong s (schemasTo t (countIn t)) < length (schemasTo t (countIn t)) = omega (arith, length-schemas t (countIn t)) in
+      let q = old-at (holds t b sound) s (record { given = l; is = number-is s (schemasTo t (countIn t)) l }) in
+      record { answers = sym (q .0 ∙ ap given (sym n)); leaves = sym (q .1) }
 
-  module _ (b : Bytes t) (s : List ℕ) {k : ℕ} (n : k ≡ numberAmong s (schemasTo t (countIn t))) where
-    pub adds-old : k < countIn t → Adds t s (N.Number k) t
-    unfolding schemasIn
-    adds-old h =
-        let l : numberAmong s (schemasTo t (countIn t)) < length (schemasTo t (countIn t)) = omega (arith, length-schemas t (countIn t)) in
-        let q = old-at (holds t b sound) s (record { given = l; is = number-is s (schemasTo t (countIn t)) l }) in
-        record { answers = sym (q .0 ∙ ap given (sym n)); leaves = sym (q .1) }
+  pub stands-behind : countIn t ≤ k → Behind t s end
+  unfolding schemasIn
+  stands-behind h = record { bytes = b; sound = sound; ends = y .ends; new = omega arith }
 
-    pub enters : countIn t ≤ k → judged s ≡ Accepted → Entering t end s
-    unfolding schemasIn
-    enters h j = record { bytes = b; sound = sound; ends = y .ends; schema = j; new = omega arith }
+-- ---- as looking for it told
 
-    pub enters-done : countIn t ≤ k → {o : Outcome} → outcomeMeans o ≡ judgeOf s → o ≡ O.Done → Entering t end s
-    enters-done h e f = enters h (judged-done s (sym e ∙ ap outcomeMeans f))
+module _ (t s : List ℕ) {r : Standing} (p : StandsAs t s r) where
+  pub is-nowhere : r ≡ S.Nowhere → isCatalogue t ≡ false
+  is-nowhere e = subst (StandsAs t s) e p
+
+  pub is-at : {k : ℕ} → r ≡ S.At k → Adds t s (N.Number k) t
+  is-at e = subst (StandsAs t s) e p
+
+  pub is-behind : {end : ℕ} → r ≡ S.Behind end → Behind t s end
+  is-behind e = subst (StandsAs t s) e p
 
 -- by the schema's own table: what is added is the schema that counts
 pub adds-by : {s table : List ℕ} → Own s table → {t t′ : List ℕ} {r : Numbered} → Adds t s r t′ → Adds t (schemaBy s table) r t′

@@ -43,19 +43,19 @@ module _ {t : List ℕ} {ss : List (List ℕ)} (h : Holds t ss) (s : List ℕ) w
 
 module _ {t : List ℕ} {end : ℕ} {s : List ℕ} (y : Entering t end s) where
   held : Holds t (schemasIn t)
-  held = holds t (y .bytes) (y .sound)
+  held = holds t (y .behind .bytes) (y .behind .sound)
 
   counted : length (schemasIn t) ≡ countIn t
   counted = sym (held-count held)
 
   is-new : among s (schemasIn t) ≡ false
-  is-new = le-ltb (numberAmong s (schemasIn t)) (length (schemasIn t)) (omega (arith, y .new, counted))
+  is-new = le-ltb (numberAmong s (schemasIn t)) (length (schemasIn t)) (omega (arith, y .behind .new, counted))
 
   pub enters-size : length t ≡ 16417
   enters-size = held .size
 
   pub enters-few : countIn t ≤ 16
-  enters-few = sound t (y .sound) .few
+  enters-few = sound t (y .behind .sound) .few
 
   pub enters-short : length s ≤ 1024
   enters-short = accepted-short s (y .schema)
@@ -69,11 +69,11 @@ module _ {t : List ℕ} {end : ℕ} {s : List ℕ} (y : Entering t end s) where
 
   pub enters-room : (countIn t ≡ 16 → ⊥) → end + 2 + length s ≤ length t
   enters-room n =
-      omega (arith, start-most (sound-short (sound t (y .sound))) (countIn t) (omega arith), y .ends, enters-short, enters-size, enters-below n)
+      omega (arith, start-most (sound-short (sound t (y .behind .sound))) (countIn t) (omega arith), y .behind .ends, enters-short, enters-size, enters-below n)
 
   pub enters-full : countIn t ≡ 16 → Adds t s (N.Refused F.Full) t
   enters-full e =
-      let q = twelve t s (record { sound = y .sound; schema = y .schema; all = e; new = is-new }) in
+      let q = twelve t s (record { sound = y .behind .sound; schema = y .schema; all = e; new = is-new }) in
       record { answers = sym q; leaves = sym (refused-stays t s (numbered 12) q) }
 
   module _ (n : countIn t ≡ 16 → ⊥) where
@@ -81,7 +81,7 @@ module _ {t : List ℕ} {end : ℕ} {s : List ℕ} (y : Entering t end s) where
     is-next = record { schema = y .schema; new = is-new; room = omega (arith, counted, enters-below n) }
 
     ends-at : end ≡ length (used (schemasIn t))
-    ends-at = y .ends ∙ ap (startOf t) (sym counted) ∙ held-end held
+    ends-at = y .behind .ends ∙ ap (startOf t) (sym counted) ∙ held-end held
 
     stored : {b d : List ℕ} → b ≡ sets t end (le 2 (length s)) → d ≡ sets b (end + 2) (part s 0 (length s)) → d ≡ sets t (length (used (schemasIn t))) (entry s)
     unfolding entry

@@ -8,3 +8,4 @@ pub mod Single
 mod Found
 mod Entering
 mod Answering
+pub mod Low

@@ -1,11 +1,11 @@
 -- Each entry's statement leaves one outcome. Assumes nothing.
 use mathlib.Core.Path.{_≡_, refl, sym, ap, _∙_}
-use mathlib.Core.List.{[], _∷_}
+use mathlib.Core.List.{List, [], _∷_}
 use Prim.Native.Nat.{ℕ}
 use native.Mathlib.Omega.{arith}
 use Rattle.layout.specs.Refusals as N
 use Rattle.layout.specs.Entries.{setVerdict}
-use Rattle.answers.specs.Meaning.{refusalMeans}
+use Rattle.answers.specs.Meaning.{refusalMeans, Numbered as Told}
 use Rattle.answers.proofs.Unique.{number-one, length-one, meaning-one}
 use Rattle.row.specs.Demand1 as D
 use Rattle.row.proofs.Among.{not-among}
@@ -34,6 +34,9 @@ number-is (M.Refused r) (M.Refused s) e h =
     let n : refusalMeans r ≡ refusalMeans s = cc in
     ap M.Refused (number-one r s n (λ q. h (ap E.refused q)))
 
+pub numbered-read : (t : List ℕ) (k : ℕ) (row p : List ℕ) → Told (readAt t k row p)
+numbered-read t k row p = numbered (readAt t k row p) refl refl (demand1 .read t k row p)
+
 pub unique : Unique
 unique = record {
   add = λ t s r r′ b b′ w w′. record {
@@ -43,7 +46,7 @@ unique = record {
   check = λ t k row. outcomes (13 ∷ 1 ∷ 3 ∷ 7 ∷ []) (checkAt t k row) refl (demand1 .check t k row);
   write = λ t k l out r r′ b b′ w w′. record { answer = length-one r r′ (w .answers ∙ sym (w′ .answers)); bytes = w .leaves ∙ sym (w′ .leaves) };
   list = λ t k row out r r′ b b′ w w′. record { answer = length-one r r′ (w .answers ∙ sym (w′ .answers)); bytes = w .leaves ∙ sym (w′ .leaves) };
-  read = λ t k row p r r′ e e′. meaning-one r r′ (e ∙ sym e′) (rw e (numbered (readAt t k row p) refl refl (demand1 .read t k row p)));
+  read = λ t k row p r r′ e e′. meaning-one r r′ (e ∙ sym e′) (rw e (numbered-read t k row p));
   set = λ t k row p x r r′ b b′ w w′. record {
     answer = outcomes (13 ∷ 1 ∷ 3 ∷ 7 ∷ 5 ∷ 6 ∷ 8 ∷ 9 ∷ []) (setVerdict (setAt t k row p x)) refl
         (set-ends _ (setAt t k row p x) (demand1 .set t k row p x)) r r′ (w .answers) (w′ .answers);

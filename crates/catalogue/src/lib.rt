@@ -6,7 +6,7 @@ ghost use Rattle.answers.specs.Paths.{pathOf};
 ghost use Rattle.setting.specs.Writes.{SetAs};
 ghost use Rattle.compare.specs.Lent.{schemaBy};
 ghost use Rattle.catalogue.specs.Entries.{checkAt, readAt, setAt};
-ghost use Rattle.catalogue.specs.Meaning.{Entering, Adds, ListsAt, WritesAt};
+ghost use Rattle.catalogue.specs.Meaning.{StandsAs, Entering, Adds, ListsAt, WritesAt};
 use answers::Answer;
 use answers::Length;
 use answers::Outcome;
@@ -20,7 +20,29 @@ pub enum Numbered {
     Refused(Refusal),
 }
 
-// A schema that is none of those there, behind them where the last ends: its number, or refused with 12.
+// Where a schema stands in lent bytes: at its number, or behind the schemas that are there, which end at a place; not where they are no catalogue.
+enum Standing {
+    Nowhere,
+    At(usize),
+    Behind(usize),
+}
+
+fn look(catalogue: &[u8], schema: &[u8]) -> Standing
+    ensures { λ r. ⌜ StandsAs (now (catalogue .entry)) (now (schema .entry)) r ⌝ }
+{
+    let end = shelf::judge(catalogue, shelf::MOST);
+    if end == 0 {
+        return Standing::Nowhere;
+    }
+    let count = catalogue[0] as usize;
+    let k = shelf::number(catalogue, count, schema);
+    if k < count {
+        return Standing::At(k);
+    }
+    Standing::Behind(end)
+}
+
+// A schema that is none of those there, put behind them: its number, or refused with 12.
 fn enter(catalogue: &mut [u8], end: usize, schema: &[u8]) -> Numbered
     requires { ⌜ Entering (now catalogue) end (now schema) ⌝ }
     ensures { λ r. ⌜ Adds (now (catalogue .entry)) (now (schema .entry)) r (now (catalogue .exit)) ⌝ }
@@ -40,18 +62,13 @@ fn enter(catalogue: &mut [u8], end: usize, schema: &[u8]) -> Numbered
 pub fn add(catalogue: &mut [u8], schema: &[u8]) -> Numbered
     ensures { λ r. ⌜ Adds (now (catalogue .entry)) (now (schema .entry)) r (now (catalogue .exit)) ⌝ }
 {
-    let end = shelf::judge(catalogue, shelf::MOST);
-    if end == 0 {
-        return Numbered::Refused(Refusal::Schema);
-    }
-    let count = catalogue[0] as usize;
-    let k = shelf::number(catalogue, count, schema);
-    if k < count {
-        return Numbered::Number(k);
-    }
-    match row::judge(schema) {
-        Outcome::Done => enter(catalogue, end, schema),
-        Outcome::Refused(r) => Numbered::Refused(r),
+    match look(catalogue, schema) {
+        Standing::Nowhere => Numbered::Refused(Refusal::Schema),
+        Standing::At(k) => Numbered::Number(k),
+        Standing::Behind(end) => match row::judge(schema) {
+            Outcome::Done => enter(catalogue, end, schema),
+            Outcome::Refused(r) => Numbered::Refused(r),
+        },
     }
 }
 
@@ -62,16 +79,11 @@ pub fn add_by(catalogue: &mut [u8], schema: &[u8], table: &[u64]) -> Numbered
     if !compare::gives(schema, table) {
         return Numbered::Refused(Refusal::Schema);
     }
-    let end = shelf::judge(catalogue, shelf::MOST);
-    if end == 0 {
-        return Numbered::Refused(Refusal::Schema);
+    match look(catalogue, schema) {
+        Standing::Nowhere => Numbered::Refused(Refusal::Schema),
+        Standing::At(n) => Numbered::Number(n),
+        Standing::Behind(end) => enter(catalogue, end, schema),
     }
-    let count = catalogue[0] as usize;
-    let k = shelf::number(catalogue, count, schema);
-    if k < count {
-        return Numbered::Number(k);
-    }
-    enter(catalogue, end, schema)
 }
 
 pub fn check(catalogue: &[u8], number: usize, row: &[u8]) -> Outcome

@@ -6,3 +6,4 @@ pub mod Unique
 pub mod InBatch
 pub mod InLog
 pub mod Answered
+pub mod ByNumber

@@ -12,5 +12,6 @@ unique = record {
   besides = λ code words out r r′ b b′ w w′. record { answer = w .answers ∙ sym (w′ .answers); bytes = w .leaves ∙ sym (w′ .leaves) };
   appends = λ z after out r r′ room room′ b b′ w w′.
       (record { answer = w .tells .answers ∙ sym (w′ .tells .answers); bytes = w .tells .leaves ∙ sym (w′ .tells .leaves) }, w .leaves ∙ sym (w′ .leaves));
+  adds = λ t s r r′ b b′ w w′. record { answer = w .answers ∙ sym (w′ .answers); bytes = w .leaves ∙ sym (w′ .leaves) };
   path = taken-one;
 }

@@ -5,4 +5,5 @@ pub mod Steps
 pub mod Asked
 pub mod Batch
 pub mod Log
+pub mod Catalogue
 pub mod Unique

@@ -17,6 +17,7 @@ use answers::Setting;
 use batch::Fetched;
 
 pub mod kinds;
+pub mod numbers;
 pub mod told;
 
 // What a kind and a value ask for: nothing that there is, or a setting.

@@ -9,6 +9,7 @@ ghost use Rattle.codes.specs.Words.{Tells};
 use codes::told;
 
 pub mod batches;
+pub mod catalogues;
 pub mod logs;
 pub mod tables;
 

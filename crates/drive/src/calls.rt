@@ -1,5 +1,6 @@
 // One call of the library for each op, and its line. Each answers where the line ends: 0 where there is none.
 use crate::calls_by;
+use crate::calls_catalogue;
 use crate::calls_log;
 use crate::requests::Head;
 ghost use Prim.Native.Nat.{_≤_};
@@ -54,7 +55,7 @@ fn list(line: &mut [u8], schema: &[u8], row: &[u8], out: &mut [u8]) -> usize {
     telling::output(line, code, out)
 }
 
-fn at_most(n: usize, most: usize) -> usize
+pub fn at_most(n: usize, most: usize) -> usize
     ensures { λ r. ⌜ (r ≤ n) × (r ≤ most) ⌝ }
 {
     if n < most { n } else { most }
@@ -135,6 +136,9 @@ fn set(
     if op == b'z' {
         return set_in_batch(h, schema, &mut out[0..n], &path[0..k], third, line);
     }
+    if op == b'v' {
+        return calls_catalogue::set_row(h, schema, &mut out[0..n], &path[0..k], third, line);
+    }
     set_row(h, schema, &mut out[0..n], &path[0..k], third, line)
 }
 
@@ -158,7 +162,7 @@ fn answer_plain<'a>(
         b'c' => telling::verdict(line, desk::loaf_check(schema, second)),
         b'w' => write(line, schema, second, &mut out[0..room]),
         b'l' => list(line, schema, second, &mut out[0..room]),
-        b's' | b'z' => set(h, schema, second, steps, third, out, line),
+        b's' | b'z' | b'v' => set(h, schema, second, steps, third, out, line),
         b'r' => telling::answer(line, row::read(schema, second, path_of(steps))),
         b'o' => telling::answer(line, row::ask_once(schema, second, path_of(steps))),
         b't' => telling::text(line, row::text_or(schema, second, path_of(steps), third)),
@@ -171,6 +175,14 @@ fn answer_plain<'a>(
         b'L' => calls_log::add(line, second, h.value, steps, &mut out[0..room]),
         b'R' => calls_log::read(line, second, room),
         b'C' => telling::struck(line, strokes::chord(second, room)),
+        b'a' => calls_catalogue::add(line, schema, second, out),
+        b'x' => telling::verdict(
+            line,
+            desk::catalogues::loaf_catalogue_check(schema, room, second),
+        ),
+        b'y' => telling::answer(line, catalogue::read(schema, room, second, path_of(steps))),
+        b'W' => calls_catalogue::write(line, schema, h.value, second, &mut out[0..room]),
+        b'I' => calls_catalogue::list(line, schema, h.value, second, &mut out[0..room]),
         _ => 0,
     }
 }

@@ -1,5 +1,6 @@
 // The calls by a lent table, one for each op that takes a schema; lines and ends as in `calls`.
 use crate::calls;
+use crate::calls_catalogue;
 use crate::requests::Head;
 
 fn write(line: &mut [u8], schema: &[u8], table: &[u64], listing: &[u8], out: &mut [u8]) -> usize {
@@ -127,6 +128,7 @@ pub fn answer<'a>(
             line,
             lent::batches::read_by(schema, table, second, room, calls::path_of(steps)),
         ),
+        b'a' => calls_catalogue::add_by(line, schema, table, second, out),
         _ => 0,
     }
 }

@@ -4,6 +4,7 @@ ghost use lib.ListN.{length};
 
 mod calls;
 mod calls_by;
+mod calls_catalogue;
 mod calls_log;
 mod requests;
 
@@ -11,7 +12,7 @@ mod requests;
 const REQUESTS: u64 = 0xFFFF_FFFF_FFFF_FFFF;
 
 fn run(body: &mut [u8], out: &mut [u8], line: &mut [u8])
-    requires { ⌜ 92304 ≤ length (now body) ⌝ }
+    requires { ⌜ 110256 ≤ length (now body) ⌝ }
 {
     let mut left: u64 = REQUESTS;
     while 0 < left {
@@ -24,7 +25,7 @@ fn run(body: &mut [u8], out: &mut [u8], line: &mut [u8])
 
 fn main() {
     // The parts of the longest request, the longest output, and a line with that in hex.
-    let mut body = [0u8; 92304];
+    let mut body = [0u8; 110256];
     let mut out = [0u8; 70000];
     let mut line = [0u8; 140100];
     run(&mut body, &mut out, &mut line);

@@ -7,7 +7,7 @@ use libc::STDIN_FILENO;
 use libc::STDOUT_FILENO;
 
 // The longest parts that a request may have; what it may ask to be lent, `calls` says.
-const SCHEMA: usize = 2048;
+const SCHEMA: usize = 20000;
 
 const SECOND: usize = 70000;
 
@@ -80,7 +80,7 @@ fn take_words(bytes: &[u8], table: &mut [u64]) -> usize {
 // How many words the table behind the head has, which then stand at the start of the lent ones: none where the request is by its schema
 // alone. Their bytes go through the room of the parts, which are read after them.
 fn read_table(by_table: bool, body: &mut [u8], table: &mut [u64]) -> usize
-    requires { ⌜ 92304 ≤ length (now body) ⌝ }
+    requires { ⌜ 110256 ≤ length (now body) ⌝ }
 {
     if !by_table {
         return 0;
@@ -113,7 +113,7 @@ fn write_line(line: &mut [u8], end: usize) -> bool {
 
 // The parts of a request and its line; false where it is beyond the limits, cut short, or of no op.
 fn serve_parts(h: Head, table: &[u64], body: &mut [u8], out: &mut [u8], line: &mut [u8]) -> bool
-    requires { ⌜ 92304 ≤ length (now body) ⌝ }
+    requires { ⌜ 110256 ≤ length (now body) ⌝ }
 {
     let schema = h.schema;
     if SCHEMA < schema {
@@ -153,7 +153,7 @@ fn serve_parts(h: Head, table: &[u64], body: &mut [u8], out: &mut [u8], line: &m
 
 // The same, with the table behind the head.
 fn serve(h: Head, body: &mut [u8], out: &mut [u8], line: &mut [u8]) -> bool
-    requires { ⌜ 92304 ≤ length (now body) ⌝ }
+    requires { ⌜ 110256 ≤ length (now body) ⌝ }
 {
     let mut table = [0u64; 1024];
     let count = read_table(h.by_table, body, &mut table);
@@ -170,7 +170,7 @@ fn end_run() -> bool {
 
 // Whether the run goes on after one more request.
 pub fn next(body: &mut [u8], out: &mut [u8], line: &mut [u8]) -> bool
-    requires { ⌜ 92304 ≤ length (now body) ⌝ }
+    requires { ⌜ 110256 ≤ length (now body) ⌝ }
 {
     match read_head() {
         Start::Nothing => false,

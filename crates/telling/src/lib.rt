@@ -61,6 +61,22 @@ pub fn table(line: &mut [u8], code: u64, out: &[u64]) -> usize {
     lines::put_words(line, end, out)
 }
 
+// A code that is a schema's number where the call is done.
+fn number(line: &mut [u8], code: u64) -> usize {
+    if code >> 32 != 0 {
+        return verdict(line, code);
+    }
+    let end = lines::put_text(line, 0, b"number");
+    lines::put_number(line, end, code)
+}
+
+// The same with the used bytes of the catalogue after the call.
+pub fn numbered(line: &mut [u8], code: u64, used: &[u8]) -> usize {
+    let end = number(line, code);
+    let end = lines::put_byte(line, end, b' ');
+    lines::put_bytes(line, end, used)
+}
+
 // Lent bytes by themselves.
 pub fn text(line: &mut [u8], bytes: &[u8]) -> usize {
     lines::put_bytes(line, 0, bytes)

@@ -7,7 +7,7 @@ use Rattle.drive.proofs.run.Statement.{statement}
 use Rattle.drive.proofs.run.Tie as tie
 
 abbrev Inv-loop : tie.InvT-loop
-Inv-loop body₀ out₀ line₀ left₀ body out line left = (92304 ≤ length body) × (length body ≡ length body₀) × (length out ≡ length out₀) ×
+Inv-loop body₀ out₀ line₀ left₀ body out line left = (110256 ≤ length body) × (length body ≡ length body₀) × (length out ≡ length out₀) ×
     (length line ≡ length line₀)
 
 abbrev μ-loop : tie.MeasureT-loop
