@@ -2,7 +2,7 @@
 use mathlib.Core.Path.{_≡_, refl, sym, ap, _∙_, subst}
 use mathlib.Core.List.{List}
 use Prim.Native.Nat.{ℕ, _-_}
-use lib.ListN.{length, take, drop}
+use lib.ListN.{take, drop}
 use Rattle.schema.specs.Reading.{judged}
 use Rattle.schema.specs.declared.Judged.{Judged}
 use Rattle.schema.specs.declared.Judged.the-variants.{Accepted, Refused}

@@ -74,7 +74,8 @@ add-low t s {r} e = go (catalogueBad t or schemaBad s or noneLeft t s) (numberAm
     bads : LowIn 16384 (catalogueBad t or schemaBad s or noneLeft t s)
     bads =
         low-or 16384 (catalogueBad t) _ (low-unless 16384 (isCatalogue t) 1)
-        (low-or 16384 (schemaBad s) (noneLeft t s) (low-unless 16384 (isAccepted (judged s)) 1) (low-unless 16384 (not (eqb (countIn t) 16 && not (among s (schemasIn t)))) 12))
+        (low-or 16384 (schemaBad s) (noneLeft t s) (low-unless 16384 (isAccepted (judged s)) 1)
+        (low-unless 16384 (not (eqb (countIn t) 16 && not (among s (schemasIn t)))) 12))
 
     go : (m : Option Refusal) (n : ℕ) → LowIn 16384 m → refused r ≡ numberAfter m n → Low 16384 r
     go none n l q = let z : _≡_ {A = ℕ} 0 1 = cc in absurd (omega arith)

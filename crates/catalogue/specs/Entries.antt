@@ -1,11 +1,10 @@
 -- What each entry answers, as a function of the lent bytes: its refusals in the document's order, and then the result; and what the lent
 -- bytes hold after. Assumes nothing: these are definitions.
-use mathlib.Core.Bool.{Bool, not, _&&_, cond}
+use mathlib.Core.Bool.{not, _&&_, cond}
 use mathlib.Core.Option.{Option, none, some}
 use mathlib.Core.List.{List, [], _∷_, _++_}
 use Prim.Native.Nat.{ℕ}
 use lib.Dec.{eqb, ltb}
-use lib.ListN.{length}
 use lib.Seq.{sets}
 use Rattle.layout.specs.Refusals.{Refusal}
 use Rattle.layout.specs.Reading.{Answer}

@@ -1,10 +1,10 @@
 -- What judging a catalogue tells, and where the schema of a number then lies. Assumes nothing.
-use mathlib.Core.Path.{_≡_, refl, sym, ap, _∙_}
+use mathlib.Core.Path.{_≡_, refl, ap, _∙_}
 use mathlib.Core.Bool.{true, false}
 use mathlib.Core.List.{List}
 use Prim.Native.Nat.{ℕ, zero, suc, _+_, _-_, _≤_, _<_}
 use native.Mathlib.Omega.{arith}
-use lib.ListN.{length, take, drop}
+use lib.ListN.{take, drop}
 use borrow.Author.Tests.{le-leb, lt-leb}
 use Rattle.words.specs.Reads.{Reads}
 use Rattle.shelf.specs.Catalogue.{countIn, sizeAt, sizeOf, startOf, schemaIn, isCatalogue}

@@ -69,7 +69,9 @@ module _ (t s : List ℕ) where
 
     pub none-next : r ≡ false → NoneTo (i + 1)
     unfolding schemasTo
-    none-next q = rw (add-one i) (omega (arith, number-none s (schemasTo t i) (schemaIn t i) (z ∙ sym (length-schemas t i)) (same-here ∙ q), length-schemas t i))
+    none-next q =
+        let long = length-schemas t i in
+        rw (add-one i) (omega (arith, number-none s (schemasTo t i) (schemaIn t i) (z ∙ sym long) (same-here ∙ q), long))
 
     pub number-here : r ≡ true → (n : ℕ) → i < n → i ≡ numberAmong s (schemasTo t n)
     unfolding schemasTo

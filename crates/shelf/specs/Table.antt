@@ -32,4 +32,5 @@ pub record Table : Type 0 where
   pub held : schemasIn (both ++ (9 ∷ 9 ∷ 9 ∷ [])) ≡ string ∷ numbers ∷ []
   pub places : (startOf both 0 ≡ 1) × (startOf both 1 ≡ 8) × (startOf both 2 ≡ 17) × (schemaIn both 1 ≡ numbers)
   pub stands : (stand both 2 ≡ true) × (stand twice 1 ≡ true) × (stand twice 2 ≡ false) × (stand nothing 2 ≡ false) × (stand turned 1 ≡ false)
-  pub finds : (numberAmong string (string ∷ numbers ∷ []) ≡ 0) × (numberAmong numbers (string ∷ numbers ∷ []) ≡ 1) × (numberAmong [] (string ∷ numbers ∷ []) ≡ 2)
+  pub finds : (numberAmong string (string ∷ numbers ∷ []) ≡ 0) × (numberAmong numbers (string ∷ numbers ∷ []) ≡ 1)
+      × (numberAmong [] (string ∷ numbers ∷ []) ≡ 2)

@@ -2,7 +2,7 @@
 use mathlib.Core.Path.{_∙_}
 use native.Mathlib.Omega.{arith}
 use lib.ListN.{length-set}
-use Rattle.catalogue.proofs.Entering.{enters-size, enters-few, enters-short, enters-below, enters-room, enters-full, enters-new}
+use Rattle.catalogue.proofs.Entering.{enters-size, enters-few, enters-room, enters-full, enters-new}
 use borrow.Author.Needs.{needs}
 use Rattle.catalogue.proofs.enter.Statement.{statement}
 use Rattle.catalogue.proofs.enter.Tie as tie
@@ -17,7 +17,7 @@ returns : tie.Need-returns
 returns c = enters-full (c .before .before .before .before .pre) (c .if1 .taken)
 
 put2-requires : tie.Need-put2-requires
-put2-requires c κs = omega (arith, enters-room (c .before .before .before .before .before .pre) (c .before .if1 .left))
+put2-requires c κs = let y = c .before .before .before .before .before .pre in omega (arith, enters-room y (c .before .if1 .left), enters-size y)
 
 add-copy : tie.Need-add-copy
 add-copy c =

@@ -1,5 +1,5 @@
 -- `catalogue::set` meets its contract. Assumes nothing.
-use mathlib.Core.Path.{refl, _∙_}
+use mathlib.Core.Path.{refl}
 use native.Mathlib.Omega.{arith}
 use Rattle.catalogue.specs.Kept as K
 use Rattle.catalogue.proofs.Found.{is-broken, is-past, is-at, found, sets-so}

@@ -69,7 +69,8 @@ loop-again : tie.Need-loop-again Inv-loop μ-loop
 loop-again c =
     let g = c .before .before .before .before in
     let l = g .before .before .loop in
-    (seen-next (l .inv .0) (g .get2 .ensures .is) (omega (arith, l .inv .1)) (omega arith) (c .before .stands-but .ensures) (not-false _ (c .if4 .left)), l .inv .1)
+    let s = c .before .stands-but .ensures in
+    (seen-next (l .inv .0) (g .get2 .ensures .is) (omega (arith, l .inv .1)) (omega arith) s (not-false _ (c .if4 .left)), l .inv .1)
 
 returns-5 : tie.Need-returns-5 Inv-loop μ-loop
 returns-5 c =
