@@ -31,6 +31,15 @@ static size_t add(const char *what, const uint8_t *schema, size_t schema_length)
     return loaf_length(answer);
 }
 
+/* The same by the schema's table, which the desk works out ahead; another's table is refused. */
+static void add_by_table(void) {
+    uint64_t table[LOAF_TABLE_WORDS];
+    size_t words = loaf_length(loaf_table(page, sizeof page - 1, table, LOAF_TABLE_WORDS));
+    uint64_t answer = loaf_catalogue_add_by(catalogue, sizeof catalogue, page, sizeof page - 1, table, words);
+    if (!loaf_number(answer)) printf("desk: a page, by its table: number %" PRIu32 "\n", loaf_length(answer));
+    say("desk: a stroke, by the page's table", loaf_catalogue_add_by(catalogue, sizeof catalogue, stroke, sizeof stroke - 1, table, words));
+}
+
 /* The writer has an outline and its number, and makes the row. */
 static void write_row(size_t number) {
     static const uint8_t listing[] = "ro" "st\x03\0\0\0STK" "bo\0";
@@ -82,7 +91,7 @@ static void damaged(size_t number) {
 int main(void) {
     size_t strokes = add("writer: a stroke", stroke, sizeof stroke - 1);
     size_t outlines = add("writer: an outline", outline, sizeof outline - 1);
-    add("desk: a page", page, sizeof page - 1);
+    add_by_table();
     add("desk: an outline, as the writer has it", outline, sizeof outline - 1);
     add("desk: a schema cut short", outline, sizeof outline - 2);
 
