@@ -60,13 +60,27 @@ def agree(made, answer):
         return same_lines([req for _, req, _ in made], [line for _, _, line in made], (answer(req) for _, req, _ in made), 0, str)
 
 
-def check_slips():
-    """The comparison takes the right answers and finds every slip, in the cases; and in random requests those that any row shows."""
+def find_in_cases(stating, slips):
+    """The comparison takes the right answers of the cases that are stated, and finds every slip in them."""
     stated = cases.Cases()
-    lent_table_cases(stated)
+    stating(stated)
     assert agree(stated.made, answers.answer)
-    for name, slip in SLIPS.items():
+    for name, slip in slips.items():
         assert not agree(stated.made, slip), name
+
+
+def read_alike(made):
+    """What runs expect, laid out by hand, is what the second reading answers."""
+    for _, req, line in made:
+        assert answers.answer(req) == line, req
+        assert answers.within_rooms(req)
+        assert answers.decode(answers.encode(req)) == req
+    return made
+
+
+def check_slips():
+    """The comparison finds every slip in the cases, and in random requests those that any row shows."""
+    find_in_cases(lent_table_cases, SLIPS)
     some = by_tables.portion(1, 0, requests.PORTION)
     assert agree(some, answers.answer)
     for name in ('any table is taken', 'only the length counts', 'a byte is altered', 'too short a room is filled'):
