@@ -5,3 +5,6 @@ pub mod Signed
 pub mod Reads
 pub mod Slots
 pub mod Pairs
+pub mod Tests
+pub mod Text
+pub mod TextTest
