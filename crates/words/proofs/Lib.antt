@@ -8,4 +8,6 @@ pub mod FirstSet
 pub mod Turns
 pub mod BitLaws
 pub mod SignedLaws
+pub mod Tests
+pub mod Texts
 mod Examples
