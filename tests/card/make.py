@@ -97,6 +97,15 @@ row('texts', b'ro\x04stbistbi', [b'STK', bytes([0, 1, 0x7F, 0x80, 0xFF]), b'', b
     '2 st -',
     '3 bi -')
 
+# Characters of one to four bytes, a NUL, a byte order mark, noncharacters, the first and the last of each length: all of it is text, in hex as any.
+row('texts_of_all_lengths', b'ro\x05ststststli' b'st',
+    ['S\0K'.encode(), '\x80\u07FF'.encode(), '\u0800\uD7FF\uE000\uFFFF'.encode(), '\U00010000\U0010FFFF'.encode(), ['\uFEFF'.encode(), 'é—😀'.encode()]],
+    '0 st 53004b',
+    '1 st c280dfbf',
+    '2 st e0a080ed9fbfee8080efbfbf',
+    '3 st f0908080f48fbfbf',
+    '4.0 st efbbbf', '4.1 st c3a9e28094f09f9880')
+
 # --- Containers ---------------------------------------------------------------
 
 row('lists', b'ro\x04lii2listlii8liro\x02bost',
@@ -197,6 +206,17 @@ broken_run('no_values', b'ro\x01mai8i8', bytes(8) + n(16 << 32 | 16, 8) + n(8, 8
 # The bool that is deep in field 0 is told, and not the slot of field 1 before it, which points nowhere.
 broken_run('deep_fault', b'ro\x02liro\x01bost',
            bytes(8) + n(24 << 32 | 40, 8) + n(0, 8) + n(1, 8) + bytes(8) + n(24 << 32 | 16, 8) + bytes(8) + n(2, 8), 56)
+
+# A string that is no text, told at its slot: between others; before its padding; a character that is cut, though its rest stands behind it; a map's value.
+broken_run('bad_text', b'ro\x03ststst', row_of(b'ro\x03ststst', [b'STK', b'P\xFFR', b'TPH']), 16)
+broken_run('bad_text_and_padding', b'ro\x01st', bytes(8) + n(16 << 32 | 3, 8) + b'\xED\xA0\x80\0\0\0\0\x01', 8)
+broken_run('cut_text', b'ro\x02stst', row_of(b'ro\x02stst', [b'STKPWR\xE2\x80', b'\x94TPH']), 8)
+broken_run('bad_text_in_a_map', b'ro\x01mai8st', row_of(b'ro\x01mai8st', [[[n(7, 8)], [b'\xC0\x80']]]), 64)
+
+# Under the null the slot leads to the binary's bytes, which are no text.
+run('bad_text_under_a_null', whole(b'ro\x02stbi', b'\1' + bytes(7) + n(24 << 32 | 2, 8) * 2 + b'\xFF\xFE' + bytes(6)),
+    '0 st null',
+    '1 bi fffe')
 
 # --- Pictures ---------------------------------------------------------------------
 
@@ -308,6 +328,22 @@ picture('late_fault',
         '   24  53 54 4b 00 00 00 00 01  text and padding of 1',
         '                            ^^')
 
+# A string that is no text is read nowhere, so its bytes have no name, and the mark is under its slot.
+picture('bad_text',
+        '    0  00 00 00 00 00 00 00 00  bitmap',
+        '    8  03 00 00 00 20 00 00 00  slot of 0',
+        '   16  03 00 00 00 28 00 00 00  slot of 1',
+        '       ^^',
+        '   24  03 00 00 00 30 00 00 00  slot of 2',
+        '   32  53 54 4b 00 00 00 00 00  text and padding of 0',
+        '   40  50 ff 52 00 00 00 00 00',
+        '   48  54 50 48 00 00 00 00 00  text and padding of 2')
+picture('bad_text_under_a_null',
+        '    0  01 00 00 00 00 00 00 00  bitmap',
+        '    8  02 00 00 00 18 00 00 00  slot of 0',
+        '   16  02 00 00 00 18 00 00 00  slot of 1',
+        '   24  ff fe 00 00 00 00 00 00  binary and padding of 1')
+
 # The slot of field 1 points nowhere and has its name all the same.
 picture('deep_fault',
         '    0  00 00 00 00 00 00 00 00  bitmap',
@@ -376,6 +412,9 @@ batch_run('batch_three_rows', PAIR, frame(FIRST) + frame(OTHER) + frame(FIRST),
 batch_run('batch_row_of_no_lines', b'ro\x01list', frame(row_of(b'ro\x01list', [[]])) * 2, 'row 0', 'row 1')
 batch_run('batch_refused_row', PAIR, frame(FIRST) + frame(BROKEN) + frame(FIRST), 'refused 7',
           said='row 1 of the batch is broken at byte 12\n')
+
+batch_run('batch_bad_text', b'ro\x01st', frame(row_of(b'ro\x01st', [b'STK'])) + frame(row_of(b'ro\x01st', [b'\x80'])), 'refused 7',
+          said='row 1 of the batch is broken at byte 8\n')
 
 # 10 is the whole batch's, and comes before a row's own refusal.
 batch_run('batch_ends_in_a_row', PAIR, frame(BROKEN) + frame(FIRST)[:-1], 'refused 10')

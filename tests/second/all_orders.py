@@ -7,6 +7,7 @@ nor with the library; it is for containers of few values.
 
 import itertools
 
+import texts
 from schemas import BOOL, BYTES, LIST, STRUCT, bitmap_size, number_at, pad
 
 # Six values have 720 orders; more would take too long.
@@ -35,7 +36,7 @@ def some_order(fixed, sizes, offsets, end):
 def accepted(t, data):
     """Whether these bytes, all of them, are laid out as a value of this type."""
     if t.kind == BYTES:
-        return True
+        return texts.may_hold_by_decoder(t, data)
     if t.kind == STRUCT:
         return container_accepted(data, 0, t.parts, 8)
     if len(data) < 8:

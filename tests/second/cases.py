@@ -1,4 +1,4 @@
-"""The document's table A to N, its further cases, those of batches, places, lent tables, stroke logs and catalogues, as requests with answers.
+"""The document's table A to N, its further cases, those of batches, places, lent tables, stroke logs, catalogues and text, as requests with answers.
 
 Where the document states bytes, sizes or numbers they are written out by hand
 and not computed; the rest is answered by the second reading.  Making the cases
@@ -16,6 +16,7 @@ from lent_tables import lent_table_cases
 from log_cases import SMALL, log_cases
 from places import place_cases
 from table import A_ROW, A_SCHEMA, C_ROW, C_SCHEMA, ZEROS, fill, table_cases
+from text_cases import text_cases
 from worked_tables import table_of
 
 
@@ -69,6 +70,7 @@ def requests_and_answers():
     lent_table_cases(cases)
     log_cases(cases)
     catalogue_cases(cases)
+    text_cases(cases)
     assert all(answers.within_rooms(req) for _, req, _ in cases.made)
     return cases.made
 

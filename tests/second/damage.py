@@ -5,6 +5,8 @@ import rows
 import schemas
 from making import long_tree, mark_bytes, tower_tree, wide_tree
 from schemas import BOOL, BYTES, MAP, STRUCT
+from text_making import bad_text_of
+from texts import STRING_MARK
 
 ALL_MARKS = [mark for mark, _, _ in schemas.TABLE]
 
@@ -71,6 +73,8 @@ def survey(root, row):
             first = start + (slot >> 32)
             last = first + (slot & 0xFFFFFFFF)
             if child.kind == BYTES:
+                if child.mark == STRING_MARK and last > first:
+                    spots.append(Spot('text', first, last - first, here))
                 if last % 8:
                     spots.append(Spot('zeros', last, -last % 8, here))
             else:
@@ -147,7 +151,7 @@ def bad_schema(choose, schema):
 
 def bad_listing(choose, scene):
     listing = scene.listing
-    p = choose.below(9)
+    p = choose.below(12)
     if p == 0:
         return cut(choose, listing)
     if p in (1, 2):
@@ -176,9 +180,25 @@ def bad_listing(choose, scene):
         if at >= 0 and at + 2 < len(listing):
             return listing[:at + 2] + bytes([choose.one((2, 255, 128))]) + listing[at + 3:]
         return choose.one((b'', b'n', b'nu', b'ro', b'r', b'nunu'))
+    if p >= 9:
+        return bad_text_listing(choose, scene)
     at = choose.below(len(listing))
     end = at + 1 + choose.below(8)
     return listing[:at] + listing[end:]
+
+
+def bad_text_listing(choose, scene):
+    """The listing with other bytes in one of its strings, as many, that mostly are no text; with one bit changed where it has none."""
+    strings = [spot.path for spot in scene.spots if spot.what == 'text']
+    if not strings:
+        return flip(choose, scene.listing)
+
+    def changed(cell, path):
+        if not path:
+            return bad_text_of(choose, len(cell))
+        return cell[:path[0]] + [changed(cell[path[0]], path[1:])] + cell[path[0] + 1:]
+
+    return layouts.listing_of(scene.root, changed(scene.cells, choose.one(strings)))
 
 
 # --- Rows and their slots ----------------------------------------------------
@@ -270,9 +290,22 @@ def wrapping_count(choose, room):
     return 64 * blocks + max(0, left - 16 + 8 * choose.below(3)) // room
 
 
+def bad_text_row(choose, scene):
+    """Other bytes in one string, that mostly are no text, and here and there in its padding too."""
+    strings = [spot for spot in scene.spots if spot.what == 'text']
+    if not strings:
+        return flip(choose, scene.row), ()
+    spot = choose.one(strings)
+    end = spot.at + spot.size
+    padding = choose.junk(-end % 8) if choose.chance(0.2) else bytes(-end % 8)
+    return scene.row[:spot.at] + bad_text_of(choose, spot.size) + padding + scene.row[end + len(padding):], spot.path
+
+
 def one_damage(choose, scene):
     row, spots = scene.row, scene.spots
-    p = choose.below(19)
+    p = choose.below(21)
+    if p >= 19:
+        return bad_text_row(choose, scene)
     if p == 16:
         fixed = schemas.bitmap_size(len(scene.root.parts)) + 8 * len(scene.root.parts)
         return loose_row(choose, fixed + 8 * choose.below(30)), ()
@@ -298,7 +331,7 @@ def one_damage(choose, scene):
     if p >= 7:
         # The places where a rule stands, rather than the many plain bytes.
         wanted = choose.one(('slot', 'slot', 'slot', 'slot', 'count', 'keys size', 'bitmap', 'bool',
-                             'zeros', 'fixed', 'null slot'))
+                             'zeros', 'fixed', 'null slot', 'text'))
         fitting = [s for s in spots if s.what == wanted]
         if fitting:
             spot = choose.one(fitting)
@@ -324,6 +357,8 @@ def one_damage(choose, scene):
             changed[at + bit // 8] ^= 1 << bit % 8
     elif what == 'bool':
         changed[at] = choose.one((2, 3, 255, 128, 0, 1))
+    elif what == 'text':
+        changed[at:at + size] = bad_text_of(choose, size)
     elif what == 'zeros':
         changed[at + choose.one((0, size - 1, choose.below(size)))] = choose.one((1, 128, 255))
     else:

@@ -8,6 +8,7 @@ out only where the bytes that it speaks of are not there, or not the value's.
 A read has the faults on its path, and of those only what a read judges.
 """
 
+import texts
 from schemas import BOOL, BYTES, LIST, STRUCT, bitmap_size, number_at, pad
 
 # The place of a fault that is told at the value's slot.
@@ -42,6 +43,8 @@ def rest(path):
 def faults(t, data, path, keys=None):
     """Turn and place of each fault of a value; the array of a map's values has the header `keys` too."""
     if t.kind == BYTES:
+        if not texts.may_hold_by_decoder(t, data):
+            yield (), SLOT
         return
     least = bitmap_size(len(t.parts)) + 8 * len(t.parts) if t.kind == STRUCT else 8
     if len(data) < least or path is None and len(data) % 8:

@@ -2,6 +2,7 @@
 
 import bisect
 
+import texts
 from schemas import (BOOL, BYTES, LIST, MAP, NULL_MARK, STRUCT, Null, Refused, bitmap_size, broken_at,
                      number_at, pad, padded)
 
@@ -53,7 +54,10 @@ def parse_cell(t, room, listing, at):
     head, at = take(listing, at, 4)
     count = int.from_bytes(head, 'little')
     if kind == BYTES:
-        return take(listing, at, count)
+        data, at = take(listing, at, count)
+        if not texts.may_hold(t, data):
+            raise Refused(2)
+        return data, at
     if kind == LIST:
         return parse_array(t, count, listing, at)
     keys, at = parse_array(t.parts[0], count, listing, at)
@@ -161,12 +165,15 @@ def content(t, cell, path=(), rank=None):
 def decode(t, row, start, end, slot=0, count=None):
     """The contents that row[start:end] lays out, every byte of it judged.
 
-    `slot` is the place of a wrong size or end: where the value's slot stands, 0
+    `slot` is the place of a wrong size or end, or of bad text: where the value's slot stands, 0
     of the root, and of a map's array its own first byte.  `count` is the number
     of keys, which the array of a map's values must have too.
     """
     size = end - start
     if t.kind == BYTES:
+        # Here the slot's range is judged already, and the padding is not yet.
+        if not texts.may_hold(t, row[start:end]):
+            raise broken_at(slot)
         return row[start:end]
     if t.kind == STRUCT:
         n = len(t.parts)

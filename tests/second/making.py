@@ -5,6 +5,7 @@ import random
 
 import schemas
 from schemas import BOOL, BYTES, FLOAT, LIST, STRUCT, Null
+from text_making import string_bytes
 
 LEAF_MARKS = sorted(schemas.LEAVES)
 
@@ -44,7 +45,8 @@ def mark_bytes(tree):
 
 
 def leaf(choose):
-    return (choose.one(LEAF_MARKS),)
+    # A string more often than others: it has a rule of its own about what it holds.
+    return (b'st' if choose.chance(0.15) else choose.one(LEAF_MARKS),)
 
 
 def type_tree(choose, depth, deepest, spread):
@@ -157,7 +159,8 @@ class Contents:
         if kind == BYTES:
             # Empty ones most often: in any order they have a rule of their own.
             sizes = (0, 0, 0, 1, 3, 7, 8, 9, 15, 16, 17)
-            return choose.junk(choose.one(sizes) if choose.chance(0.6) else choose.below(30))
+            size = choose.one(sizes) if choose.chance(0.6) else choose.below(41) if choose.chance(0.97) else 41 + choose.below(160)
+            return string_bytes(choose, t, size, 0)
         if kind == STRUCT:
             return self.fields(t)
         if kind == LIST:

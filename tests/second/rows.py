@@ -1,15 +1,16 @@
 """The row document, in plain Python: reading, setting, and the entries with their orders of refusals.
 
-With schemas.py and layouts.py this is a second reading of the document, written
-from its text alone, so that two programs that share nothing can be compared.
-The three are meant to be read beside the document: each section here carries a
-section's rules in the same order.
+With schemas.py, layouts.py and texts.py this is a second reading of the
+document, written from its text alone, so that two programs that share nothing
+can be compared.  The four are meant to be read beside the document: each
+section here carries a section's rules in the same order.
 
 Every entry takes any bytes.  It answers, or it raises Refused with the
 document's number, and with the place of the first fault where that is 7; it
 raises nothing else.
 """
 
+import texts
 from layouts import content, decode, listing_of, parse_listing
 from schemas import (BOOL, BYTES, FLOAT, INT, LIST, MAP, STRUCT, Refused, bitmap_size, broken_at, judge,
                      number_at, pad, signed_at)
@@ -57,10 +58,13 @@ def type_at(root, path):
 def own_rules(t, row, start, size, slot):
     """A varying value's own rules in its extent; a container's count.
 
-    A wrong size is a fault of the slot that gives it, a wrong count or K one of
-    the value's own first byte.
+    A wrong size, and a string that is no text, is a fault of the slot that gives
+    it, a wrong count or K one of the value's own first byte.
     """
     if t.kind == BYTES:
+        # A leaf ends the path, so no string is judged on the way.
+        if not texts.may_hold(t, row[start:start + size]):
+            raise broken_at(slot)
         return None
     if t.kind == STRUCT:
         n = len(t.parts)
@@ -167,7 +171,7 @@ def fits(t, setting):
         return name == 'number' and -half <= setting[1] < half
     if t.kind == FLOAT:
         return name == 'float%d' % (8 * t.width)
-    return name == 'bytes'
+    return name == 'bytes' and texts.may_hold(t, setting[1])
 
 
 def apply(row, place, setting):

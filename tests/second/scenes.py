@@ -7,6 +7,7 @@ import schemas
 from damage import survey
 from making import FLOATS32, FLOATS64, any_order, mark_bytes, root_cell, struct_tree
 from schemas import BOOL, FLOAT, INT, LIST, MAP, STRUCT
+from text_making import string_bytes
 
 
 class Scene:
@@ -48,7 +49,7 @@ def full_scene(choose):
     cells = root_cell(choose, root, 60)
     cells[-1] = b''
     short = len(layouts.content(root, cells))
-    cells[-1] = choose.junk(rows.ROW_LIMIT - short - choose.one((0, 1, 7, 8, 0, -1, -8)))
+    cells[-1] = string_bytes(choose, root.parts[-1], rows.ROW_LIMIT - short - choose.one((0, 1, 7, 8, 0, -1, -8)), 0)
     return Scene(schema, root, cells, some_rank(choose))
 
 
@@ -146,7 +147,8 @@ def setting_for(choose, scene, path):
         size = choose.one((0, 1, 8))
     elif choose.chance(0.3):
         size = choose.one((size + 1, max(0, size - 1), 0, size + 8, schemas.pad(size)))
-    return 5, choose.one((0, 0, 7, (1 << 64) - 1)), choose.junk(min(size, answers.THIRD_ROOM))
+    # Bad text comes also where the length is another or the string is null: 8 is before 9.
+    return 5, choose.one((0, 0, 7, (1 << 64) - 1)), string_bytes(choose, t, min(size, answers.THIRD_ROOM), 0.2)
 
 
 def room_for(choose, needed):

@@ -27,6 +27,7 @@ import sequences
 import strokes
 import table
 import table_checks
+import text_checks
 from batch_requests import bad_frames, batch_scene
 from damage import bad_listing, bad_row
 from making import Chooser, any_order, sound_schema
@@ -409,6 +410,8 @@ def main():
     print('%d slips with tables are found' % table_checks.check_slips())
     print('%d slips with logs are found' % log_checks.check_slips(log_checks.check_runs(args.seed)))
     print('%d slips with catalogues are found' % catalogue_checks.check_slips(catalogue_checks.check_runs(args.seed)))
+    print('%d slips with text are found' % text_checks.check_slips())
+    print('%d sequences of bytes are text as Python\'s decoder has it, or not' % (text_checks.check_short() + text_checks.check_borders()))
     choose = Chooser('selftest/%d' % args.seed)
     tally = dict.fromkeys(('places', 'damaged rows', 'of them sound', 'broken reads',
                            'rows of which all orders were tried', 'settings', 'of them done',

@@ -1,5 +1,5 @@
 #!/usr/bin/env python3
-"""The run that is kept beside the driver: each op, refusals with their bytes, a path of 17 steps, places, tables, stroke logs, catalogues.
+"""The run that is kept beside the driver: each op, refusals with their bytes, a path of 17 steps, places, tables, stroke logs, catalogues, text.
 
     stored.py            whether crates/drive/stdin and stdout are what is made here
     stored.py --write    write them
@@ -17,6 +17,7 @@ from answers import request
 from catalogue_bytes import lent, used
 from log_cases import adding
 from log_rows import crossed, framed
+from text_cases import BINARY_SCHEMA, string_row
 from worked_tables import table_of
 
 DRIVE = pathlib.Path(__file__).resolve().parents[2] / 'crates' / 'drive'
@@ -39,6 +40,11 @@ FULL = lent(used(*catalogue_cases.MANY[:16]))
 
 # A log of one row whose tick is null.
 NULL_TICK = framed(log_cases.WRONG_NULLS[4][1])
+
+# A string of a surrogate, with padding that is wrong too; one whose last character is cut; and three letters with one of two bytes behind.
+SURROGATE = string_row(b'\xed\xa0\x80', b'\1' * 7)
+CUT_TEXT = string_row(b'STKPWR\xe2\x80')
+ACCENT = string_row(b'STK\xc3\xa9')
 
 
 def by_their_tables(*plain):
@@ -123,6 +129,23 @@ REQUESTS = (
     request('W', LENT, table.C_LISTING, room=2, value=1 << 32),
     request('I', LENT, table.C_ROW, room=11, value=1),
     request('I', b'', table.C_ROW, room=2),
+    request('c', table.C_SCHEMA, SURROGATE),
+    request('c', table.C_SCHEMA, ACCENT),
+    request('c', BINARY_SCHEMA, CUT_TEXT),
+    request('l', table.C_SCHEMA, CUT_TEXT, room=3),
+    request('w', table.C_SCHEMA, b'ro' + table.text(b'ST\xff'), room=2),
+    request('r', table.C_SCHEMA, SURROGATE, (0,)),
+    request('r', table.C_SCHEMA, SURROGATE),
+    request('o', table.C_SCHEMA, CUT_TEXT, (0,)),
+    request('t', table.C_SCHEMA, CUT_TEXT, (0,), third=b'none'),
+    request('t', table.C_SCHEMA, ACCENT, (0,), third=b'none'),
+    request('s', table.C_SCHEMA, table.C_ROW, (0,), kind=5, third=b'T\xc3\xa9'),
+    request('s', table.C_SCHEMA, table.C_ROW, (0,), kind=5, third=b'TP\xff'),
+    request('s', table.C_SCHEMA, table.C_ROW, (0,), kind=5, third=b'\xff'),
+    request('s', BINARY_SCHEMA, table.C_ROW, (0,), kind=5, third=b'TP\xff'),
+    request('s', table.C_SCHEMA, CUT_TEXT, (0,), kind=5, third=b'STKPWRTP'),
+    request('k', table.C_SCHEMA, bytes.fromhex('00000018') + table.C_ROW + bytes.fromhex('00000018') + CUT_TEXT),
+    request('x', LENT, CUT_TEXT, room=1),
 ) + by_their_tables(
     request('j', table.F_SCHEMA),
     request('c', table.H_SCHEMA, table.H_ROW),

@@ -9,7 +9,8 @@ use Rattle.schema.specs.Reading.{parseAll, parseRo, parseKind, parseType as par
 use Rattle.schema.specs.Walk.{typeAt as tyAt, fieldsOf}
 use Rattle.layout.specs.Reader.{assert, cut}
 use Rattle.layout.specs.Faults.{assertAt, cutAt, seenFrom, within, yielded, inRow, faultIn}
-use Rattle.layout.specs.Tiles.{total, both?, change?, stands?}
+use Rattle.words.specs.Tests.{both?, change?}
+use Rattle.layout.specs.Tiles.{total, stands?}
 use Rattle.layout.specs.Cells.{fromCells, toCells, onNull, bytes, parts}
 use Rattle.layout.specs.Layout.{number, string, inside, outside, kidOf, slotOf, kidGet, flags, slots, tails, reads, bodyPut, bodyGet, struct, array}
 use Rattle.layout.specs.Layout.{pair, limit, codec}

@@ -12,7 +12,8 @@ use Rattle.schema.specs.Reading.{parseAll, parseRo, parseKind, parseType as par
 use Rattle.schema.specs.Walk.{typeAt as tyAt, fieldsOf}
 use Rattle.layout.specs.Reader.{assert, cut}
 use Rattle.layout.specs.Faults.{assertAt, cutAt, seenFrom, within, yielded, inRow, faultIn}
-use Rattle.layout.specs.Tiles.{total, both?, either?, change?, aparts?, stands?}
+use Rattle.words.specs.Tests.{both?, either?, change?}
+use Rattle.layout.specs.Tiles.{total, aparts?, stands?}
 use Rattle.layout.specs.Cells.{fromCells, toCells, onNull, bytes as cellBytes, parts}
 use Rattle.layout.specs.Layout.{number, string, inside, outside, kidOf, slotOf, kidGet, flags, slots, tails, reads, bodyPut, bodyGet, struct, array, pair}
 use Rattle.layout.specs.Layout.{limit, codec}

@@ -5,13 +5,14 @@ use mathlib.Core.List.{List, [], _∷_, _++_}
 use Prim.Native.Nat.{ℕ}
 use native.Mathlib.Decide.{decLe, decLt, ℕ-discrete}
 use Rattle.words.specs.Bytes.{le, num, fill, zeros}
+use Rattle.words.proofs.TextComputes.{text-computes}
 use Rattle.schema.specs.Marks.{types, markAt}
 use Rattle.schema.specs.Kinds.{find, placeOf, kindOf, kindOfPlace as placedKind, headKind, kindAt}
 use Rattle.schema.specs.Types.{fixedPlace, textPlace, fixedAt, textAt, width, count, field}
 use Rattle.schema.specs.Reading.{parseAll, parseRo, parseKind, parseType, judged}
 use Rattle.schema.specs.Walk.{typeAt as tyAt, fieldsOf}
 use Rattle.layout.specs.Reader.{assert}
-use Rattle.layout.specs.Layout.{number, string, slotOf, struct, array, pair, limit, codec}
+use Rattle.layout.specs.Layout.{spells?, number, string, slotOf, struct, array, pair, limit, codec}
 use Rattle.layout.specs.Walk.{must, mustStep, own, bySlot, byFlag, child, stepIn, goOn, walk}
 use Rattle.layout.specs.Reading.{typeAlong, placed, valueOf, answerOf, found, readIn}
 use Rattle.layout.specs.Entries.{readOf}
@@ -62,7 +63,7 @@ row₃ = zeros 8 ++ slot 24 24 ++ slot 24 24 ++ zeros 8 ++ slot 16 8 ++ le 8 9
 -- to unfold this is to unfold the definitions
 computes : Unit {0}
 unfolding le num fill types markAt find placeOf kindOf placedKind headKind kindAt fixedPlace textPlace fixedAt textAt width count field
-    parseAll parseRo parseKind parseType judged tyAt fieldsOf assert number string slotOf struct array pair limit codec
+    parseAll parseRo parseKind parseType judged tyAt fieldsOf assert text-computes spells? number string slotOf struct array pair limit codec
     must mustStep own bySlot byFlag child stepIn goOn walk typeAlong placed valueOf answerOf found readIn readOf wideOf slotWidth
     words claim claimAll through upTo byteLines slotLines childLines labelled labelsBy labelsIn labelsAt drawnFrom drawn stepsAt
     decLe decLt ℕ-discrete

@@ -17,10 +17,11 @@ use Rattle.words.proofs.Parts.{length-part}
 use Rattle.layout.specs.Tiles.{Range, range, total, Stands}
 use Rattle.layout.specs.Layout.{front, codec}
 use Rattle.layout.proofs.Tiles.{stands-next}
+use Rattle.spelling.specs.Spelling.{Padded}
 use Rattle.standing.specs.Standing.{rangeAt}
 use Rattle.checking.specs.Sound.{faultOf, inChild, faultFrom}
 use Rattle.checking.specs.Room.{Unfit, Asked}
-use Rattle.checking.proofs.Tests.{passed, part-small, found-fits, no-bytes, ChildIs, child-bad, child-unpadded, child-next}
+use Rattle.checking.proofs.Tests.{passed, part-small, found-fits, no-bytes, ChildIs, child-slot, child-bad, child-unpadded, child-next}
 use Rattle.checking.proofs.Containers.{Eights, child-asks}
 use Rattle.checking.proofs.Children.{good-off, good-outside}
 use Rattle.checking.proofs.Loops.{
@@ -251,7 +252,15 @@ module _ {k : Held} {b : List ℕ} {n slots start i slot cur stop done since : �
         let g : faultOf (typeIn k i) contents ≡ 0 = sym er ∙ e in
         goes g (no-bytes b (cur + z) next (omega (arith, w contents g, length-part b cur (cur + z - cur) (omega (arith, t .end)), eight, t .to)))
 
-  -- a string, which has no fault itself
+  -- the bytes of a string or a binary
+  pub here-padded : Padded b cur (cur + z) next
+  here-padded = record { from = omega arith; pad = omega (arith, t .to); word = here-pad .0; room = room }
+
+  -- which are not what they should be
+  pub here-misspelled : faultOf (typeIn k i) contents ≡ 1 → slot + 2 ≡ faultIn k b
+  here-misspelled g = child-bad child (sym g) (λ e. omega arith) (child-slot slot cur 1 refl)
+
+  -- or are
   module _ (g : faultOf (typeIn k i) contents ≡ 0) {v : Bool} (e : v ≡ eqb (num blank) 0) where
     pub here-unpadded : not v ≡ true → {y : ℕ} → y ≡ cur + z + zerosAhead blank → y + 2 ≡ faultIn k b
     here-unpadded q ey = child-unpadded child g e q ey

@@ -16,7 +16,7 @@ use Rattle.words.specs.Reads.{Reads}
 use Rattle.words.proofs.Powers.{eights}
 use Rattle.words.proofs.Numbers.{num-lt}
 use Rattle.schema.specs.Marks.{types, elementWidth}
-use Rattle.schema.specs.Types.{Fixed, bo, st, width, fixedPlace, fixedAt, textAt, Ty, fix, text, li, place}
+use Rattle.schema.specs.Types.{Fixed, bo, Text, st, bi, width, fixedPlace, fixedAt, textAt, Ty, fix, text, li, place}
 use Rattle.schema.proofs.Table.{width-pos, place-fixed}
 use Rattle.schema.proofs.Places.{typed-place, fixed-of, text-of}
 use Rattle.layout.specs.Layout.{number, string, kidOf, slotOf, front, limit, codec}
@@ -186,10 +186,26 @@ module _ {t : List ℕ} {c d : ℕ} {b : List ℕ} (h : Holding t c d b) where
                   unfolding slotOf codec string
                   texts-room = room-of 8 (ap (λ (x : Ty). slotOf (codec x .wide)) is-text)
 
-                  pub list-texts : {p : Bool} → p ≡ ltb (num (part b (8 + r - bitmap n) (bitmap n))) (2 ^ n) → not p ≡ false
-                      → {y : ℕ} → y ≡ faultFrom 8 8 (elements (text st) n) b 0 [] → y ≡ faultOf (li own) b
+                  -- of the type t
+                  as-text : (t : Text) → textAt k ≡ t → {p : Bool} → p ≡ ltb (num (part b (8 + r - bitmap n) (bitmap n))) (2 ^ n) → not p ≡ false
+                      → {y : ℕ} → y ≡ faultFrom 8 8 (elements (text t) n) b 0 [] → y ≡ faultOf (li own) b
                   unfolding slotOf kidOf codec string
-                  list-texts ep clear ey = ey ∙ as-type ep clear (text (textAt k)) is-text
+                  as-text t q ep clear ey = ey ∙ as-type ep clear (text t) (is-text ∙ ap text q)
+
+                  pub list-binaries : (k ≡ 7 → ⊥) → {p : Bool} → p ≡ ltb (num (part b (8 + r - bitmap n) (bitmap n))) (2 ^ n) → not p ≡ false
+                      → {y : ℕ} → y ≡ faultFrom 8 8 (elements (text bi) n) b 0 [] → y ≡ faultOf (li own) b
+                  unfolding textAt
+                  list-binaries ne = let e : k ≡ 8 = omega arith in as-text bi (rw e)
+
+                -- strings
+                module _ (seven : k ≡ 7) where
+                  pub strings-room : ListRoom b 8 n (8 + r) start
+                  strings-room = texts-room (omega arith) (omega arith)
+
+                  pub list-strings : {p : Bool} → p ≡ ltb (num (part b (8 + r - bitmap n) (bitmap n))) (2 ^ n) → not p ≡ false
+                      → {y : ℕ} → y ≡ faultFrom 8 8 (elements (text st) n) b 0 [] → y ≡ faultOf (li own) b
+                  unfolding textAt
+                  list-strings = as-text (omega arith) (omega arith) st (rw seven)
 
                 -- containers
                 module _ (lo : 9 ≤ k) where

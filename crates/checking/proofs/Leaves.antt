@@ -1,4 +1,4 @@
--- Lists of strings, of bools and of numbers. Assumes nothing.
+-- Strings and binaries, and lists of them, of bools and of numbers. Assumes nothing.
 use mathlib.Core.Path.{_≡_, refl, sym, ap, _∙_}
 use mathlib.Core.Bool.{Bool, true, false, not, cond}
 use mathlib.Core.List.{List, []}
@@ -14,36 +14,48 @@ use borrow.Author.Tests.{eq-eqb, ne-eqb, lt-ltb, le-ltb}
 use Rattle.words.specs.Bytes.{Bytes, num, pad, bitmap, part, zerosAhead}
 use Rattle.words.specs.Bits.{bitOf, bit}
 use Rattle.words.specs.Reads.{Reads}
+use Rattle.words.specs.Tests.{isYes}
+use Rattle.words.proofs.Tests.{yes-is, no-is}
 use Rattle.words.proofs.Parts.{length-part, bytes-part}
 use Rattle.words.proofs.NumLaws.{num-one}
 use Rattle.words.proofs.BitLaws.{bit-num}
-use Rattle.schema.specs.Types.{text, st}
-use Rattle.layout.specs.Layout.{Codec, Kid, number, string, inside, front, codec}
+use Rattle.schema.specs.Types.{Text, bi, text}
+use Rattle.layout.specs.Layout.{Codec, Kid, spells?, number, string, inside, front, codec}
 use Rattle.layout.specs.Cells.{leaf}
-use Rattle.layout.specs.Faults.{byte, got, assertAt, _>>_}
+use Rattle.layout.specs.Faults.{slot, byte, got, assertAt, _>>_}
 use Rattle.layout.proofs.Steps.{nobody}
 use Rattle.layout.specs.Tiles.{total}
 use Rattle.standing.specs.Standing.{varies}
 use Rattle.checking.specs.Sound.{code, faultOf, inChild, zerosThen, faultFrom}
+use Rattle.spelling.specs.Spelling.{Spelling}
+use Rattle.spelling.proofs.ByKind.{free}
 use Rattle.checking.specs.Room.{ListRoom, ListEnd, NoNulls, NoNullsIf, NullAsk, bools}
-use Rattle.checking.proofs.Tests.{clash, passed, failed, code-equal, code-less, code-got, child-sound, found-fits}
+use Rattle.checking.proofs.Tests.{clash, passed, failed, code-test, code-equal, code-less, code-got, child-sound, found-fits}
 use Rattle.checking.proofs.Children.{good-end, good-null, good-inside}
 use Rattle.checking.proofs.Loops.{items, Slots}
 
--- ---- strings
+-- ---- strings and binaries
 
-pub text-fine : (u : List ℕ) → code (string .get u) ≡ 0
-unfolding string
-text-fine u = code-got (leaf u)
+-- judged by what the type asks of the bytes, and told at the slot
+text-code : (t : Text) (u : List ℕ) → faultOf (text t) u ≡ cond (isYes (spells? t u)) 0 1
+unfolding faultOf codec string
+text-code t u =
+    code-test slot (spells? t u) (isYes (spells? t u)) (got (leaf u)) (yes-is (spells? t u)) (no-is (spells? t u))
+    ∙ ap (λ (y : ℕ). cond (isYes (spells? t u)) y 1) (code-got (leaf u))
 
--- the same by the type of a string
-pub text-sound : (u : List ℕ) → faultOf (text st) u ≡ 0
-unfolding faultOf codec
-text-sound u = text-fine u
+module _ {t : Text} {u : List ℕ} {r : Bool} (e : Spelling t u r) where
+  pub text-sound : not r ≡ false → faultOf (text t) u ≡ 0
+  text-sound q = text-code t u ∙ rw (passed (e .is) q)
 
-pub texts-slots : {b : List ℕ} {n slots start : ℕ} → ListRoom b 8 n slots start → Bytes b → Slots (items (text st) n) b n slots start
+  pub text-fault : not r ≡ true → faultOf (text t) u ≡ 1
+  text-fault q = text-code t u ∙ rw (failed (e .is) q)
+
+pub binary-sound : (u : List ℕ) → faultOf (text bi) u ≡ 0
+binary-sound u = text-sound (free u) refl
+
+pub texts-slots : (t : Text) {b : List ℕ} {n slots start : ℕ} → ListRoom b 8 n slots start → Bytes b → Slots (items (text t) n) b n slots start
 unfolding varies
-texts-slots r hb = record {
+texts-slots t r hb = record {
   right = (refl, refl);
   map = r .map;
   data₀ = omega (arith, r .elements);

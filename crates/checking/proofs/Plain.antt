@@ -19,10 +19,11 @@ use Rattle.words.specs.Reads.{Reads}
 use Rattle.words.specs.Slots.{Offset, Size}
 use Rattle.words.proofs.BitLaws.{bit-num}
 use Rattle.words.proofs.Turns.{shift-test}
-use Rattle.schema.specs.Types.{ro, fixedAt}
+use Rattle.schema.specs.Types.{ro, fixedAt, textAt}
 use Rattle.table.specs.Words.{placeIn, topIn}
 use Rattle.table.specs.Tables.{EntryAt, typesOf}
 use Rattle.checking.specs.Sound.{faultOf}
+use Rattle.spelling.specs.Spelling.{Padded, Spelling}
 use Rattle.checking.specs.Room.{Fields, FieldRoom, fieldGood}
 use Rattle.checking.proofs.Fields.{field-whole, field-above, above-shift}
 use Rattle.checking.proofs.Loops.{fields, At, loop-null, loop-plain}
@@ -109,6 +110,9 @@ module _ {t : List ℕ} {first d n : ℕ} {b : List ℕ} {nulls i cur : ℕ} (a 
       pub plain-within : cur + s ≤ length b → to ≤ length b
       plain-within h = omega (arith, a .field .state .fixed .whole)
 
+      pub plain-padded : cur + s ≤ length b → Padded b cur (cur + s) to
+      plain-padded h = record { from = omega arith; pad = omega arith; word = plain-behind; room = plain-within h }
+
     -- the field's bit, as the word has it
     bit-is : bit b 0 i ≡ eqb (bitAnd (nulls / 2 ^ i) 1) 1
     bit-is =
@@ -160,11 +164,12 @@ module _ {t : List ℕ} {first d n : ℕ} {b : List ℕ} {nulls i cur : ℕ} (a 
             good (yes f) = field-whole room bytes e f
             good (no f) = sym (not-false _ q) ∙ field-above room bytes (sym (bit-here z)) refl r e f
 
-      -- a string, which stands at the cursor, and its padding
+      -- a string or a binary, which stands at the cursor, and its padding
       pub plain-text : 7 ≤ k → k < 9 → bitAnd (nulls / 2 ^ i) 1 ≡ 0 → {o : ℕ} → Offset b (8 + 8 * i) o → o ≡ cur
           → {s : ℕ} → Size b (8 + 8 * i) s → cur + s ≤ length b → {to : ℕ} → to ≡ pad (cur + s)
+          → Spelling (textAt k) (part b cur (cur + s - cur)) true
           → {v : Bool} → v ≡ eqb (num (part b (cur + s) (to - (cur + s)))) 0 → not v ≡ false → PlainAt t first d n b nulls (i + 1) to
-      plain-text lo hi z {o} offset at {s} size end {to} et e q = next hi (here-next here (reached-text (a .field) l ew ek lo hi _) e q)
+      plain-text lo hi z {o} offset at {s} size end {to} et er e q = next hi (here-next here (reached-text (a .field) l ew ek lo hi er refl) e q)
         where
           here : Here (a .field .state) o s to
           here = record {

@@ -13,7 +13,7 @@ use lib.ListN.{length}
 use Rattle.words.specs.Bytes.{Bytes, num, bitmap, part, pastByte}
 use Rattle.words.specs.Bits.{bit}
 use Rattle.words.proofs.Powers.{eights, no-eights}
-use Rattle.schema.specs.Types.{Ty, fix, text, li, ma, Tys, ro, fixedAt, width, place, field}
+use Rattle.schema.specs.Types.{Ty, fix, text, li, ma, Tys, ro, fixedAt, textAt, width, place, field}
 use Rattle.schema.specs.Walk.{size, Typed, typeAt, nextAt, fieldAt}
 use Rattle.schema.proofs.Table.{width-8}
 use Rattle.schema.proofs.Laws.{size-fixed, size-text}
@@ -29,11 +29,12 @@ use Rattle.table.specs.Tables.{InTable, EntryAt, schemaOf, posOf, typeOf, types
 use Rattle.standing.specs.Standing.{varies, FieldsFrom}
 use Rattle.standing.proofs.Tabled.{kind-varies, kind-fixed, field-next}
 use Rattle.checking.specs.Sound.{code, faultOf, inChild, zerosThen, faultFrom}
+use Rattle.spelling.specs.Spelling.{Spelling}
 use Rattle.checking.specs.Room.{Fields, FieldRoom, fieldThen, fieldGood}
 use Rattle.checking.proofs.Tests.{clash, passed, failed, MapRoom}
 use Rattle.checking.proofs.Children.{good-null, good-inside}
 use Rattle.checking.proofs.Containers.{struct-odd, struct-short, struct-past, struct-good, Eights, container-eights}
-use Rattle.checking.proofs.Leaves.{text-fine}
+use Rattle.checking.proofs.Leaves.{text-sound, text-fault}
 use Rattle.checking.proofs.Fields.{field-passes, field-hides}
 use Rattle.checking.proofs.Loops.{fields, faultIn, Slots, At, loop-start, loop-bit, loop-slot, loop-pass, loop-wrong}
 use Rattle.checking.proofs.Values.{as-type, place-low, next-place}
@@ -199,10 +200,16 @@ module _ {t : List ℕ} {first d n : ℕ} {b : List ℕ} {slots start c i slot c
   pub reached-vary : 7 ≤ k → varies own ≡ true
   reached-vary lo = kind-varies own (omega (arith, kind-is))
 
-  -- a string has no fault whatever it is
-  pub reached-text : 7 ≤ k → k < 9 → (u : List ℕ) → faultOf own u ≡ 0
-  unfolding faultOf codec
-  reached-text lo hi u = ap (λ (x : Ty). faultOf x u) (text-of own k kind-is lo hi) ∙ text-fine u
+  -- a string or a binary, whose bytes are what they should be, or are not
+  module _ (lo : 7 ≤ k) (hi : k < 9) {u : List ℕ} {r : Bool} (e : Spelling (textAt k) u r) where
+    as-text : faultOf own u ≡ faultOf (text (textAt k)) u
+    as-text = ap (λ (x : Ty). faultOf x u) (text-of own k kind-is lo hi)
+
+    pub reached-text : not r ≡ false → faultOf own u ≡ 0
+    reached-text q = as-text ∙ text-sound e q
+
+    pub reached-misspelled : not r ≡ true → faultOf own u ≡ 1
+    reached-misspelled q = as-text ∙ text-fault e q
 
   -- a container that has none is a multiple of 8 in size, and is judged by its type
   module _ (lo : 9 ≤ k) where

@@ -36,7 +36,7 @@ clash e q = true≢false (sym e ∙ q)
 
 -- ---- assertions and cuts
 
-code-test : {P A : Type 0} (p : Place) (d : Dec P) (t : Bool) (m : Read A) → (P → t ≡ true) → (¬ P → t ≡ false)
+pub code-test : {P A : Type 0} (p : Place) (d : Dec P) (t : Bool) (m : Read A) → (P → t ≡ true) → (¬ P → t ≡ false)
     → code (assertAt p d >> m) ≡ cond t (code m) (placeCode p)
 unfolding assertAt code
 code-test p (yes h) t m f g = rw (f h)

@@ -21,6 +21,7 @@ ghost use Rattle.checking.specs.Sound.{faultOf, inChild, faultFrom, chec
 ghost use Rattle.checking.specs.Room.{FieldRoom, fieldGood, fieldThen, Holding, Fields, LeavesOr0, Items, Pair};
 ghost use Rattle.checking.specs.Room.{elements, Asked, Unfit, variesIn};
 
+mod binaries;
 mod lists;
 
 // What checking a row comes to: the place of the first fault counts from the row's first byte.
@@ -153,6 +154,9 @@ fn is_plain(t: &[u64], first: usize, n: usize, depth: usize, b: &[u8]) -> bool
             return false;
         }
         let next = words::sizes::pad_size(end);
+        if !spelling::looks_spelled(b, k, cur, end, next) {
+            return false;
+        }
         if !words::sizes::pad_clear(b, end, next) {
             return false;
         }
@@ -212,8 +216,11 @@ fn check_list(t: &[u64], c: usize, depth: usize, b: &[u8]) -> usize
     if k < table::STRING {
         return lists::check_end(b, end, start);
     }
+    if k == table::STRING {
+        return lists::check_strings(b, n, slots, start);
+    }
     if k < table::LIST {
-        return lists::check_texts(b, n, slots, start);
+        return binaries::check_binaries(b, n, slots, start);
     }
     check_items(t, c, depth, w, b, n)
 }
@@ -366,6 +373,9 @@ fn check_fields(t: &[u64], first: usize, n: usize, depth: usize, b: &[u8]) -> us
         }
         let next = words::sizes::pad_size(end);
         if k < table::LIST {
+            if !spelling::is_spelled_in(b, k, cur, end, next) {
+                return slot + 2;
+            }
             if !words::sizes::pad_clear(b, end, next) {
                 return words::finds::first_set(b, end, next) + 2;
             }

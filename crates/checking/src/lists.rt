@@ -24,7 +24,7 @@ pub fn items_stand(b: &[u8], n: usize, stop: usize, done: usize) -> usize
 }
 
 // Whether no bitmap word of n elements has a bit: one load for 64 elements.
-fn no_nulls(b: &[u8], n: usize) -> bool
+pub fn no_nulls(b: &[u8], n: usize) -> bool
     requires { ⌜ (length (now b) ≤ 16384) × (8 + (n + 63) / 64 * 8 ≤ length (now b)) ⌝ }
     ensures { λ r. ⌜ NoNullsIf (now (b .entry)) n r ⌝ }
 {
@@ -39,7 +39,7 @@ fn no_nulls(b: &[u8], n: usize) -> bool
 }
 
 // Whether element i is null: no look where none is.
-fn null_at(b: &[u8], i: usize, full: bool) -> bool
+pub fn null_at(b: &[u8], i: usize, full: bool) -> bool
     requires { ⌜ NullAsk (now b) i full ⌝ }
     ensures { λ r. ⌜ r ≡ bit (now (b .entry)) 8 i ⌝ }
 {
@@ -49,8 +49,8 @@ fn null_at(b: &[u8], i: usize, full: bool) -> bool
     words::nulls::is_null(b, 8, i)
 }
 
-// A list's strings or binaries.
-pub fn check_texts(b: &[u8], n: usize, slots: usize, start: usize) -> usize
+// A list's strings.
+pub fn check_strings(b: &[u8], n: usize, slots: usize, start: usize) -> usize
     requires { ⌜ ListRoom (now b) 8 n slots start ⌝ }
     ensures { λ r. ⌜ r ≡ faultFrom 8 8 (elements (text st) n) (now (b .entry)) 0 [] ⌝ }
 {
@@ -80,6 +80,9 @@ pub fn check_texts(b: &[u8], n: usize, slots: usize, start: usize) -> usize
             return slot + 2;
         }
         let next = words::sizes::pad_size(end);
+        if !spelling::is_text_in(b, cur, end, next) {
+            return slot + 2;
+        }
         if !words::sizes::pad_clear(b, end, next) {
             return words::finds::first_set(b, end, next) + 2;
         }

@@ -12,9 +12,11 @@ use Rattle.schema.specs.Marks.{types, markAt}
 use Rattle.schema.specs.Types.{bo, i1, i4, i8, f8, st, fix, text, li, ma, ro, Tys, end, _then_, count, field, fixedPlace, textPlace, place, width, mark}
 use Rattle.layout.specs.Reader.{assert, cut}
 use Rattle.layout.specs.Faults.{assertAt, cutAt, seenFrom, within, yielded, inRow, faultIn}
-use Rattle.layout.specs.Tiles.{total, both?, either?, change?, aparts?, stands?}
+use Rattle.words.proofs.TextComputes.{text-computes}
+use Rattle.layout.specs.Tiles.{total, aparts?, stands?}
 use Rattle.layout.specs.Cells.{Cell, null, leaf, node, fromCells, toCells, onNull, bytes, parts, clean}
-use Rattle.layout.specs.Layout.{number, string, inside, outside, kidOf, slotOf, kidGet, flags, slots, tails, reads, front, bodyPut, bodyGet, struct}
+use Rattle.layout.specs.Layout.{spells?, number, string, inside, outside, kidOf, slotOf, kidGet, flags, slots, tails, reads, front}
+use Rattle.layout.specs.Layout.{bodyPut, bodyGet, struct}
 use Rattle.layout.specs.Layout.{array, pair, limit, codec, content, decode, faultAt}
 use Rattle.layout.specs.Listing.{numberScript, textScript, marked, nullOr, item, runPut, runGet, structScript, listScript, mapScript, script}
 use Rattle.layout.specs.Listing.{listing, parse}
@@ -29,12 +31,12 @@ use Rattle.layout.specs.Setting.{writeFixed, write, writeAt, refuses, be
 -- to unfold this is to unfold the definitions
 computes : Unit {0}
 unfolding le num fill types markAt fixedPlace textPlace place width mark count field assert cut assertAt cutAt seenFrom within yielded inRow faultIn
-    zerosAhead highBits pastByte total both? either? change? aparts? stands? fromCells toCells onNull bytes parts clean
+    zerosAhead highBits pastByte total aparts? stands? fromCells toCells onNull bytes parts clean
     number string inside outside kidOf slotOf kidGet flags slots tails reads bodyPut bodyGet struct array pair limit codec
     numberScript textScript marked nullOr item runPut runGet structScript listScript mapScript script listing parse
     must mustStep own bySlot byFlag child stepIn goOn walk typeAlong placed valueOf answerOf found readIn
     boolBytes signedBytes float32Bytes float64Bytes inBytes suits keepsText keeps refusalIn judgeAt writeFixed write writeAt outcome setIn
-    decLe decLt ℕ-discrete
+    spells? text-computes decLe decLt ℕ-discrete
 computes = tt
 
 -- ---- schemas

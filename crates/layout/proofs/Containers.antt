@@ -319,7 +319,7 @@ mutual
 
   pub codec-lawful : (t : Ty) → Lawful (codec t)
   codec-lawful (fix f) = number-lawful (width f) (limit f) (width-8 f)
-  codec-lawful (text t) = string-lawful
+  codec-lawful (text t) = string-lawful t
   codec-lawful (li t) = list-lawful (codec t) (codec-lawful t)
   codec-lawful (ma k v) = pair-lawful (list (codec k)) (list (codec v)) (list-lawful (codec k) (codec-lawful k)) (list-lawful (codec v) (codec-lawful v))
       (list-counted (codec k) (codec-lawful k)) (list-counted (codec v) (codec-lawful v))

@@ -12,7 +12,8 @@ use Rattle.words.specs.Bytes.{Bytes, empty, le, num, zeros}
 use Rattle.words.proofs.Numbers.{bytes-append, bytes-le, bytes-zeros, length-le, num-le, le-num}
 use Rattle.schema.proofs.Table.{IsMark, pair-mark}
 use Rattle.layout.specs.Cells.{Cell, null, leaf, nodes, onNull, flag, bytes, clean}
-use Rattle.layout.specs.Layout.{Codec, Kid, number, string, NullFits, kidFits, kidTail, AllFit, tails}
+use Rattle.schema.specs.Types.{Text}
+use Rattle.layout.specs.Layout.{Codec, Kid, spells?, number, string, NullFits, kidFits, kidTail, AllFit, tails}
 use Rattle.layout.specs.Listing.{nu, Script, numberScript, textScript, marked, nullOr, item, runPut, runGet}
 use Rattle.layout.proofs.Cells.{present, leaf-bytes, clean-leaf, clean-null, bytes-clean}
 use Rattle.layout.proofs.Reader.{When, yields, when-bind, when-then, when-map, when-assert, assert-yes, cut-back, cut-forth}
@@ -75,23 +76,30 @@ number-scripted w m h = record {
       });
 }
 
-pub text-scripted : Scripted string textScript
+pub text-scripted : (t : Text) → Scripted (string t) (textScript t)
 unfolding string textScript
-text-scripted = record {
+text-scripted t = record {
   same = λ x. rw (bytes-clean x);
   proper = λ x f. bytes-append (bytes-le 4 (length (bytes x))) (f .proper);
   short = λ x f. rw (length-append, length-le) (omega arith);
   back = λ x r f h.
       let u = bytes x in
       let n : length u < 2 ^ 32 = omega (arith, length-append (le 4 (length u)) u) in
-      rw (append-assoc, cut-back 4 (le 4 (length u)) (u ++ r) (length-le 4 (length u)), num-le 4 (length u) (omega arith), cut-back (length u) u r refl)
+      rw (
+        append-assoc,
+        cut-back 4 (le 4 (length u)) (u ++ r) (length-le 4 (length u)),
+        num-le 4 (length u) (omega arith),
+        cut-back (length u) u r refl,
+        assert-yes (spells? t u) (f .spelled),
+      )
       (pairs r (leaf-cleaned x (f .plain)));
   forth = λ b hb.
       when-bind (cut-forth 4 hb) λ (h, r) p.
       when-bind (cut-forth (num h) (p .rest)) λ (u, r′) q.
       let g : le 4 (num h) ≡ h = rw (p .size) at (le-num (p .front)) in
+      when-then (when-assert (spells? t u)) λ _ s.
       yields {a = (leaf u, r′)} (record {
-        fits = record { plain = rw leaf-bytes; proper = rw leaf-bytes (q .front) };
+        fits = record { plain = rw leaf-bytes; proper = rw leaf-bytes (q .front); spelled = rw leaf-bytes s };
         clear = clean-leaf u;
         whole = rw (leaf-bytes, q .size, g, append-assoc, q .whole) (p .whole);
         rest = q .rest;

@@ -9,12 +9,13 @@ use Prim.Native.Nat.{ℕ, zero, suc, _<_, _^_}
 use native.Mathlib.Omega.{arith}
 use borrow.Author.Tests.{eqb-true}
 use lib.ListN.{length, replicate, length-replicate}
-use Rattle.words.specs.Bytes.{Bytes, zeros}
+use Rattle.words.specs.Bytes.{zeros}
 use Rattle.words.proofs.Parts.{part-whole}
 use Rattle.words.proofs.Runs.{sets-whole}
+use Rattle.words.proofs.Tests.{is-yes}
 use Rattle.schema.specs.Types.{Fixed, Text, Ty, fix, text, li, ma, ro}
 use Rattle.layout.specs.Cells.{Cell, null, leaf, node, onNull, flag, bytes, parts, partOf}
-use Rattle.layout.specs.Layout.{Kid, NullFits, number, string, kid, slotOf, kidFits, AllFit, struct, array, pair, codec, kids, Lays}
+use Rattle.layout.specs.Layout.{Kid, NullFits, StringFits, spells?, number, string, kid, slotOf, kidFits, AllFit, struct, array, pair, codec, kids, Lays}
 use Rattle.layout.specs.Places.{starts}
 use Rattle.layout.specs.Reading.{typeAlong, answerOf}
 use Rattle.layout.specs.Setting as S
@@ -39,7 +40,7 @@ pub data Fine (x : Setting) (T : Ty) (e : Cell) : Type 0 where
   numberNull : {f : Fixed} → T ≡ fix f → isNull x ≡ true → Fine x T e
   numberGiven : {f : Fixed} {u : List ℕ} → T ≡ fix f → isNull x ≡ false → inBytes f x ≡ some u → Fine x T e
   textNull : {k : Text} → T ≡ text k → isNull x ≡ true → flag e ≡ 1 → Fine x T e
-  textGiven : {k : Text} {u : List ℕ} → T ≡ text k → x ≡ S.bytes u → flag e ≡ 0 → length u ≡ length (bytes e) → Bytes u → Fine x T e
+  textGiven : {k : Text} {u : List ℕ} → T ≡ text k → x ≡ S.bytes u → flag e ≡ 0 → length u ≡ length (bytes e) → StringFits k (leaf u) → Fine x T e
 
 pub fine-leaf : {x : Setting} {T : Ty} {e : Cell} → Fine x T e → Leafy T
 fine-leaf (numberNull q h) = subst Leafy (sym q) tt
@@ -51,8 +52,8 @@ settable-end : (x : Setting) (T : Ty) (i : ℕ) (t : Ty) (c : Cell) → childTy 
 settable-end x T i t c e k (numberNull q h) = Updated.fixedNull q k e h
 settable-end x T i t c e k (numberGiven q h g) = Updated.fixedGiven q k e h g
 settable-end x T i t c e k (textNull q h f) = Updated.textNull q k e h f
-settable-end x T i t c e k (textGiven {u = u} q h f n b) = Updated.textGiven q k e (ap isNull h) f (ap (λ (y : Setting). length (textOf y)) h ∙ n)
-    (subst (λ (y : Setting). Bytes (textOf y)) (sym h) b)
+settable-end x T i t c e k (textGiven {k = a} q h f n b) = Updated.textGiven q k e (ap isNull h) f (ap (λ (y : Setting). length (textOf y)) h ∙ n)
+    (subst (λ (y : Setting). StringFits a (leaf (textOf y))) (sym h) b)
 
 settable : (x : Setting) (T : Ty) (i : ℕ) (p : List ℕ) (t : Ty) (c : Cell) → typeAlong (i ∷ p) t ≡ some T → Valid (i ∷ p) c → Fine x T (look (i ∷ p) c)
     → Settable x T (i ∷ p) t c
@@ -76,14 +77,16 @@ fixed-fine f x e s = fixed-by f x e (isNull x) (inBytes f x) refl refl s
 null-fine : (k : Text) (x : Setting) (e : Cell) → isNull x ≡ true → flag e ≡ 1 → Fine x (text k) e
 null-fine k x e h f = textNull refl h f
 
-text-fine : (k : Text) (x : Setting) (e : Cell) (n : ℕ) → Proper x → flag e ≡ 0 → n ≡ length (bytes e) → fitsText x ≡ true → keepsSize n x ≡ true
+text-fine : (k : Text) (x : Setting) (e : Cell) (n : ℕ) → Proper x → flag e ≡ 0 → n ≡ length (bytes e) → fitsText k x ≡ true → keepsSize n x ≡ true
     → Fine x (text k) e
+unfolding bytes
 text-fine k S.null e n b f l s h = absurd (true≢false (sym h))
 text-fine k (S.bool v) e n b f l s h = absurd (true≢false (sym s))
 text-fine k (S.signed z) e n b f l s h = absurd (true≢false (sym s))
 text-fine k (S.float32 m) e n b f l s h = absurd (true≢false (sym s))
 text-fine k (S.float64 m) e n b f l s h = absurd (true≢false (sym s))
-text-fine k (S.bytes u) e n b f l s h = textGiven refl refl f (eqb-true (length u) n h ∙ l) b
+text-fine k (S.bytes u) e n b f l s h =
+    textGiven refl refl f (eqb-true (length u) n h ∙ l) (record { plain = refl; proper = b; spelled = is-yes (spells? k u) s })
 
 -- what the place holds lets the setting be made
 pub record Granted (x : Setting) (T : Ty) (p : List ℕ) (c : Cell) : Type 0 where

@@ -10,10 +10,11 @@ use lib.ListN.{length, drop, length-append, length-replicate}
 use lib.Seq.{drop-at}
 use Rattle.words.specs.Bytes.{Bytes, empty, le, num, zeros, fill, pad, padded, zerosAhead}
 use Rattle.words.proofs.Numbers.{bytes-le, bytes-fill, bytes-drop, length-le, num-le, le-num, num-zeros, length-fill, length-padded, fill-is}
+use Rattle.schema.specs.Types.{Text}
 use Rattle.layout.specs.Faults.{slot, byte, got}
 use Rattle.layout.specs.Tiles.{Range, range, total, Stands, stands?}
 use Rattle.layout.specs.Cells.{Cell, leaf, flag, bytes, clean}
-use Rattle.layout.specs.Layout.{Codec, Kid, NumberFits, StringFits, number, string, inside, outside, kidOf, slotOf}
+use Rattle.layout.specs.Layout.{Codec, Kid, NumberFits, StringFits, spells?, number, string, inside, outside, kidOf, slotOf}
 use Rattle.layout.proofs.Cells.{leaf-here, leaf-bytes, clean-leaf}
 use Rattle.layout.proofs.Tiles.{Packed, stands-next}
 use Rattle.layout.proofs.Faults.{When, yields, when-bind, when-then, when-within, within-got, when-assert, assert-yes, cut-back, cut-forth}
@@ -117,18 +118,19 @@ number-lawful w m h = record {
       });
 }
 
-pub string-lawful : Lawful string
+pub string-lawful : (t : Text) → Lawful (string t)
 unfolding string
-string-lawful = record {
+string-lawful t = record {
   here = λ x f. leaf-here x (f .plain);
   sized = tt;
   proper = λ x f. f .proper;
-  cleaned = λ x f. leaf-cleaned StringFits x (f .plain) f;
+  cleaned = λ x f. leaf-cleaned (StringFits t) x (f .plain) f;
   fits = λ x b l. l .fits;
   size = λ x b l. rw (l .is);
   laid = λ x f. record { fits = f; is = refl };
-  back = λ x b l _. rw (← (l .is)) (ap got (sym (l .fits .plain)));
-  forth = λ b hb. yields {a = leaf b} (record { fits = record { plain = rw leaf-bytes; proper = rw leaf-bytes hb }; is = leaf-bytes b });
+  back = λ x b l _. rw (← (l .is), assert-yes slot (spells? t (bytes x)) (l .fits .spelled)) (ap got (sym (l .fits .plain)));
+  forth = λ b hb. when-then (when-assert slot (spells? t b)) λ _ s.
+      yields {a = leaf b} (record { fits = record { plain = rw leaf-bytes; proper = rw leaf-bytes hb; spelled = rw leaf-bytes s }; is = leaf-bytes b });
 }
 
 -- ---- one child

@@ -234,7 +234,7 @@ mutual
 
   pub script-lawful : (t : Ty) → Scripted (codec t) (script t)
   script-lawful (fix f) = number-scripted (width f) (limit f) (width-pos f)
-  script-lawful (text t) = text-scripted
+  script-lawful (text t) = text-scripted t
   script-lawful (li t) = list-scripted _ _ (element t (script t)) (element-lawful t) (element-scripted t (script-lawful t))
   script-lawful (ma k v) =
       map-scripted _ _ (element k (script k)) (element-lawful k) (element-scripted k (script-lawful k)) _ _ (element v (script v)) (element-lawful v)

@@ -8,11 +8,12 @@ use native.Mathlib.Omega.{arith}
 use lib.ListN.{length, replicate, take, drop, length-take, length-drop}
 use Rattle.words.specs.Bytes.{num, pad, bitmap, zerosAhead, pastByte}
 use Rattle.words.proofs.FirstSet.{ahead-most, past-most}
-use Rattle.schema.specs.Types.{width, Ty, fix, text, li, ma, ro, Tys, end, _then_}
+use Rattle.schema.specs.Types.{width, Text, Ty, fix, text, li, ma, ro, Tys, end, _then_}
 use Rattle.layout.specs.Faults.{Place, slot, byte, Read, fault, got, _>>=_, _>>_, assertAt, cutAt, seenFrom, within}
 use Rattle.layout.specs.Tiles.{Range, range, total, stands?}
 use Rattle.layout.specs.Cells.{parts}
-use Rattle.layout.specs.Layout.{Codec, Kid, number, string, inside, outside, kidOf, kid, slotOf, kidGet, reads, front, bodyGet, struct, array, pair}
+use Rattle.layout.specs.Layout.{Codec, Kid, spells?, number, string, inside, outside, kidOf, kid, slotOf, kidGet, reads, front, bodyGet}
+use Rattle.layout.specs.Layout.{struct, array, pair}
 use Rattle.layout.specs.Layout.{list, limit, codec, kids}
 use Rattle.layout.proofs.Faults.{When, yields, when-then, when-assert}
 
@@ -77,9 +78,9 @@ number-near : (w m : ℕ) → NearCodec (number w m)
 unfolding number
 number-near w m b = near-assert (byte 0) (ℕ-discrete (length b) w) (omega arith) λ _. near-assert (byte 0) (decLt (num b) m) (omega arith) λ _. sound
 
-string-near : NearCodec string
+string-near : (t : Text) → NearCodec (string t)
 unfolding string
-string-near b = sound
+string-near t b = near-assert slot (spells? t b) tt λ _. sound
 
 inside-near : (w v : ℕ) (c : Codec) → NearCodec c → NearKid w (inside w v c)
 unfolding inside
@@ -181,7 +182,7 @@ mutual
   -- of every type
   pub codec-near : (t : Ty) → NearCodec (codec t)
   codec-near (fix f) b = number-near (width f) (limit f) b
-  codec-near (text t) b = string-near b
+  codec-near (text t) b = string-near t b
   codec-near (li t) b = list-near (codec t) (λ b. codec-near t b) b
   codec-near (ma k v) b = pair-near (list (codec k)) (list (codec v)) (list-near (codec k) (λ b. codec-near k b)) (list-near (codec v) (λ b. codec-near v b)) b
   codec-near (ro ts) b = struct-near (kids ts) (kids-near ts) b

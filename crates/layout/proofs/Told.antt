@@ -16,11 +16,12 @@ use Rattle.words.specs.Bytes.{Bytes, le, num, zeros}
 use Rattle.words.specs.Bits.{digit}
 use Rattle.words.specs.Signed.{halfOf, toSigned, ofSigned, inRange}
 use Rattle.words.proofs.Numbers.{num-le, le-num, num-lt}
+use Rattle.words.proofs.Tests.{yes-is}
 use Rattle.words.proofs.SignedLaws.{signed-back, bytes-back, toSigned-mag, half-bytes}
 use Rattle.schema.specs.Marks.{types}
 use Rattle.schema.specs.Types.{Fixed, bo, i1, i2, i4, i8, f4, f8, fixedPlace, width, Text, Ty, fix, text, li, ma, ro}
 use Rattle.layout.specs.Cells.{Cell, null, leaf, onNull, flag, bytes}
-use Rattle.layout.specs.Layout.{number, string, limit, codec, Lays}
+use Rattle.layout.specs.Layout.{spells?, number, string, limit, codec, Lays}
 use Rattle.layout.specs.Walk.{Seat, Seen, seen}
 use Rattle.layout.specs.Reading as R
 use Rattle.layout.specs.Reading.{Answer, valueOf, answerOf}
@@ -264,7 +265,7 @@ text-same row k p c s o u x y e =
     subst (λ (x : Setting). Same x (text k) p c (R.bytes o (length u))) e (record {
       proper = rw (← (y .is)) (y .fits .proper);
       present = refl;
-      suits = refl;
+      suits = yes-is (spells? k u) (rw (← (y .is)) (y .fits .spelled));
       keeps = eq-eqb (length u) (length u) refl;
       is = λ w. sym (y .fits .plain ∙ ap leaf (y .is));
     })

@@ -9,7 +9,7 @@ use native.Mathlib.Nat.{sub-zero}
 use native.Mathlib.Omega.{arith}
 use lib.ListN.{length, set, getD, length-set, length-replicate}
 use lib.Seq.{sets, length-sets}
-use Rattle.words.specs.Bytes.{Bytes, empty, byte, le, num, zeros, fill}
+use Rattle.words.specs.Bytes.{empty, byte, le, num, zeros, fill}
 use Rattle.words.specs.Bits.{digit, withBit, putBit}
 use Rattle.words.specs.Signed.{halfOf, ofSigned, inRange}
 use Rattle.words.proofs.Numbers.{bytes-le, length-le, num-lt}
@@ -19,7 +19,7 @@ use Rattle.words.proofs.BitLaws.{length-put}
 use Rattle.schema.specs.Marks.{types}
 use Rattle.schema.specs.Types.{Fixed, bo, i1, i2, i4, i8, f4, f8, fixedPlace, width, Text, Ty, fix, text, li, ma, ro}
 use Rattle.layout.specs.Cells.{Cell, null, leaf, node, onNull, flag, bytes, parts, partOf}
-use Rattle.layout.specs.Layout.{NumberFits, number, string, struct, array, pair, limit, codec, Lays}
+use Rattle.layout.specs.Layout.{NumberFits, StringFits, number, string, struct, array, pair, limit, codec, Lays}
 use Rattle.layout.specs.Places.{starts}
 use Rattle.layout.specs.Reading.{typeAlong}
 use Rattle.layout.specs.Setting as S
@@ -149,7 +149,7 @@ pub data Settable (x : Setting) (T : Ty) : List ℕ → Ty → Cell → Type 0 w
   textNull : {i : ℕ} {t : Ty} {c : Cell} {k : Text} → T ≡ text k → i < length (parts c) → childTy t i ≡ T → isNull x ≡ true → flag (partOf i c) ≡ 1
       → Settable x T (i ∷ []) t c
   textGiven : {i : ℕ} {t : Ty} {c : Cell} {k : Text} → T ≡ text k → i < length (parts c) → childTy t i ≡ T → isNull x ≡ false → flag (partOf i c) ≡ 0
-      → length (textOf x) ≡ length (bytes (partOf i c)) → Bytes (textOf x) → Settable x T (i ∷ []) t c
+      → length (textOf x) ≡ length (bytes (partOf i c)) → StringFits k (leaf (textOf x)) → Settable x T (i ∷ []) t c
   deeper : {i : ℕ} {p : List ℕ} {t : Ty} {c : Cell} → i < length (parts c) → flag (partOf i c) ≡ 0 → Settable x T p (childTy t i) (partOf i c)
       → Settable x T (i ∷ p) t c
 
@@ -287,9 +287,9 @@ text-null-edit x T k row i t c o b r y lim q h e st z f (Stepped.missing {s = s}
     }
 
 -- a present one takes bytes of its length
-text-lays : (t : Ty) (k : Text) (u : List ℕ) → t ≡ text k → Bytes u → Lays t (leaf u) u
+text-lays : (t : Ty) (k : Text) (u : List ℕ) → t ≡ text k → StringFits k (leaf u) → Lays t (leaf u) u
 unfolding codec string bytes
-text-lays t k u e h = subst (λ (t : Ty). Lays t (leaf u) u) (sym e) (record { fits = record { plain = refl; proper = h }; is = refl })
+text-lays t k u e h = subst (λ (t : Ty). Lays t (leaf u) u) (sym e) (record { fits = h; is = refl })
 
 -- a leaf's bytes are what stands for it, and it has no parts
 record LeafIs (c : Cell) (u : List ℕ) : Type 0 where
@@ -305,7 +305,7 @@ text-is t k c u e y = go (subst (λ (t : Ty). Lays t c u) e y)
 
 text-edit : (x : Setting) (T : Ty) (k : Text) (row : List ℕ) (i : ℕ) (t : Ty) (c : Cell) (o : ℕ) (b : List ℕ) (r : Step) → Lays t c b → T ≡ text k
     → i < length (parts c) → childTy t i ≡ T → length b < 2 ^ 32 → Sits row o b
-    → isNull x ≡ false → flag (partOf i c) ≡ 0 → length (textOf x) ≡ length (bytes (partOf i c)) → Bytes (textOf x)
+    → isNull x ≡ false → flag (partOf i c) ≡ 0 → length (textOf x) ≡ length (bytes (partOf i c)) → StringFits k (leaf (textOf x))
     → Comes t (childTy t i) c i o b r → Edited x T row (i ∷ []) t c o b (write (text k) x (goOn [] (λ t s o b. walk [] t s o b) r) row)
 unfolding goOn write walk update parts
 text-edit x T k row i t c o b r y q h e lim st z f n hb (Stepped.past g) = absurd (omega arith)

@@ -16,7 +16,7 @@ use Rattle.words.proofs.Runs.{sets-behind, sets-over, sets-whole}
 use Rattle.schema.specs.Types.{Ty, fix, text, li, ma, ro, Tys, end, _then_, count, field}
 use Rattle.layout.specs.Tiles.{total}
 use Rattle.layout.specs.Cells.{Cell, node, flag, bytes, parts, partOf}
-use Rattle.layout.specs.Layout.{Codec, number, string, kid, slotOf, struct, array, pair, front, limit, codec, kids, Lays}
+use Rattle.layout.specs.Layout.{Codec, spells?, number, string, kid, slotOf, struct, array, pair, front, limit, codec, kids, Lays}
 use Rattle.layout.specs.Walk.{childTy, Seat, Seen, bad, nullAt, seen, Step, stop, toNull, into, must, own, child, stepIn, goOn, walk, seatAt}
 use Rattle.layout.specs.Refusals.{Refusal, numbered, brokenAt}
 use Rattle.layout.proofs.Cells.{parts-node, leaf-parts}
@@ -240,9 +240,9 @@ unfolding codec struct
 struct-room ts c b y = rw (← (kids-count ts)) (omega (arith, body-total 0 8 (kids ts) (kids-lawful ts) (parts c) b (y .body)))
 
 pub own-holds : (t : Ty) (c : Cell) (a : Seat) (o : ℕ) (b : List ℕ) (s : Seen) → Lays t c b → length b < 2 ^ 32 → own t a o b s ≡ s
-unfolding own codec number pair
+unfolding own codec number string pair
 own-holds (fix g) c p o b s y lim = must-yes (decLt (num b) (limit g)) (brokenAt o) s (rw (← (y .is)) (y .fits .below))
-own-holds (text t) c p o b s y lim = refl
+own-holds (text t) c p o b s y lim = must-yes (spells? t b) (brokenAt (p .slot)) s (rw (← (y .is)) (y .fits .spelled))
 own-holds (li t) c p o b s y lim =
     let a = list-says t c b y lim in
     must-yes (decLe 8 (length b)) _ _ (omega (arith, a .room))

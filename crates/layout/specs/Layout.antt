@@ -10,7 +10,9 @@ use Prim.Native.Nat.{ℕ, zero, suc, _+_, _*_, _-_, _/_, _%_, _^_, _<_}
 use native.Mathlib.Decide.{decLt, ℕ-discrete}
 use lib.ListN.{length, replicate, take, drop}
 use Rattle.words.specs.Bytes.{Bytes, le, num, fill, pad, padded, bitmap, zerosAhead, pastByte}
-use Rattle.schema.specs.Types.{Fixed, bo, i1, i2, i4, i8, f4, f8, width, Ty, fix, text, li, ma, ro, Tys, end, _then_}
+use Rattle.words.specs.Text.{WellFormed}
+use Rattle.words.specs.TextTest.{wellFormed?}
+use Rattle.schema.specs.Types.{Fixed, bo, i1, i2, i4, i8, f4, f8, width, Text, st, bi, Ty, fix, text, li, ma, ro, Tys, end, _then_}
 use Rattle.layout.specs.Faults.{Place, slot, byte, Read, got, _>>=_, _>>_, assertAt, cutAt, within, yielded, faultIn}
 use Rattle.layout.specs.Tiles.{Range, range, total, Stands, stands?}
 use Rattle.layout.specs.Cells.{Cell, null, leaf, node, onNull, flag, bytes, parts, partOf}
@@ -50,18 +52,30 @@ number w m = record {
     got (leaf b));
 }
 
-pub record StringFits (c : Cell) : Type 0 where
+-- A string is text; binary is free.
+abbrev pub Spells : Text → List ℕ → Type 0
+Spells st u = WellFormed u
+Spells bi u = Unit {0}
+
+unfoldable pub spells? : (t : Text) (u : List ℕ) → Dec (Spells t u)
+spells? st u = wellFormed? u
+spells? bi u = yes tt
+
+pub record StringFits (t : Text) (c : Cell) : Type 0 where
   pub plain : c ≡ leaf (bytes c)
   pub proper : Bytes (bytes c)
+  pub spelled : Spells t (bytes c)
 
--- A string or binary.
-unfoldable pub string : Codec
-string = record {
+-- A string or binary: one that is no text is told at its slot.
+unfoldable pub string : Text → Codec
+string t = record {
   wide = none;
-  Fits = StringFits;
+  Fits = StringFits t;
   put = bytes;
-  Lays = Exactly StringFits bytes;
-  get = λ b. got (leaf b);
+  Lays = Exactly (StringFits t) bytes;
+  get = λ b. (do
+    assertAt slot (spells? t b)
+    got (leaf b));
 }
 
 -- ---- a child in its container: a slot in the fixed part, and variable data
@@ -337,7 +351,7 @@ list c = array (slotOf (c .wide)) (kid (slotOf (c .wide)) c)
 unfoldable mutual
   pub codec : Ty → Codec
   codec (fix f) = number (width f) (limit f)
-  codec (text t) = string
+  codec (text t) = string t
   codec (li t) = list (codec t)
   codec (ma k v) = pair (list (codec k)) (list (codec v))
   codec (ro ts) = struct (kids ts)

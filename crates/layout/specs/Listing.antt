@@ -6,10 +6,10 @@ use Prim.Native.Nat.{ℕ}
 use native.Mathlib.Decide.{decLt, ℕ-discrete}
 use lib.ListN.{length, replicate}
 use Rattle.words.specs.Bytes.{le, num, zeros}
-use Rattle.schema.specs.Types.{width, Ty, fix, text, li, ma, ro, Tys, end, _then_, mark}
+use Rattle.schema.specs.Types.{width, Text, Ty, fix, text, li, ma, ro, Tys, end, _then_, mark}
 use Rattle.layout.specs.Reader.{_>>=_, _>>_, assert, cut}
 use Rattle.layout.specs.Cells.{Cell, null, leaf, node, onNull, bytes, parts, partOf}
-use Rattle.layout.specs.Layout.{slotOf, limit, codec}
+use Rattle.layout.specs.Layout.{spells?, slotOf, limit, codec}
 
 -- null's mark
 abbrev pub nu : List ℕ
@@ -30,13 +30,14 @@ numberScript w m = record {
     some (leaf u, r));
 }
 
--- a 4-byte length and the bytes
-unfoldable pub textScript : Script
-textScript = record {
+-- a 4-byte length and the bytes, which are text in a string
+unfoldable pub textScript : Text → Script
+textScript t = record {
   put = λ c. le 4 (length (bytes c)) ++ bytes c;
   get = λ b. (do
     (h, r) ← cut 4 b
     (u, r′) ← cut (num h) r
+    assert (spells? t u)
     some (leaf u, r′));
 }
 
@@ -111,7 +112,7 @@ element t s = item (slotOf (codec t .wide)) (mark t) s
 unfoldable mutual
   pub script : Ty → Script
   script (fix f) = numberScript (width f) (limit f)
-  script (text t) = textScript
+  script (text t) = textScript t
   script (li t) = listScript (element t (script t))
   script (ma k v) = mapScript (element k (script k)) (element v (script v))
   script (ro ts) = structScript (scripts ts)

@@ -140,7 +140,7 @@ pub record MapInOrder (k v : Child) (c : Cell) (b : List ℕ) : Type 0 where
 unfoldable mutual
   pub InOrder : Ty → Cell → List ℕ → Type 0
   InOrder (fix f) = Exactly (NumberFits (width f) (limit f)) bytes
-  InOrder (text t) = Exactly StringFits bytes
+  InOrder (text t) = Exactly (StringFits t) bytes
   InOrder (li t) = ListInOrder (childOf (codec t .wide) (InOrder t))
   InOrder (ma k v) = MapInOrder (childOf (codec k .wide) (InOrder k)) (childOf (codec v .wide) (InOrder v))
   InOrder (ro ts) = StructInOrder (children ts)

@@ -10,9 +10,10 @@ use lib.Seq.{sets}
 use Rattle.words.specs.Bytes.{le, zeros, fill}
 use Rattle.words.specs.Bits.{digit, putBit}
 use Rattle.words.specs.Signed.{halfOf, ofSigned, inRange}
-use Rattle.schema.specs.Types.{Fixed, bo, i1, i2, i4, i8, f4, f8, Ty, fix, text, li, ma, ro, Tys}
+use Rattle.words.specs.Tests.{isYes}
+use Rattle.schema.specs.Types.{Fixed, bo, i1, i2, i4, i8, f4, f8, Text, Ty, fix, text, li, ma, ro, Tys}
 use Rattle.layout.specs.Refusals.{Refusal, numbered, brokenAt}
-use Rattle.layout.specs.Layout.{faultAt}
+use Rattle.layout.specs.Layout.{spells?, faultAt}
 use Rattle.layout.specs.Walk.{Seat, Seen, bad, nullAt, seen, rootSeat, walk}
 use Rattle.layout.specs.Reading as R
 use Rattle.layout.specs.Reading.{Answer, placed, readIn}
@@ -85,19 +86,19 @@ abbrev pub isSome : {A : Type 0} → Option A → Bool
 isSome none = false
 isSome (some a) = true
 
--- bytes fit a string or binary
-abbrev pub fitsText : Setting → Bool
-fitsText null = true
-fitsText (bool v) = false
-fitsText (signed z) = false
-fitsText (float32 n) = false
-fitsText (float64 n) = false
-fitsText (bytes u) = true
+-- bytes fit a binary, and a string where they are text
+abbrev pub fitsText : Text → Setting → Bool
+fitsText t null = true
+fitsText t (bool v) = false
+fitsText t (signed z) = false
+fitsText t (float32 n) = false
+fitsText t (float64 n) = false
+fitsText t (bytes u) = isYes (spells? t u)
 
 -- null any leaf; nothing a container
 unfoldable pub suits : Ty → Setting → Bool
 suits (fix f) x = cond (isNull x) true (isSome (inBytes f x))
-suits (text t) x = fitsText x
+suits (text t) x = fitsText t x
 suits (li t) x = false
 suits (ma k v) x = false
 suits (ro ts) x = false

@@ -1,10 +1,11 @@
 -- Where the variable values of one container may stand: in any order, none over another. No other file knows of an order.
 -- Assumes nothing: these are definitions.
 use mathlib.Core.Path.{_≡_}
-use mathlib.Core.Logic.{_⊎_, inl, inr}
+use mathlib.Core.Logic.{_⊎_}
 use mathlib.Core.List.{List, [], _∷_}
 use Prim.Native.Nat.{ℕ, _+_, _%_, _≤_}
 use native.Mathlib.Decide.{decLe, ℕ-discrete}
+use Rattle.words.specs.Tests.{both?, either?, change?}
 
 -- the offset of a value in its container, and how many bytes it takes, a multiple of 8
 pub record Range : Type 0 where
@@ -38,24 +39,6 @@ pub record Stands (at stop : ℕ) (rs : List Range) (r : Range) : Type 0 where
   pub clear : Aparts r rs
 
 -- ---- the test of it
-
-unfoldable pub both? : {A B : Type 0} → Dec A → Dec B → Dec (A × B)
-both? (yes a) (yes b) = yes (a, b)
-both? (yes a) (no n) = no λ p. n (p .1)
-both? (no n) d = no λ p. n (p .0)
-
-unfoldable pub either? : {A B : Type 0} → Dec A → Dec B → Dec (A ⊎ B)
-either? (yes a) d = yes (inl a)
-either? (no n) (yes b) = yes (inr b)
-either? (no n) (no m) = no λ s. neither n m s
-  where
-    neither : {A B : Type 0} → ¬ A → ¬ B → A ⊎ B → ⊥
-    neither n m (inl a) = n a
-    neither n m (inr b) = m b
-
-unfoldable pub change? : {A B : Type 0} → (A → B) → (B → A) → Dec A → Dec B
-change? f g (yes a) = yes (f a)
-change? f g (no n) = no λ b. n (g b)
 
 unfoldable pub aparts? : (r : Range) (qs : List Range) → Dec (Aparts r qs)
 aparts? r [] = yes tt

@@ -7,7 +7,7 @@ use lib.ListN.{length, take, drop}
 use Rattle.words.specs.Bytes.{num, part, bitmap}
 use Rattle.schema.specs.Types.{Ty, fix, text, li, ma, ro, count, field}
 use Rattle.layout.specs.Refusals.{Refusal, numbered, brokenAt}
-use Rattle.layout.specs.Layout.{slotOf, front, limit, codec}
+use Rattle.layout.specs.Layout.{spells?, slotOf, front, limit, codec}
 
 -- Where a child stands in its container: its container's bitmap starts at the row's byte numbered bits, and it is child number of
 -- it; its slot or element starts at the row's byte numbered slot, and has wide bytes.
@@ -45,12 +45,13 @@ unfoldable pub mustStep : {P : Type 0} → Dec P → Refusal → Step → Step
 mustStep (yes _) r x = x
 mustStep (no _) r x = stop r
 
--- A type's own rules on its bytes b, which start at the row's byte o, in the seat s: a bool is 0 or 1, else it is broken there; a list
--- has 8 bytes, else it is broken at its slot, and its header and padded elements fit, else at its header; a map has 8 bytes, else at
--- its slot, K is a multiple of 8, and 8+K is at most its size, else at its header; a struct holds its fixed part, else at its slot.
+-- A type's own rules on its bytes b, which start at the row's byte o, in the seat s: a bool is 0 or 1, else it is broken there; a string is
+-- text, else it is broken at its slot; a list has 8 bytes, else it is broken at its slot, and its header and padded elements fit, else at its
+-- header; a map has 8 bytes, else at its slot, K is a multiple of 8, and 8+K is at most its size, else at its header; a struct holds its
+-- fixed part, else at its slot.
 unfoldable pub own : Ty → Seat → ℕ → List ℕ → Seen → Seen
 own (fix f) s o b x = must (decLt (num b) (limit f)) (brokenAt o) x
-own (text t) s o b x = x
+own (text t) s o b x = must (spells? t b) (brokenAt (s .slot)) x
 own (li t) s o b x =
     must (decLe 8 (length b)) (brokenAt (s .slot))
     (must (decLe (front 8 (slotOf (codec t .wide)) (num (take 8 b))) (length b)) (brokenAt o) x)

@@ -14,10 +14,10 @@ use Rattle.words.specs.Pairs.{lowIn, highIn, Paired}
 use Rattle.words.proofs.Numbers.{bytes-drop, length-padded, length-le}
 use Rattle.words.proofs.Parts.{length-part}
 use Rattle.words.proofs.NumLaws.{part-lt, num-one}
-use Rattle.schema.specs.Types.{Fixed, width, fixedAt, Text, st, Ty, fix, text, li, ma, ro, Tys, mark}
+use Rattle.schema.specs.Types.{Fixed, width, fixedAt, Text, Ty, fix, text, li, ma, ro, Tys, mark}
 use Rattle.schema.proofs.Table.{width-pos, width-8, line-width, place-fixed, bool-one}
 use Rattle.layout.specs.Cells.{Cell, null, leaf, node, onNull, flag}
-use Rattle.layout.specs.Layout.{Codec, Kid, number, string, inside, outside, kidOf, kid, kidTail, array, pair, struct, limit, codec, content}
+use Rattle.layout.specs.Layout.{Codec, Kid, Spells, number, string, inside, outside, kidOf, kid, kidTail, array, pair, struct, limit, codec, content}
 use Rattle.layout.specs.Listing.{nu, item, runGet, structScript, listScript, mapScript, element, script}
 use Rattle.layout.proofs.Reader.{when-some}
 use Rattle.layout.proofs.Cells.{parts-node, present, leaf-bytes}
@@ -29,7 +29,7 @@ use Rattle.table.specs.Words.{widthIn, placeIn}
 use Rattle.measuring.specs.Measure.{tailLen, size, Gives, BodyTold, ChildTold, ArrayTold, FieldsTold, NullTold, OnlyNull, Goes, FixedCan, TextCan}
 use Rattle.measuring.proofs.Packs.{paired-bare, told-none, told-gives, told-as}
 use Rattle.measuring.proofs.Records.{cut-short, cut-at, item-short, item-null, item-other, item-body}
-use Rattle.measuring.proofs.Records.{number-short, number-high, number-good, text-short, text-cut, text-good}
+use Rattle.measuring.proofs.Records.{number-short, number-high, number-good, text-short, text-cut, text-bad, text-good}
 
 -- ---- bytes behind the slots
 
@@ -58,9 +58,9 @@ pub ro-none : (ts : Tys) → codec (ro ts) .wide ≡ none
 unfolding codec struct
 ro-none ts = refl
 
-text-size : (u : List ℕ) → size (text st) (leaf u) ≡ length u
+text-size : (t : Text) (u : List ℕ) → size (text t) (leaf u) ≡ length u
 unfolding size codec string
-text-size u = ap length (leaf-bytes u)
+text-size t u = ap length (leaf-bytes u)
 
 -- contents of whole words are not padded
 tail-whole : (t : Ty) (c : Cell) (n : ℕ) → codec t .wide ≡ none → n ≡ size t c → n % 8 ≡ 0 → n ≡ tailLen t c
@@ -122,51 +122,42 @@ module _ {w : ℕ} {l : List ℕ} {from : ℕ} (p : FixedCan w l from) where
 
 -- ---- texts
 
-module _ {w : ℕ} {l : List ℕ} {from : ℕ} (p : TextCan w l from) where
-  pub texts-short : length l - from < 6 → (t : Text) → script (text t) .get (drop (from + 2) l) ≡ none
+module _ (t : Text) {w : ℕ} {l : List ℕ} {from : ℕ} (p : TextCan w l from) where
+  pub texts-short : length l - from < 6 → script (text t) .get (drop (from + 2) l) ≡ none
   unfolding script
-  texts-short h t = text-short l (from + 2) (omega arith)
+  texts-short h = text-short t l (from + 2) (omega arith)
 
   module _ (h : 6 ≤ length l - from) {n : ℕ} (e : Reads l (from + 2) 4 n) where
     four : 4 ≤ length l - (from + 2)
     four = omega arith
 
-    pub texts-cut : length l - from - 6 < n → BodyTold (text st) l (from + 2) 0
+    pub texts-cut : length l - from - 6 < n → BodyTold (text t) l (from + 2) 0
     unfolding script
-    texts-cut g = record { told = told-none (text-cut l (from + 2) four n (e .is) (omega arith)) }
+    texts-cut g = record { told = told-none (text-cut t l (from + 2) four n (e .is) (omega arith)) }
 
-    module _ (g : n ≤ length l - from - 6) {m : ℕ} (q : m ≡ pad n) where
-      text-gives : Gives (script (text st) .get (drop (from + 2) l)) (tailLen (text st)) l (16 * (from + 2)) 0 (from + 6 + n) m
+    module _ (g : n ≤ length l - from - 6) where
+      pub texts-bad : ¬ Spells t (part l (from + 2 + 4) n) → BodyTold (text t) l (from + 2) 0
       unfolding script
-      text-gives =
-          let u = part l (from + 2 + 4) n in
-          let z : from + 2 + 4 + n ≡ from + 6 + n = omega arith in
-          let long : length u ≡ n = length-part l (from + 2 + 4) n (omega arith) in
-          record {
-            thing = leaf u;
-            reads = text-good l (from + 2) four n (e .is) (omega arith) ∙ ap (λ (j : ℕ). some (leaf u, drop j l)) z;
-            is = q ∙ sym (tail-varies (text st) (text-none st) (leaf u) ∙ ap (λ (j : ℕ). pad j) (text-size u ∙ long));
-            words = omega arith;
-            inside = omega arith;
-            small = omega arith;
-          }
+      texts-bad s = record { told = told-none (text-bad t l (from + 2) four n (e .is) (omega arith) s) }
 
-      pub texts-good : {r : ℕ} → Paired (from + 6 + n) m r → BodyTold (text st) l (from + 2) r
-      texts-good q = record { told = told-gives text-gives (omega arith) q }
+      module _ (s : Spells t (part l (from + 2 + 4) n)) {m : ℕ} (q : m ≡ pad n) where
+        text-gives : Gives (script (text t) .get (drop (from + 2) l)) (tailLen (text t)) l (16 * (from + 2)) 0 (from + 6 + n) m
+        unfolding script
+        text-gives =
+            let u = part l (from + 2 + 4) n in
+            let z : from + 2 + 4 + n ≡ from + 6 + n = omega arith in
+            let long : length u ≡ n = length-part l (from + 2 + 4) n (omega arith) in
+            record {
+              thing = leaf u;
+              reads = text-good t l (from + 2) four n (e .is) (omega arith) s ∙ ap (λ (j : ℕ). some (leaf u, drop j l)) z;
+              is = q ∙ sym (tail-varies (text t) (text-none t) (leaf u) ∙ ap (λ (j : ℕ). pad j) (text-size t u ∙ long));
+              words = omega arith;
+              inside = omega arith;
+              small = omega arith;
+            }
 
--- strings and binaries are alike
-pub text-any : (t : Text) {l : List ℕ} {at r : ℕ} → BodyTold (text st) l at r → BodyTold (text t) l at r
-unfolding script tailLen codec
-text-any t x = record {
-  told = told-as (λ e. e) (λ next n g. record {
-    thing = g .thing;
-    reads = g .reads;
-    is = g .is;
-    words = g .words;
-    inside = g .inside;
-    small = g .small;
-  }) (x .told);
-}
+        pub texts-good : {r : ℕ} → Paired (from + 6 + n) m r → BodyTold (text t) l (from + 2) r
+        texts-good q = record { told = told-gives text-gives (omega arith) q }
 
 -- ---- a child with its mark
 

@@ -1,5 +1,6 @@
 -- A leaf and a container measured by the entry of their type, in the words of the code. Assumes nothing.
 use mathlib.Core.Path.{_≡_, sym, ap, _∙_, subst}
+use mathlib.Core.Bool.{Bool, true, false, not}
 use mathlib.Core.List.{List}
 use Prim.Native.Nat.{ℕ, _+_, _*_, _-_, _^_, _≤_, _<_}
 use native.Mathlib.Decide.{ℕ-discrete}
@@ -7,22 +8,27 @@ use native.Mathlib.Omega.{arith}
 use lib.ListN.{length, drop, getD}
 use mir.Syntax.{w64}
 use mir.Val.{Fits}
-use Rattle.words.specs.Bytes.{Bytes, num, pad}
+use borrow.Author.Tests.{not-true, not-false}
+use Rattle.words.specs.Bytes.{Bytes, num, pad, part}
+use Rattle.words.specs.Tests.{isYes}
 use Rattle.words.specs.Reads.{Reads}
 use Rattle.words.specs.Pairs.{lowIn, highIn, Paired}
+use Rattle.words.proofs.Tests.{is-yes, is-no}
 use Rattle.schema.specs.Marks.{markAt}
-use Rattle.schema.specs.Types.{Ty, fix, st, text, fixedAt, textAt, place, mark}
+use Rattle.schema.specs.Types.{Ty, fix, text, fixedAt, textAt, place, mark}
 use Rattle.schema.specs.Walk.{Typed, nextAt, ListAt, MapAt, StructAt}
 use Rattle.schema.proofs.Typing.{typed-deep}
 use Rattle.schema.proofs.Places.{fixed-of, text-of}
+use Rattle.layout.specs.Layout.{Spells, spells?}
 use Rattle.layout.specs.Listing.{script}
 use Rattle.table.specs.Words.{Lined, placeIn, markIn, widthIn, countIn, afterIn}
 use Rattle.table.specs.Tables.{InTable, EntryAt, schemaOf, posOf, typeOf, typesOf}
+use Rattle.spelling.specs.Spelling.{Spelling}
 use Rattle.table.proofs.Places.{place-room, table-short, entry-place, entry-list, entry-map, entry-struct}
 use Rattle.measuring.specs.Measure.{Gives, tailLen, BodyTold, ChildTold, LeafTold, ArrayTold, FieldsTold, NullTold, OnlyNull}
 use Rattle.measuring.specs.Measure.{Goes, FixedCan, TextCan, ChildCan, ListsCan, ArrayCan, FieldsCan}
 use Rattle.measuring.proofs.Packs.{told-gives, gives-low, gives-high}
-use Rattle.measuring.proofs.Bodies.{text-any, fixed-short, fixed-free, bool-high, bool-good, texts-short, texts-cut, texts-good}
+use Rattle.measuring.proofs.Bodies.{fixed-short, fixed-free, bool-high, bool-good, texts-short, texts-cut, texts-bad, texts-good}
 use Rattle.measuring.proofs.Bodies.{child-only, child-unmarked, child-body, struct-told}
 use Rattle.measuring.proofs.Bodies.{list-short, map-short, list-told, map-keys, map-values, map-gives}
 
@@ -70,7 +76,7 @@ module _ {w : ℕ} {l : List ℕ} {from : ℕ} (p : FixedCan w l from) {v : ℕ}
 module _ {w : ℕ} {l : List ℕ} {from : ℕ} (p : TextCan w l from) where
   pub text-only : length l - from < 6 → {r : ℕ} → OnlyNull l from r → LeafTold (placeIn w) l from r
   text-only h z = record {
-    any = λ t k. child-only t (p .goes) z (rw (text-of t (placeIn w) k (p .low) (p .high)) (texts-short p h (textAt (placeIn w))));
+    any = λ t k. child-only t (p .goes) z (rw (text-of t (placeIn w) k (p .low) (p .high)) (texts-short (textAt (placeIn w)) p h));
   }
 
   module _ (h : 6 ≤ length l - from) {m : ℕ} (read : Reads l from 2 m) {x : ℕ} (own : x ≡ markIn w) where
@@ -79,16 +85,29 @@ module _ {w : ℕ} {l : List ℕ} {from : ℕ} (p : TextCan w l from) where
 
     -- n is its length
     module _ (e : m ≡ x) (hb : Bytes l) {n : ℕ} (size : Reads l (from + 2) 4 n) where
-      marked-text : {r : ℕ} → BodyTold (text st) l (from + 2) r → LeafTold (placeIn w) l from r
-      marked-text b =
-          leaf-marked (p .lined) (p .goes) (omega arith) read own e hb (λ t q. text-of t (placeIn w) q (p .low) (p .high))
-          (text-any (textAt (placeIn w)) b)
+      marked-text : {r : ℕ} → BodyTold (text (textAt (placeIn w))) l (from + 2) r → LeafTold (placeIn w) l from r
+      marked-text = leaf-marked (p .lined) (p .goes) (omega arith) read own e hb (λ t q. text-of t (placeIn w) q (p .low) (p .high))
 
       pub text-refused : length l - from - 6 < n → LeafTold (placeIn w) l from 0
-      text-refused g = marked-text (texts-cut p h size g)
+      text-refused g = marked-text (texts-cut _ p h size g)
 
-      pub text-told : n ≤ length l - from - 6 → {y : ℕ} → y ≡ pad n → {r : ℕ} → Paired (from + 6 + n) y r → LeafTold (placeIn w) l from r
-      text-told g ey q = marked-text (texts-good p h size g ey q)
+      -- b tells whether its bytes are what its kind k asks
+      module _ (g : n ≤ length l - from - 6) {k : ℕ} (ek : k ≡ placeIn w) {b : Bool}
+          (said : Spelling (textAt k) (part l (from + 6) (from + 6 + n - (from + 6))) b) where
+        abbrev test : Dec (Spells (textAt (placeIn w)) (part l (from + 2 + 4) n))
+        test = spells? (textAt (placeIn w)) (part l (from + 2 + 4) n)
+
+        says : isYes test ≡ b
+        says =
+            let y : from + 6 + n - (from + 6) ≡ n = omega arith in
+            let z : from + 6 ≡ from + 2 + 4 = omega arith in
+            sym (rw (ek, y, z) at (said .is))
+
+        pub text-unspelled : not b ≡ true → LeafTold (placeIn w) l from 0
+        text-unspelled q = marked-text (texts-bad (textAt (placeIn w)) p h size g (is-no test (says ∙ not-true b q)))
+
+        pub text-told : not b ≡ false → {y : ℕ} → y ≡ pad n → {r : ℕ} → Paired (from + 6 + n) y r → LeafTold (placeIn w) l from r
+        text-told q ey u = marked-text (texts-good (textAt (placeIn w)) p h size g (is-yes test (says ∙ not-false b q)) ey u)
 
 -- ---- containers
 

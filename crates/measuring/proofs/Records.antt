@@ -9,8 +9,10 @@ use native.Mathlib.Decide.{decLe, decLt, ℕ-discrete}
 use lib.ListN.{length, drop, length-drop}
 use lib.Seq.{drop-drop}
 use Rattle.words.specs.Bytes.{num, part, zeros}
+use Rattle.schema.specs.Types.{Text}
 use Rattle.layout.specs.Reader.{assert, cut}
 use Rattle.layout.specs.Cells.{null, leaf}
+use Rattle.layout.specs.Layout.{Spells, spells?}
 use Rattle.layout.specs.Listing.{nu, Script, numberScript, textScript, marked, item}
 use Rattle.layout.proofs.Reader.{assert-yes}
 use Rattle.layout.proofs.Items.{null-yes, null-no}
@@ -69,16 +71,21 @@ module _ (w m : ℕ) (l : List ℕ) (at : ℕ) where
     unfolding numberScript
     number-good g = rw (cut-at w l at h, assert-yes (decLt (num (part l at w)) m) g)
 
-module _ (l : List ℕ) (at : ℕ) where
-  pub text-short : length l - at < 4 → textScript .get (drop at l) ≡ none
+module _ (t : Text) (l : List ℕ) (at : ℕ) where
+  pub text-short : length l - at < 4 → textScript t .get (drop at l) ≡ none
   unfolding textScript
   text-short h = rw (cut-short 4 l at h)
 
   module _ (h : 4 ≤ length l - at) (n : ℕ) (e : n ≡ num (part l at 4)) where
-    pub text-cut : length l - at - 4 < n → textScript .get (drop at l) ≡ none
+    pub text-cut : length l - at - 4 < n → textScript t .get (drop at l) ≡ none
     unfolding textScript
     text-cut g = rw (cut-at 4 l at h, ← e, cut-short n l (at + 4) (omega arith))
 
-    pub text-good : n ≤ length l - at - 4 → textScript .get (drop at l) ≡ some (leaf (part l (at + 4) n), drop (at + 4 + n) l)
-    unfolding textScript
-    text-good g = rw (cut-at 4 l at h, ← e, cut-at n l (at + 4) (omega arith))
+    module _ (g : n ≤ length l - at - 4) where
+      pub text-bad : ¬ Spells t (part l (at + 4) n) → textScript t .get (drop at l) ≡ none
+      unfolding textScript
+      text-bad s = rw (cut-at 4 l at h, ← e, cut-at n l (at + 4) (omega arith), assert-no (spells? t (part l (at + 4) n)) s)
+
+      pub text-good : Spells t (part l (at + 4) n) → textScript t .get (drop at l) ≡ some (leaf (part l (at + 4) n), drop (at + 4 + n) l)
+      unfolding textScript
+      text-good s = rw (cut-at 4 l at h, ← e, cut-at n l (at + 4) (omega arith), assert-yes (spells? t (part l (at + 4) n)) s)

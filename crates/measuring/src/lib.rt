@@ -79,7 +79,7 @@ fn measure_fixed(w: u64, l: &[u8], from: usize) -> u64
     pairs::pair(from + v, 0)
 }
 
-// A string or binary with its mark.
+// A string or binary with its mark: one that is no text is refused.
 fn measure_text(w: u64, l: &[u8], from: usize) -> u64
     requires { ⌜ TextCan w (now l) from ⌝ }
     ensures { λ r. ⌜ LeafTold (placeIn w) (now (l .entry)) from r ⌝ }
@@ -95,7 +95,11 @@ fn measure_text(w: u64, l: &[u8], from: usize) -> u64
     if l.len() - from - 6 < n {
         return 0;
     }
-    pairs::pair(from + 6 + n, words::sizes::pad_size(n))
+    let end = from + 6 + n;
+    if !spelling::is_spelled(l, table::place(w), from + 6, end) {
+        return 0;
+    }
+    pairs::pair(end, words::sizes::pad_size(n))
 }
 
 // A container with its mark: its type's entry stands at place c.

@@ -10,12 +10,12 @@ use Rattle.words.specs.Bytes.{num, part}
 use Rattle.schema.specs.Types.{Fixed, width, Text, Ty, fix, text, li, ma, ro, Tys}
 use Rattle.layout.specs.Reader.{_>>=_}
 use Rattle.layout.specs.Cells.{Cell, leaf, node}
-use Rattle.layout.specs.Layout.{limit}
+use Rattle.layout.specs.Layout.{Spells, spells?, limit}
 use Rattle.layout.specs.Listing.{nu, Script, item, runGet, structScript, listScript, mapScript, element, script, scripts}
 use Rattle.measuring.specs.Measure.{size}
 use Rattle.putting.specs.Put.{Ready}
 use Rattle.measuring.proofs.Records.{cut-short, cut-at, item-short, item-other, item-body}
-use Rattle.measuring.proofs.Records.{number-short, number-high, number-good, text-short, text-cut, text-good}
+use Rattle.measuring.proofs.Records.{number-short, number-high, number-good, text-short, text-cut, text-bad, text-good}
 use Rattle.measuring.proofs.Bodies.{map-size}
 use Rattle.measuring.proofs.Totals.{join, run-more, run-stop}
 
@@ -93,16 +93,21 @@ module _ (f : Fixed) (l : List ℕ) (at : ℕ) (c : Cell) (r : List ℕ) (e : sc
 module _ (t : Text) (l : List ℕ) (at : ℕ) (c : Cell) (r : List ℕ) (e : script (text t) .get (drop at l) ≡ some (c, r)) where
   pub given-four : 4 ≤ length l - at
   unfolding script
-  given-four = by-contra _ _ (λ h. not-both (text-short l at h) e)
+  given-four = by-contra _ _ (λ h. not-both (text-short t l at h) e)
 
   module _ (n : ℕ) (en : n ≡ num (part l at 4)) where
     pub given-long : n ≤ length l - at - 4
     unfolding script
-    given-long = by-contra _ _ (λ h. not-both (text-cut l at given-four n en h) e)
+    given-long = by-contra _ _ (λ h. not-both (text-cut t l at given-four n en h) e)
+
+    spelled : Dec (Spells t (part l (at + 4) n)) → Spells t (part l (at + 4) n)
+    unfolding script
+    spelled (yes s) = s
+    spelled (no f) = absurd (not-both (text-bad t l at given-four n en given-long f) e)
 
     pub given-text : script (text t) .get (drop at l) ≡ some (leaf (part l (at + 4) n), drop (at + 4 + n) l)
     unfolding script
-    given-text = text-good l at given-four n en given-long
+    given-text = text-good t l at given-four n en given-long (spelled (spells? t (part l (at + 4) n)))
 
 -- ---- containers
 

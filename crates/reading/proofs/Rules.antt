@@ -5,7 +5,7 @@ use mathlib.Core.List.{List}
 use Prim.Native.Nat.{ℕ, zero, suc, _+_, _*_, _-_, _%_, _^_, _≤_, _<_}
 use native.Mathlib.Nat.{le-mul-of-pos-right, mul-le-mul-left}
 use native.Mathlib.Omega.{arith}
-use native.Mathlib.Decide.{decLe, decLt, ℕ-discrete}
+use native.Mathlib.Decide.{decLe, ℕ-discrete}
 use lib.Dec.{eqb, leb, ltb}
 use lib.ListN.{length, take, drop, getD}
 use lib.Seq.{take-take}
@@ -13,18 +13,20 @@ use mir.Syntax.{w64}
 use mir.Val.{Fits}
 use borrow.Author.Tests.{le-leb, lt-leb, eq-eqb, ne-eqb, lt-ltb, le-ltb, leb-true}
 use Rattle.words.specs.Bytes.{Bytes, num, part, bitmap, pad}
+use Rattle.words.specs.Tests.{isYes}
 use Rattle.words.proofs.Parts.{length-part}
 use Rattle.words.proofs.NumLaws.{part-lt, num-one}
 use Rattle.schema.specs.Marks.{types, line, elementWidth}
 use Rattle.schema.specs.Kinds.{pick}
-use Rattle.schema.specs.Types.{bo, i1, i2, i4, i8, f4, f8, st, bi, Ty, fix, text, li, ma, ro, width, fixedAt, fixedPlace, textPlace, place}
+use Rattle.schema.specs.Types.{bo, i1, i2, i4, i8, f4, f8, st, bi, Ty, fix, text, li, ma, ro, width, fixedAt, textAt, fixedPlace, textPlace, place}
 use Rattle.schema.proofs.Table.{width-pos, line-width}
 use Rattle.schema.proofs.Typing.{typed-count}
 use Rattle.schema.proofs.Places.{typed-place}
-use Rattle.layout.specs.Layout.{slotOf, front, limit, codec}
+use Rattle.layout.specs.Layout.{spells?, slotOf, front, limit, codec}
 use Rattle.layout.specs.Refusals.{Refusal, brokenAt}
 use Rattle.layout.specs.Walk.{Seat, Seen, bad, must, own}
 use Rattle.table.specs.Words.{placeIn, countIn}
+use Rattle.spelling.specs.Spelling.{Spelling}
 use Rattle.table.specs.Tables as S
 use Rattle.table.specs.Tables.{schemaOf, posOf, EntryAt}
 use Rattle.reading.specs.Children.{seatAs, wideOf}
@@ -51,6 +53,11 @@ unfolding must
 must-eq a b (yes p) r s = rw (eq-eqb a b p)
 must-eq a b (no n) r s = rw (ne-eqb a b n)
 
+must-yes : {P : Type 0} (q : Dec P) (r : Refusal) (s : Seen) → must q r s ≡ pick (isYes q) s (bad r)
+unfolding must isYes
+must-yes (yes p) r s = refl
+must-yes (no n) r s = refl
+
 pick-pick : (t u : Bool) (s z : Seen) → pick t (pick u s z) z ≡ pick (pick t u false) s z
 pick-pick true u s z = refl
 pick-pick false u s z = refl
@@ -63,7 +70,7 @@ pick-two false u x o p = refl
 pub own-is : (t : Ty) (s : Seat) (o : ℕ) (b : List ℕ) (x : Seen) → own t s o b x ≡ pick (holdsOf t b) x (bad (brokenAt (brokenIn t s o b)))
 unfolding own holdsOf brokenIn listHolds mapHolds structHolds
 own-is (fix f) s o b x = must-lt (num b) (limit f) _ (brokenAt o) x
-own-is (text f) s o b x = refl
+own-is (text t) s o b x = must-yes (spells? t b) (brokenAt (s .slot)) x
 own-is (li t) s o b x =
     ap (must (decLe 8 (length b)) (brokenAt (s .slot))) (must-le _ _ _ (brokenAt o) x) ∙ must-le 8 (length b) _ (brokenAt (s .slot)) _
     ∙ pick-two (leb 8 (length b)) _ x o (s .slot)
@@ -255,9 +262,11 @@ module _ {t row : List ℕ} {p : Place} (R : Rests t row p) where
       → b ≡ holdsOf (placeTy t p) (bytesOf row p)
   leaf-as h u = rw (ty-fixed t (p .opened) h) u
 
-  pub text-as : 7 ≤ p .opened .kind → p .opened .kind < 9 → true ≡ holdsOf (placeTy t p) (bytesOf row p)
+  pub text-as : 7 ≤ p .opened .kind → p .opened .kind < 9 → {b : Bool}
+      → Spelling (textAt (p .opened .kind)) (part row (p .start) (p .start + p .len - p .start)) b
+      → b ≡ holdsOf (placeTy t p) (bytesOf row p)
   unfolding holdsOf
-  text-as g h = rw (ty-text t (p .opened) g h)
+  text-as g h u = let e : p .start + p .len - p .start ≡ p .len = omega arith in rw (ty-text t (p .opened) g h) (rw e at (u .is))
 
   pub list-as : p .opened .kind ≡ 9 → {w : ℕ} → w ≡ slotWidth (wideOf (heldTy t (p .opened .first)))
       → {b : Bool} → b ≡ listHolds w (bytesOf row p) → b ≡ holdsOf (placeTy t p) (bytesOf row p)
@@ -293,13 +302,13 @@ pub size-enough : (size slot header : ℕ) → 8 ≤ size → header ≡ bySize 
 size-enough size slot header h = rw (le-ltb size 8 h)
 
 module _ (p : Place) where
-  pub leaf-breaks : p .opened .kind < 9 → Breaks p (p .start)
+  pub leaf-breaks : p .opened .kind < 7 → Breaks p (p .start)
   unfolding brokenIn
-  leaf-breaks h t row R = go (decLt (p .opened .kind) 7)
-    where
-      go : Dec (p .opened .kind < 7) → p .start ≡ brokenIn (placeTy t p) (seatAs (p .seat)) (p .start) (bytesOf row p)
-      go (yes g) = rw (ty-fixed t (p .opened) g)
-      go (no g) = rw (ty-text t (p .opened) (omega arith) h)
+  leaf-breaks h t row R = rw (ty-fixed t (p .opened) h)
+
+  pub text-breaks : 7 ≤ p .opened .kind → p .opened .kind < 9 → Breaks p (p .seat .slot)
+  unfolding brokenIn
+  text-breaks g h t row R = rw (ty-text t (p .opened) g h)
 
   pub struct-breaks : p .opened .kind ≡ 11 → Breaks p (p .seat .slot)
   unfolding brokenIn

@@ -7,10 +7,11 @@ use Prim.Native.Nat.{ℕ, zero, suc, _+_, _%_, _≤_, _<_}
 use lib.Dec.{eqb, leb, ltb}
 use lib.ListN.{length, take}
 use Rattle.words.specs.Bytes.{num, part}
+use Rattle.words.specs.Tests.{isYes}
 use Rattle.schema.specs.Marks.{line, STRING, LIST}
 use Rattle.schema.specs.Kinds.{pick}
 use Rattle.schema.specs.Types.{Ty, fix, text, li, ma, ro, count}
-use Rattle.layout.specs.Layout.{slotOf, front, limit, codec}
+use Rattle.layout.specs.Layout.{spells?, slotOf, front, limit, codec}
 use Rattle.layout.specs.Refusals.{numbered, brokenAt}
 use Rattle.layout.specs.Walk as W
 use Rattle.layout.specs.Walk.{stop, toNull, into, stepIn}
@@ -43,15 +44,16 @@ structHolds n size = leb (front 0 8 n) size
 
 unfoldable pub holdsOf : Ty → List ℕ → Bool
 holdsOf (fix f) b = ltb (num b) (limit f)
-holdsOf (text t) b = true
+holdsOf (text t) b = isYes (spells? t b)
 holdsOf (li t) b = listHolds (slotOf (codec t .wide)) b
 holdsOf (ma k v) b = mapHolds b
 holdsOf (ro ts) b = structHolds (count ts) (length b)
 
--- where a type is broken whose own rules do not hold, on the bytes b that start at the row's byte o, in the seat s
+-- where a type is broken whose own rules do not hold, on the bytes b that start at the row's byte o, in the seat s: a string that is no text
+-- at its slot
 unfoldable pub brokenIn : Ty → W.Seat → ℕ → List ℕ → ℕ
 brokenIn (fix f) s o b = o
-brokenIn (text t) s o b = o
+brokenIn (text t) s o b = s .slot
 brokenIn (li t) s o b = pick (leb 8 (length b)) o (s .slot)
 brokenIn (ma k v) s o b = pick (leb 8 (length b)) o (s .slot)
 brokenIn (ro ts) s o b = s .slot

@@ -93,7 +93,7 @@ pub fn holds(t: &[u64], row: &[u8], p: Place) -> bool
         return leaf_holds(k, row, p.start, p.len);
     }
     if k < table::LIST {
-        return true;
+        return spelling::is_spelled(row, k, p.start, p.start + p.len);
     }
     if k == table::LIST {
         return list_holds(row, p.start, p.len, element_width(t, x.first));
@@ -104,17 +104,21 @@ pub fn holds(t: &[u64], row: &[u8], p: Place) -> bool
     struct_holds(table::count(x.entry), p.len)
 }
 
-// Where a place is broken whose own rules do not hold: a leaf and a wrong header at its first byte, a wrong size at its slot.
+// Where a place is broken whose own rules do not hold: a leaf of a fixed width and a wrong header at its first byte, a string that is no
+// text and a wrong size at its slot.
 pub fn broken_at(p: Place) -> usize
     ensures { λ r. ⌜ Breaks p r ⌝ }
 {
     let x = p.opened;
-    let k = x.kind;
+    let kind = x.kind;
     let seat = p.seat;
-    if k < table::LIST {
+    if kind < table::STRING {
         return p.start;
     }
-    if k == table::STRUCT {
+    if kind < table::LIST {
+        return seat.slot;
+    }
+    if kind == table::STRUCT {
         return seat.slot;
     }
     by_size(p.len, seat.slot, p.start)

@@ -11,7 +11,7 @@ use Rattle.words.specs.Bytes.{num, part, bitmap}
 use Rattle.schema.specs.Types.{Ty, fix, text, li, ma, ro, count, field}
 use Rattle.layout.specs.Faults.{slot, byte, Read, fault, got, inRow, faultIn}
 use Rattle.layout.specs.Refusals.{Refusal, numbered, brokenAt}
-use Rattle.layout.specs.Layout.{slotOf, front, limit, codec, faultAt}
+use Rattle.layout.specs.Layout.{spells?, slotOf, front, limit, codec, faultAt}
 use Rattle.layout.specs.Walk.{Seat, seatAt, Seen, bad, nullAt, seen, Step, stop, toNull, into, must, mustStep, own, bySlot, byFlag, seatOf, child, stepIn}
 use Rattle.layout.specs.Walk.{goOn, walk}
 use Rattle.layout.proofs.Near.{Near, faulty, codec-near}
@@ -65,7 +65,7 @@ module _ (N : ℕ) where
   own-close : (t : Ty) (z : Seat) (o : ℕ) (b : List ℕ) (v : Seen) → z .slot ≤ N → o + length b ≤ N → (Holds t b → Close N v) → Close N (own t z o b v)
   unfolding own
   own-close (fix f) z o b v s h k = close-must N (decLt (num b) (limit f)) (brokenAt o) v (omega arith) λ _. k tt
-  own-close (text t) z o b v s h k = k tt
+  own-close (text t) z o b v s h k = close-must N (spells? t b) (brokenAt (z .slot)) v s λ _. k tt
   own-close (li t) z o b v s h k =
       close-must N (decLe 8 (length b)) (brokenAt (z .slot)) _ s λ _. close-must N (decLe (front 8 (slotOf (codec t .wide)) (num (take 8 b))) (length b))
       (brokenAt o) v (omega arith) k

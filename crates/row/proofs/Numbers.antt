@@ -14,7 +14,7 @@ use Rattle.schema.specs.Reading.{judged}
 use Rattle.schema.specs.Walk.{fieldsOf}
 use Rattle.schema.specs.declared.Judged.{Judged}
 use Rattle.schema.specs.declared.Judged.the-variants.{Accepted, Refused}
-use Rattle.layout.specs.Layout.{slotOf, front, limit, codec}
+use Rattle.layout.specs.Layout.{spells?, slotOf, front, limit, codec}
 use Rattle.layout.specs.Refusals.{Refusal, numbered, brokenAt}
 use Rattle.layout.specs.Walk.{Seat, Seen, bad, nullAt, seen, Step, stop, toNull, into, must, mustStep, own, bySlot, byFlag, seatOf, child, stepIn, goOn}
 use Rattle.layout.specs.Walk.{rootSeat, walk}
@@ -62,7 +62,7 @@ fair-step (no _) n v q f = FairStep.refuses q
 own-fair : (t : Ty) (z : Seat) (o : ℕ) (b : List ℕ) (v : Seen) → Fair v → Fair (own t z o b v)
 unfolding own
 own-fair (fix g) z o b v f = fair-must (decLt (num b) (limit g)) _ v (seven o) f
-own-fair (text k) z o b v f = f
+own-fair (text k) z o b v f = fair-must (spells? k b) _ v (seven (z .slot)) f
 own-fair (li t) z o b v f =
     fair-must (decLe 8 (length b)) _ _ (seven (z .slot)) (fair-must (decLe (front 8 (slotOf (codec t .wide)) (num (take 8 b))) (length b)) _ v (seven o) f)
 own-fair (ma k w) z o b v f =

@@ -1,4 +1,5 @@
--- The table to prove: cases A to N of document 01, and those of any order, at the entries, one statement. Assumes nothing: these are definitions.
+-- The table to prove: cases A to N of document 01, those of any order, and those of bad text, at the entries, one statement.
+-- Assumes nothing: these are definitions.
 use mathlib.Core.Path.{_≡_}
 use mathlib.Core.List.{List, [], _∷_, _++_}
 use Prim.Native.Nat.{ℕ, zero, suc}
@@ -8,7 +9,7 @@ use Rattle.layout.specs.Reading as R
 use Rattle.layout.specs.Setting as S
 use Rattle.layout.specs.Refusals.{numbered, brokenAt}
 use Rattle.layout.specs.Setting.{refuses, becomes}
-use Rattle.layout.specs.Entries.{done, refused, takes, checkOf, writeOf, writtenOf, listOf, listedOf, readOf, setOf}
+use Rattle.layout.specs.Entries.{done, refused, takes, refusedWith, checkOf, writeOf, writtenOf, listOf, listedOf, readOf, setOf}
 
 -- ---- marks: `ro` i4 ..
 
@@ -23,6 +24,9 @@ li b = 0x6c ∷ 0x69 ∷ b
 
 abbrev st : List ℕ → List ℕ
 st b = 0x73 ∷ 0x74 ∷ b
+
+abbrev bi : List ℕ → List ℕ
+bi b = 0x62 ∷ 0x69 ∷ b
 
 abbrev bo : List ℕ
 bo = 0x62 ∷ 0x6f ∷ []
@@ -66,6 +70,9 @@ numbers = ro (2 ∷ (i4 [] ++ i8 []))
 abbrev string : List ℕ
 string = ro (1 ∷ st [])
 
+abbrev binary : List ℕ
+binary = ro (1 ∷ bi [])
+
 abbrev strings : List ℕ
 strings = ro (2 ∷ (st [] ++ st []))
 
@@ -95,6 +102,10 @@ PWR = 0x50 ∷ 0x57 ∷ 0x52 ∷ []
 abbrev TPH : List ℕ
 TPH = 0x54 ∷ 0x50 ∷ 0x48 ∷ []
 
+-- a letter, and a character of three bytes that is cut
+abbrev CUT : List ℕ
+CUT = 0x53 ∷ 0xe2 ∷ 0x89 ∷ []
+
 -- -2 in four bytes
 abbrev minus2 : List ℕ
 minus2 = 0xfe ∷ 0xff ∷ 0xff ∷ 0xff ∷ []
@@ -107,6 +118,10 @@ B = in8 2 ++ (minus2 ++ zeros 4) ++ zeros 8
 
 abbrev C : List ℕ
 C = zeros 8 ++ slot 16 3 ++ (STK ++ zeros 5)
+
+-- C with bad text
+abbrev bad : List ℕ
+bad = zeros 8 ++ slot 16 3 ++ (CUT ++ zeros 5)
 
 abbrev D : List ℕ
 D = zeros 8 ++ slot 16 0
@@ -193,3 +208,8 @@ pub record Table : Type 0 where
       × (checkOf strings (two (slot 24 16) (slot 32 0) (zeros 16)) ≡ refused (brokenAt 16))
       × (checkOf strings (two (slot 16 0) (slot 24 3) (STK ++ zeros 5)) ≡ refused (brokenAt 8))
       × (checkOf strings (two (slot 40 0) (slot 24 3) (STK ++ zeros 5)) ≡ refused (brokenAt 8))
+  -- bad text: told at the slot, before its padding; in a listing 2, in a setting 8, whatever the length and nullness; in a binary sound
+  pub texts : (checkOf string bad ≡ refused (brokenAt 8)) × (checkOf string (set bad 20 1) ≡ refused (brokenAt 8))
+      × (readOf string bad (0 ∷ []) ≡ R.refused (brokenAt 8)) × (writeOf string (ro (st (in4 3 ++ CUT))) 24 ≡ refusedWith (numbered 2) 0)
+      × (setOf string C (0 ∷ []) (S.bytes CUT) ≡ refuses (numbered 8)) × (setOf string D (0 ∷ []) (S.bytes CUT) ≡ refuses (numbered 8))
+      × (setOf string (in8 1 ++ zeros 8) (0 ∷ []) (S.bytes CUT) ≡ refuses (numbered 8)) × Case binary (ro (bi (in4 3 ++ CUT))) bad

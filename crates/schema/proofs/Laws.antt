@@ -126,10 +126,3 @@ module _ (s : List ℕ) (at d : ℕ) where
       (λ X r. afters (parseAll (parseType d) (n - 1) r) nones (λ Xs q. somes (X then Xs) q))
   all-more zero k = absurd (omega arith)
   all-more (suc n) k = let f : suc n - 1 ≡ n = omega arith in rw f (unfold parseAll in refl)
-
--- a byte that is not 0 lies within the list
-pub byte-room : (s : List ℕ) (i : ℕ) → 1 ≤ getD s i 0 → i < length s
-byte-room [] zero h = absurd (omega arith)
-byte-room [] (suc i) h = absurd (omega arith)
-byte-room (x ∷ s) zero h = omega arith
-byte-room (x ∷ s) (suc i) h = omega (arith, byte-room s i h)

@@ -36,7 +36,7 @@ use Rattle.reading.specs.declared.Found.the-variants.{NoPlace, NullBefore, Brok
 use Rattle.reading.proofs.Opening.{ty-fixed, ty-text, leaf-place}
 use Rattle.reading.proofs.Moving.{Holder, held-kind}
 use Rattle.setting.specs.Writes.{SetAs, decided, leafOutcome, fixedOutcome, textOutcome, noTextOutcome}
-use Rattle.setting.specs.Writes.{Sits, FixedSeat, NullThere, PlaceThere, Checked}
+use Rattle.setting.specs.Writes.{FixedSeat, NullThere, PlaceThere, Checked}
 
 -- ---- a place's outcome is its leaf's
 
@@ -53,11 +53,11 @@ module _ (x : Setting) (row : List ℕ) where
   unfolding leafOutcome fixedOutcome keeps write
   seen-fixed f s o b = rw or-none
 
-  null-text : (t : Text) (s : W.Seat) → leafOutcome (text t) x (nullAt s) row ≡ noTextOutcome x s row
+  null-text : (t : Text) (s : W.Seat) → leafOutcome (text t) x (nullAt s) row ≡ noTextOutcome t x s row
   unfolding leafOutcome noTextOutcome suits keeps keepsText answerOf write
   null-text t s = refl
 
-  seen-text : (t : Text) (s : W.Seat) (o : ℕ) (b : List ℕ) → leafOutcome (text t) x (seen s o b) row ≡ textOutcome x o (length b) row
+  seen-text : (t : Text) (s : W.Seat) (o : ℕ) (b : List ℕ) → leafOutcome (text t) x (seen s o b) row ≡ textOutcome t x o (length b) row
   unfolding leafOutcome textOutcome suits keeps keepsText answerOf write
   seen-text t s o b = refl
 
@@ -83,32 +83,28 @@ module _ {row : List ℕ} {x : TypeParts} {z : Seat} (N : NullThere row x z) whe
     seat = N .seated;
   }
 
-  pub null-sits : Sits row z
-  null-sits = record { flag = N .seated .flag; room = N .seated .room }
+  module _ (v : Setting) where
+    abbrev to-null : Ty → S.Outcome
+    to-null T = leafOutcome T v (nullAt (seatAs z)) row
 
-  pub null-refused : 9 ≤ x .kind → (g : Given) (t u : List ℕ)
-      → SetAs (leafOutcome (openTy t x) (givenMeans g u) (nullAt (seatAs z)) row) row row (O.Refused F.Unfit)
-  null-refused l g t u = holder-refused (givenMeans g u) row (openTy t x) (nullAt (seatAs z)) (held-kind (N .known) t l)
+    pub null-refused : 9 ≤ x .kind → (t : List ℕ) → SetAs (to-null (openTy t x)) row row (O.Refused F.Unfit)
+    null-refused l t = holder-refused v row (openTy t x) (nullAt (seatAs z)) (held-kind (N .known) t l)
 
-  module _ (g : Given) {row′ : List ℕ} {r : Outcome} where
-    pub null-fixed-set : x .kind < 7
-        → ((u : List ℕ) → SetAs (fixedOutcome (fixedAt (placeIn (x .entry))) (givenMeans g u) (seatAs z) row) row row′ r)
-        → (t u : List ℕ) → SetAs (leafOutcome (openTy t x) (givenMeans g u) (nullAt (seatAs z)) row) row row′ r
-    null-fixed-set l h t u =
-        let f = fixedAt (placeIn (x .entry)) in
-        let e : leafOutcome (openTy t x) (givenMeans g u) (nullAt (seatAs z)) row ≡ fixedOutcome f (givenMeans g u) (seatAs z) row =
-        ap (λ (T : Ty). leafOutcome T (givenMeans g u) (nullAt (seatAs z)) row) (fixed-type t x (N .known) l)
-        ∙ null-fixed (givenMeans g u) row f (seatAs z) in
-        subst (λ (o : S.Outcome). SetAs o row row′ r) (sym e) (h u)
+    module _ {row′ : List ℕ} {r : Outcome} where
+      pub null-fixed-set : x .kind < 7 → SetAs (fixedOutcome (fixedAt (placeIn (x .entry))) v (seatAs z) row) row row′ r
+          → (t : List ℕ) → SetAs (to-null (openTy t x)) row row′ r
+      null-fixed-set l h t =
+          let f = fixedAt (placeIn (x .entry)) in
+          let e : to-null (openTy t x) ≡ fixedOutcome f v (seatAs z) row =
+          ap to-null (fixed-type t x (N .known) l) ∙ null-fixed v row f (seatAs z) in
+          subst (λ (o : S.Outcome). SetAs o row row′ r) (sym e) h
 
-    pub null-text-set : 7 ≤ x .kind → x .kind < 9
-        → ((u : List ℕ) → SetAs (noTextOutcome (givenMeans g u) (seatAs z) row) row row′ r)
-        → (t u : List ℕ) → SetAs (leafOutcome (openTy t x) (givenMeans g u) (nullAt (seatAs z)) row) row row′ r
-    null-text-set l m h t u =
-        let e : leafOutcome (openTy t x) (givenMeans g u) (nullAt (seatAs z)) row ≡ noTextOutcome (givenMeans g u) (seatAs z) row =
-        ap (λ (T : Ty). leafOutcome T (givenMeans g u) (nullAt (seatAs z)) row) (ty-text t x l m)
-        ∙ null-text (givenMeans g u) row (textAt (x .kind)) (seatAs z) in
-        subst (λ (o : S.Outcome). SetAs o row row′ r) (sym e) (h u)
+      pub null-text-set : 7 ≤ x .kind → x .kind < 9 → SetAs (noTextOutcome (textAt (x .kind)) v (seatAs z) row) row row′ r
+          → (t : List ℕ) → SetAs (to-null (openTy t x)) row row′ r
+      null-text-set l m h t =
+          let e : to-null (openTy t x) ≡ noTextOutcome (textAt (x .kind)) v (seatAs z) row =
+          ap to-null (ty-text t x l m) ∙ null-text v row (textAt (x .kind)) (seatAs z) in
+          subst (λ (o : S.Outcome). SetAs o row row′ r) (sym e) h
 
 -- ---- a place
 
@@ -137,13 +133,13 @@ module _ {row : List ℕ} {p : Place} (P : PlaceThere row p) where
           ∙ seen-fixed x row f (seatAs (p .seat)) (p .start) (bytesOf row p) in
           subst (λ (o : S.Outcome). SetAs o row row′ r) (sym e) h
 
-      pub place-text-set : 7 ≤ p .opened .kind → p .opened .kind < 9 → SetAs (textOutcome x (p .start) (p .len) row) row row′ r
+      pub place-text-set : 7 ≤ p .opened .kind → p .opened .kind < 9 → SetAs (textOutcome (textAt (p .opened .kind)) x (p .start) (p .len) row) row row′ r
           → (t : List ℕ) → SetAs (leafOutcome (placeTy t p) x here row) row row′ r
       place-text-set l m h t =
-          let e : leafOutcome (placeTy t p) x here row ≡ textOutcome x (p .start) (p .len) row =
+          let e : leafOutcome (placeTy t p) x here row ≡ textOutcome (textAt (p .opened .kind)) x (p .start) (p .len) row =
           ap (λ (T : Ty). leafOutcome T x here row) (ty-text t (p .opened) l m)
           ∙ seen-text x row (textAt (p .opened .kind)) (seatAs (p .seat)) (p .start) (bytesOf row p)
-          ∙ ap (λ (n : ℕ). textOutcome x (p .start) n row) (length-part row (p .start) (p .len) (P .within)) in
+          ∙ ap (λ (n : ℕ). textOutcome (textAt (p .opened .kind)) x (p .start) n row) (length-part row (p .start) (p .len) (P .within)) in
           subst (λ (o : S.Outcome). SetAs o row row′ r) (sym e) h
 
 -- ---- the path
@@ -229,15 +225,15 @@ module _ {t row p : List ℕ} {r : Found} (C : Checked t row) (G : Finds t row p
     pub null-there : NullThere row y z
     null-there = record { known = null-lies .is .kinded; seated = null-lies .seated }
 
-    pub set-at-null : (g : Given) (u : List ℕ) {row′ : List ℕ} {a : Outcome}
-        → ((t u : List ℕ) → SetAs (leafOutcome (openTy t y) (givenMeans g u) (nullAt (seatAs z)) row) row row′ a)
-        → SetAs (setOf (schemaOf t) row p (givenMeans g u)) row row′ a
+    pub set-at-null : (x : Setting) {row′ : List ℕ} {a : Outcome}
+        → ((t : List ℕ) → SetAs (leafOutcome (openTy t y) x (nullAt (seatAs z)) row) row row′ a)
+        → SetAs (setOf (schemaOf t) row p x) row row′ a
     unfolding foundAs
-    set-at-null g u {row′} {a} h =
+    set-at-null x {row′} {a} h =
         let T = openTy t y in
-        let q : setOf (schemaOf t) row p (givenMeans g u) ≡ leafOutcome T (givenMeans g u) (nullAt (seatAs z)) row =
-        set-here (givenMeans g u) T (rw e at (G .tells)) (nullAt (seatAs z)) (ap (foundAs row) e) (null-none T (seatAs z)) in
-        subst (λ (o : S.Outcome). SetAs o row row′ a) (sym q) (h t u)
+        let q : setOf (schemaOf t) row p x ≡ leafOutcome T x (nullAt (seatAs z)) row =
+        set-here x T (rw e at (G .tells)) (nullAt (seatAs z)) (ap (foundAs row) e) (null-none T (seatAs z)) in
+        subst (λ (o : S.Outcome). SetAs o row row′ a) (sym q) (h t)
 
   module _ {y : Place} (e : r ≡ At y) where
     stands : PlaceHolds t row y

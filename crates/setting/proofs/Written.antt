@@ -1,21 +1,23 @@
 -- What is written at a leaf, and the refusals before it. Assumes nothing.
 use mathlib.Core.Path.{_≡_, refl, ap, _∙_, subst}
-use mathlib.Core.Bool.{Bool, true, false}
+use mathlib.Core.Bool.{Bool, true, false, not}
 use mathlib.Core.List.{List}
 use Prim.Native.Nat.{ℕ, _+_, _-_, _^_, _≤_, _<_}
 use native.Mathlib.Nat.{sub-zero}
 use native.Mathlib.Omega.{arith}
 use lib.ListN.{length}
 use lib.Seq.{sets}
-use borrow.Author.Tests.{ne-eqb, eq-eqb}
+use borrow.Author.Tests.{ne-eqb, eq-eqb, not-true, not-false}
 use Rattle.words.specs.Bytes.{le, zeros, fill, part}
 use Rattle.words.specs.Bits.{putBit}
+use Rattle.words.specs.Tests.{isYes}
 use Rattle.words.proofs.Numbers.{length-le}
 use Rattle.words.proofs.NumLaws.{le-pad}
 use Rattle.words.proofs.Parts.{part-whole}
-use Rattle.schema.specs.Types.{Fixed, fix, fixedAt, width}
+use Rattle.schema.specs.Types.{Fixed, Text, fix, fixedAt, width}
 use Rattle.schema.proofs.Table.{line-width}
 use Rattle.table.specs.Words.{placeIn}
+use Rattle.layout.specs.Layout.{spells?}
 use Rattle.layout.specs.Setting as S
 use Rattle.layout.specs.Setting.{Setting, suits, writeFixed}
 use Rattle.layout.proofs.Updated.{null-bytes}
@@ -98,62 +100,73 @@ module _ {row : List ℕ} {w : ℕ} {s : Seat} (I : FixedSeat row w s) (g : Give
 
 -- ---- a string or binary
 
-module _ (u : List ℕ) (o n : ℕ) (row : List ℕ) (g : Given) where
-  pub text-null : g ≡ G.Null → SetAs (textOutcome (givenMeans g u) o n row) row row (O.Refused F.Resize)
+module _ (t : Text) (u : List ℕ) (o n : ℕ) (row : List ℕ) (g : Given) where
+  pub text-null : g ≡ G.Null → SetAs (textOutcome t (givenMeans g u) o n row) row row (O.Refused F.Resize)
   unfolding textOutcome decided
   text-null e = rw e (record { answers = refl; after = refl })
 
-  pub text-bool : (v : Bool) → g ≡ G.Bool v → SetAs (textOutcome (givenMeans g u) o n row) row row (O.Refused F.Unfit)
+  pub text-bool : (v : Bool) → g ≡ G.Bool v → SetAs (textOutcome t (givenMeans g u) o n row) row row (O.Refused F.Unfit)
   unfolding textOutcome decided
   text-bool v e = rw e (record { answers = refl; after = refl })
 
-  pub text-number : (z : _) → g ≡ G.Number z → SetAs (textOutcome (givenMeans g u) o n row) row row (O.Refused F.Unfit)
+  pub text-number : (z : _) → g ≡ G.Number z → SetAs (textOutcome t (givenMeans g u) o n row) row row (O.Refused F.Unfit)
   unfolding textOutcome decided
   text-number z e = rw e (record { answers = refl; after = refl })
 
-  pub text-float32 : (b : ℕ) → g ≡ G.Float32 b → SetAs (textOutcome (givenMeans g u) o n row) row row (O.Refused F.Unfit)
+  pub text-float32 : (b : ℕ) → g ≡ G.Float32 b → SetAs (textOutcome t (givenMeans g u) o n row) row row (O.Refused F.Unfit)
   unfolding textOutcome decided
   text-float32 b e = rw e (record { answers = refl; after = refl })
 
-  pub text-float64 : (b : ℕ) → g ≡ G.Float64 b → SetAs (textOutcome (givenMeans g u) o n row) row row (O.Refused F.Unfit)
+  pub text-float64 : (b : ℕ) → g ≡ G.Float64 b → SetAs (textOutcome t (givenMeans g u) o n row) row row (O.Refused F.Unfit)
   unfolding textOutcome decided
   text-float64 b e = rw e (record { answers = refl; after = refl })
 
-  pub text-size : g ≡ G.Bytes → (length u ≡ n → ⊥) → SetAs (textOutcome (givenMeans g u) o n row) row row (O.Refused F.Resize)
-  unfolding textOutcome decided
-  text-size e h = rw (e, ne-eqb (length u) n h) (record { answers = refl; after = refl })
+  -- b: whether the bytes fit
+  module _ (e : g ≡ G.Bytes) {b : Bool} (f : b ≡ isYes (spells? t u)) where
+    pub text-unfit : not b ≡ true → SetAs (textOutcome t (givenMeans g u) o n row) row row (O.Refused F.Unfit)
+    unfolding textOutcome decided
+    text-unfit m = rw (e, ← f, not-true b m) (record { answers = refl; after = refl })
 
-  pub text-bytes : g ≡ G.Bytes → length u ≡ n → (row′ : List ℕ) → row′ ≡ sets row o (part u 0 n)
-      → SetAs (textOutcome (givenMeans g u) o n row) row row′ O.Done
-  unfolding textOutcome decided
-  text-bytes e h row′ q =
-      let w : part u 0 n ≡ u = rw (← h) (part-whole u) in
-      rw (e, eq-eqb (length u) n h) (record { answers = refl; after = q ∙ ap (sets row o) w })
+    pub text-size : not b ≡ false → (length u ≡ n → ⊥) → SetAs (textOutcome t (givenMeans g u) o n row) row row (O.Refused F.Resize)
+    unfolding textOutcome decided
+    text-size m h = rw (e, ← f, not-false b m, ne-eqb (length u) n h) (record { answers = refl; after = refl })
+
+    pub text-bytes : not b ≡ false → length u ≡ n → (row′ : List ℕ) → row′ ≡ sets row o (part u 0 n)
+        → SetAs (textOutcome t (givenMeans g u) o n row) row row′ O.Done
+    unfolding textOutcome decided
+    text-bytes m h row′ q =
+        let w : part u 0 n ≡ u = rw (← h) (part-whole u) in
+        rw (e, ← f, not-false b m, eq-eqb (length u) n h) (record { answers = refl; after = q ∙ ap (sets row o) w })
 
 -- ---- a null one
 
-module _ (u : List ℕ) (s : Seat) (row : List ℕ) (g : Given) where
+module _ (t : Text) (u : List ℕ) (s : Seat) (row : List ℕ) (g : Given) where
   pub no-text-null : g ≡ G.Null → (row′ : List ℕ) → row′ ≡ sets row (s .slot) (zeros (s .wide))
-      → SetAs (noTextOutcome (givenMeans g u) (seatAs s) row) row row′ O.Done
+      → SetAs (noTextOutcome t (givenMeans g u) (seatAs s) row) row row′ O.Done
   unfolding noTextOutcome decided
   no-text-null e row′ q = rw e (record { answers = refl; after = q })
 
-  pub no-text-bool : (v : Bool) → g ≡ G.Bool v → SetAs (noTextOutcome (givenMeans g u) (seatAs s) row) row row (O.Refused F.Unfit)
+  pub no-text-bool : (v : Bool) → g ≡ G.Bool v → SetAs (noTextOutcome t (givenMeans g u) (seatAs s) row) row row (O.Refused F.Unfit)
   unfolding noTextOutcome decided
   no-text-bool v e = rw e (record { answers = refl; after = refl })
 
-  pub no-text-number : (z : _) → g ≡ G.Number z → SetAs (noTextOutcome (givenMeans g u) (seatAs s) row) row row (O.Refused F.Unfit)
+  pub no-text-number : (z : _) → g ≡ G.Number z → SetAs (noTextOutcome t (givenMeans g u) (seatAs s) row) row row (O.Refused F.Unfit)
   unfolding noTextOutcome decided
   no-text-number z e = rw e (record { answers = refl; after = refl })
 
-  pub no-text-float32 : (b : ℕ) → g ≡ G.Float32 b → SetAs (noTextOutcome (givenMeans g u) (seatAs s) row) row row (O.Refused F.Unfit)
+  pub no-text-float32 : (b : ℕ) → g ≡ G.Float32 b → SetAs (noTextOutcome t (givenMeans g u) (seatAs s) row) row row (O.Refused F.Unfit)
   unfolding noTextOutcome decided
   no-text-float32 b e = rw e (record { answers = refl; after = refl })
 
-  pub no-text-float64 : (b : ℕ) → g ≡ G.Float64 b → SetAs (noTextOutcome (givenMeans g u) (seatAs s) row) row row (O.Refused F.Unfit)
+  pub no-text-float64 : (b : ℕ) → g ≡ G.Float64 b → SetAs (noTextOutcome t (givenMeans g u) (seatAs s) row) row row (O.Refused F.Unfit)
   unfolding noTextOutcome decided
   no-text-float64 b e = rw e (record { answers = refl; after = refl })
 
-  pub no-text-bytes : g ≡ G.Bytes → SetAs (noTextOutcome (givenMeans g u) (seatAs s) row) row row (O.Refused F.Resize)
-  unfolding noTextOutcome decided
-  no-text-bytes e = rw e (record { answers = refl; after = refl })
+  module _ (e : g ≡ G.Bytes) {b : Bool} (f : b ≡ isYes (spells? t u)) where
+    pub no-text-unfit : not b ≡ true → SetAs (noTextOutcome t (givenMeans g u) (seatAs s) row) row row (O.Refused F.Unfit)
+    unfolding noTextOutcome decided
+    no-text-unfit m = rw (e, ← f, not-true b m) (record { answers = refl; after = refl })
+
+    pub no-text-bytes : not b ≡ false → SetAs (noTextOutcome t (givenMeans g u) (seatAs s) row) row row (O.Refused F.Resize)
+    unfolding noTextOutcome decided
+    no-text-bytes m = rw (e, ← f, not-false b m) (record { answers = refl; after = refl })

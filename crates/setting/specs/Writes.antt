@@ -8,7 +8,7 @@ use lib.ListN.{length}
 use lib.Seq.{sets}
 use Rattle.words.specs.Bytes.{le, zeros}
 use Rattle.schema.specs.Marks.{STRING}
-use Rattle.schema.specs.Types.{Fixed, Ty, fix, ro, width}
+use Rattle.schema.specs.Types.{Fixed, Text, Ty, fix, ro, width}
 use Rattle.schema.specs.Walk.{fieldsOf}
 use Rattle.table.specs.Words.{Lined, placeIn, widthIn}
 use Rattle.table.specs.Tables.{Table, schemaOf}
@@ -69,11 +69,11 @@ unfoldable pub fixedOutcome : Fixed → Setting → W.Seat → List ℕ → S.Ou
 fixedOutcome f x s row = decided (unless (suits (fix f) x) 8) (writeFixed f x s row)
 
 -- at a present string or binary of n bytes from o on, and at a null one
-unfoldable pub textOutcome : Setting → ℕ → ℕ → List ℕ → S.Outcome
-textOutcome x o n row = decided (unless (fitsText x) 8 or unless (keepsSize n x) 9) (sets row o (textOf x))
+unfoldable pub textOutcome : Text → Setting → ℕ → ℕ → List ℕ → S.Outcome
+textOutcome t x o n row = decided (unless (fitsText t x) 8 or unless (keepsSize n x) 9) (sets row o (textOf x))
 
-unfoldable pub noTextOutcome : Setting → W.Seat → List ℕ → S.Outcome
-noTextOutcome x s row = decided (unless (fitsText x) 8 or unless (isNull x) 9) (sets row (s .slot) (zeros (s .wide)))
+unfoldable pub noTextOutcome : Text → Setting → W.Seat → List ℕ → S.Outcome
+noTextOutcome t x s row = decided (unless (fitsText t x) 8 or unless (isNull x) 9) (sets row (s .slot) (zeros (s .wide)))
 
 -- the entry of a leaf of a fixed width, and its seat
 pub record FixedIn (w : ℕ) : Type 0 where

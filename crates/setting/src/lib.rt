@@ -15,6 +15,7 @@ mod leaves;
 mod nulls;
 mod present;
 mod puts;
+mod texts;
 
 // What a setting comes to at a leaf of a fixed width: it doesn't fit, null, or the number whose bytes are written.
 enum Leaf {
@@ -34,7 +35,7 @@ fn set_in(t: &[u64], row: &mut [u8], path: Path, g: Given, bytes: &[u8]) -> Outc
         Found::NoPlace => Outcome::Refused(Refusal::NoPlace),
         Found::NullBefore => Outcome::Refused(Refusal::NullBefore),
         Found::Broken(place) => Outcome::Refused(Refusal::Layout { place }),
-        Found::Null(x, seat) => nulls::set_null(row, x, seat, g),
+        Found::Null(x, seat) => nulls::set_null(row, x, seat, g, bytes),
         Found::At(p) => present::set_place(row, p, g, bytes),
     }
 }

@@ -6,20 +6,23 @@ use reading::Seat;
 use reading::TypeParts;
 ghost use mathlib.Core.List.{List};
 ghost use Prim.Native.Nat.{ℕ};
+ghost use Rattle.schema.specs.Types.{textAt};
 ghost use Rattle.layout.specs.Walk.{nullAt};
 ghost use Rattle.answers.specs.Meaning.{givenMeans};
 ghost use Rattle.reading.specs.Children.{seatAs};
 ghost use Rattle.reading.specs.Opening.{openTy};
+ghost use Rattle.spelling.specs.Spelling.{TextKind};
 ghost use Rattle.setting.specs.Writes.{SetAs, leafOutcome, noTextOutcome, Sits, NullThere};
 use crate::leaves;
 use crate::puts;
+use crate::texts;
 
-// A null string or binary takes only null, which zeroes its slot.
-fn set_no_text(row: &mut [u8], seat: Seat, g: Given) -> Outcome
-    requires { ⌜ Sits (now row) seat ⌝ }
-    ensures { λ r. ⌜ ((u : List ℕ) → SetAs
-        (noTextOutcome (givenMeans g u) (seatAs seat) (now (row .entry)))
-        (now (row .entry)) (now (row .exit)) r) ⌝ }
+// A null string or binary, by its kind k, takes only null, which zeroes its slot; bytes that are no text do not fit a string.
+fn set_no_text(row: &mut [u8], k: usize, seat: Seat, g: Given, bytes: &[u8]) -> Outcome
+    requires { ⌜ TextKind k × Sits (now row) seat ⌝ }
+    ensures { λ r. ⌜ SetAs
+        (noTextOutcome (textAt k) (givenMeans g (now (bytes .entry))) (seatAs seat) (now (row .entry)))
+        (now (row .entry)) (now (row .exit)) r ⌝ }
 {
     match g {
         Given::Null => {
@@ -30,22 +33,27 @@ fn set_no_text(row: &mut [u8], seat: Seat, g: Given) -> Outcome
         Given::Number(_) => Outcome::Refused(Refusal::Unfit),
         Given::Float32(_) => Outcome::Refused(Refusal::Unfit),
         Given::Float64(_) => Outcome::Refused(Refusal::Unfit),
-        Given::Bytes => Outcome::Refused(Refusal::Resize),
+        Given::Bytes => {
+            if !texts::is_fit(k, bytes) {
+                return Outcome::Refused(Refusal::Unfit);
+            }
+            Outcome::Refused(Refusal::Resize)
+        }
     }
 }
 
 // A null of a type: a container takes nothing.
-pub fn set_null(row: &mut [u8], x: TypeParts, seat: Seat, g: Given) -> Outcome
+pub fn set_null(row: &mut [u8], x: TypeParts, seat: Seat, g: Given, bytes: &[u8]) -> Outcome
     requires { ⌜ NullThere (now row) x seat ⌝ }
-    ensures { λ r. ⌜ ((t u : List ℕ) → SetAs
-        (leafOutcome (openTy t x) (givenMeans g u) (nullAt (seatAs seat)) (now (row .entry)))
+    ensures { λ r. ⌜ ((t : List ℕ) → SetAs
+        (leafOutcome (openTy t x) (givenMeans g (now (bytes .entry))) (nullAt (seatAs seat)) (now (row .entry)))
         (now (row .entry)) (now (row .exit)) r) ⌝ }
 {
     if x.kind < table::STRING {
         return leaves::set_fixed(row, seat, x.entry, g);
     }
     if x.kind < table::LIST {
-        return set_no_text(row, seat, g);
+        return set_no_text(row, x.kind, seat, g, bytes);
     }
     Outcome::Refused(Refusal::Unfit)
 }

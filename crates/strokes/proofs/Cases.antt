@@ -2,6 +2,7 @@
 use mathlib.Core.Path.{refl}
 use native.Mathlib.Decide.{decLe, decLt, ℕ-discrete}
 use Rattle.words.specs.Bytes.{le, num, fill, zerosAhead, highBits, pastByte}
+use Rattle.words.proofs.TextComputes.{text-computes}
 use Rattle.schema.specs.Marks.{types, markAt}
 use Rattle.schema.specs.Kinds.{find, placeOf, kindOf, kindOfPlace as placedKind, headKind, kindAt}
 use Rattle.schema.specs.Types.{fixedPlace, textPlace, fixedAt, textAt, place, width, mark, count, field}
@@ -9,10 +10,10 @@ use Rattle.schema.specs.Reading.{parseAll, parseRo, parseKind, parseType as par
 use Rattle.schema.specs.Walk.{typeAt as tyAt, fieldsOf}
 use Rattle.layout.specs.Reader.{assert, cut}
 use Rattle.layout.specs.Faults.{assertAt, cutAt, seenFrom, within, yielded, inRow, faultIn}
-use Rattle.layout.specs.Tiles.{total, both?, either?, change?, aparts?, stands?}
+use Rattle.layout.specs.Tiles.{total, aparts?, stands?}
 use Rattle.layout.specs.Cells.{fromCells, toCells, onNull, bytes, parts}
 use Rattle.layout.specs.Layout.{number, string, inside, outside, kidOf, slotOf, kidGet, flags, slots, tails, reads, bodyPut, bodyGet, struct, array, pair}
-use Rattle.layout.specs.Layout.{limit, codec}
+use Rattle.layout.specs.Layout.{spells?, limit, codec}
 use Rattle.layout.specs.Listing.{numberScript, textScript, marked, nullOr, item, runPut, runGet, structScript, listScript, mapScript, script, listing, parse}
 use Rattle.layout.specs.Walk.{must, mustStep, own, bySlot, byFlag, child, stepIn, goOn, walk}
 use Rattle.layout.specs.Places.{startOf}
@@ -29,8 +30,8 @@ use Rattle.strokes.specs.Table.{Table}
 computes : Unit {0}
 unfolding le num fill types markAt find placeOf kindOf placedKind headKind kindAt fixedPlace textPlace fixedAt textAt place width mark count field
     parseAll parseRo parseKind parseTy judged tyAt fieldsOf assert cut assertAt cutAt seenFrom within yielded inRow faultIn zerosAhead highBits pastByte
-    total both? either? change? aparts? stands? fromCells toCells onNull bytes parts
-    number string inside outside kidOf slotOf kidGet flags slots tails reads bodyPut bodyGet struct array pair limit codec
+    total text-computes aparts? stands? fromCells toCells onNull bytes parts
+    spells? number string inside outside kidOf slotOf kidGet flags slots tails reads bodyPut bodyGet struct array pair limit codec
     numberScript textScript marked nullOr item runPut runGet structScript listScript mapScript script listing parse
     must mustStep own bySlot byFlag child stepIn goOn walk startOf typeAlong placed valueOf answerOf found readIn rowRead imageOf decLe decLt ℕ-discrete
     be big frame framing first frames framesIn framed lentRows

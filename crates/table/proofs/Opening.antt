@@ -11,9 +11,9 @@ use lib.ListN.{length, getD, set, length-set}
 use lib.Seq.{getD-set-same, getD-set-other}
 use mir.Val.{Fits}
 use mir.Syntax.{w64}
+use Rattle.words.proofs.Parts.{byte-room}
 use Rattle.schema.specs.Marks.{types}
 use Rattle.schema.specs.Kinds.{kindOfPlace, kindOf}
-use Rattle.schema.proofs.Laws.{byte-room}
 use Rattle.table.specs.Words.{word, heldAt, behindAt}
 use Rattle.table.proofs.Lines.{held-small, behind-more}
 use Rattle.table.proofs.Filling.{onward, fill, patch, fill-li, fill-ma, fill-ro}

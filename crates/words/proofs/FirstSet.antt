@@ -15,7 +15,7 @@ use Rattle.words.specs.Bytes.{Bytes, num, part, bitmap, zerosAhead, high
 use Rattle.words.proofs.NumLaws.{pow256, part-lt}
 use Rattle.words.proofs.Parts.{length-part, part-cons, getD-part, drop-take}
 
-part-first : (b : List ℕ) (i stop : ℕ) → i < stop → stop ≤ length b → part b i (stop - i) ≡ getD b i 0 ∷ part b (i + 1) (stop - (i + 1))
+pub part-first : (b : List ℕ) (i stop : ℕ) → i < stop → stop ≤ length b → part b i (stop - i) ≡ getD b i 0 ∷ part b (i + 1) (stop - (i + 1))
 part-first b i stop h l =
     let e : stop - i ≡ suc (stop - (i + 1)) = omega arith in
     rw (e, add-one i) (part-cons b i (stop - suc i) (omega arith))

@@ -6,8 +6,11 @@ pub mod Powers
 pub mod NumLaws
 pub mod FirstSet
 pub mod Turns
+pub mod TextComputes
 pub mod BitLaws
 pub mod SignedLaws
 pub mod Tests
-pub mod Texts
+pub mod TextLaws
+pub mod TextTurns
+pub mod CharLaws
 mod Examples

@@ -19,6 +19,12 @@ lt-or-le (suc a) (suc b) = ⊎-elim (λ p. inl (omega arith)) (λ q. inr (omega 
 pub around : (i at n : ℕ) → (i < at) ⊎ (((at ≤ i) × (i < at + n)) ⊎ (at + n ≤ i))
 around i at n = ⊎-elim inl (λ g. inr (⊎-elim (λ l. inl (g, l)) inr (lt-or-le i (at + n)))) (lt-or-le i at)
 
+-- a byte that is not 0 lies within the list
+pub byte-room : (u : List ℕ) (i : ℕ) → 1 ≤ getD u i 0 → i < length u
+byte-room [] i h = absurd (omega arith)
+byte-room (x ∷ u) zero h = omega arith
+byte-room (x ∷ u) (suc i) h = omega (arith, byte-room u i h)
+
 pub length-part : (b : List ℕ) (at k : ℕ) → at + k ≤ length b → length (part b at k) ≡ k
 length-part b at k h = simp (length-take, length-drop) (omega arith)
 

@@ -8,3 +8,4 @@ pub mod Pairs
 pub mod Tests
 pub mod Text
 pub mod TextTest
+pub mod Chars

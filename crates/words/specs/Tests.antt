@@ -1,7 +1,6 @@
 -- Tests whose types say what they tell, put together. Assumes nothing: these are definitions.
 use mathlib.Core.Bool.{Bool, true, false}
 use mathlib.Core.Logic.{_⊎_, inl, inr}
-use mathlib.Core.Path.{_≡_, refl, sym}
 
 unfoldable pub both? : {A B : Type 0} → Dec A → Dec B → Dec (A × B)
 both? (yes a) (yes b) = yes (a, b)

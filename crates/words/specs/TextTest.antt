@@ -1,4 +1,4 @@
--- The test whether bytes are text: its type says all that it tells. Assumes nothing: these are definitions.
+-- The test whether bytes are text. Its type says all that it tells: a reader need not follow how. Assumes nothing: these are definitions.
 use mathlib.Core.Bool.{Bool, true, false, cond, true≢false}
 use mathlib.Core.Logic.{_⊎_, inl, inr}
 use mathlib.Core.Path.{_≡_, refl, sym}
@@ -9,7 +9,7 @@ use native.Mathlib.Decide.{decLe}
 use native.Mathlib.Omega.{arith}
 use lib.ListN.{length, drop, getD}
 use Rattle.words.specs.Tests.{both?, either?, change?, isYes}
-use Rattle.words.specs.Text.{In, Is, Tail, One, x00-7F, Two, xC2-DF, Three, xE0, xE1-EC, xED, xEE-EF, Four, xF0, xF1-F3, xF4}
+use Rattle.words.specs.Text.{In, Tail, One, x00-7F, Two, xC2-DF, Three, xE0, xE1-EC, xED, xEE-EF, Four, xF0, xF1-F3, xF4}
 use Rattle.words.specs.Text.{WellFormed, none, utf8-1, utf8-2, utf8-3, utf8-4}
 
 -- ---- the lines
@@ -30,7 +30,7 @@ two? a b = change? (λ p. xC2-DF (p .0) (p .1)) back (both? (in? 0xC2 0xDF a) (i
     back : {a b : ℕ} → Two a b → In 0xC2 0xDF a × Tail b
     back (xC2-DF p q) = (p, q)
 
--- the first byte's line, the second's and two that follow
+-- the first byte's bounds and the second's
 abbrev Line : ℕ → ℕ → ℕ → ℕ → ℕ → ℕ → Type 0
 Line low high low′ high′ a b = In low high a × In low′ high′ b
 
@@ -92,14 +92,14 @@ unfoldable pub charSize : ℕ → ℕ → ℕ → ℕ → ℕ
 charSize a b c d = firstYes (one? a) (two? a b) (three? a b c) (four? a b c d)
 
 -- what that number tells
-data Told (a b c d : ℕ) : ℕ → Type 0 where
+pub data Told (a b c d : ℕ) : ℕ → Type 0 where
   is1 : One a → Told a b c d 1
   is2 : Two a b → Told a b c d 2
   is3 : Three a b c → Told a b c d 3
   is4 : Four a b c d → Told a b c d 4
   is0 : Told a b c d 0
 
-told : (a b c d : ℕ) → Told a b c d (charSize a b c d)
+pub told : (a b c d : ℕ) → Told a b c d (charSize a b c d)
 unfolding charSize firstYes
 told a b c d = go (one? a) (two? a b) (three? a b c) (four? a b c d)
   where
@@ -120,16 +120,16 @@ charsFrom zero (a ∷ u) =
     cond (eqb (charSize a (getD u 0 0) (getD u 1 0) (getD u 2 0)) 0) false (charsFrom (charSize a (getD u 0 0) (getD u 1 0) (getD u 2 0) - 1) u)
 
 -- no byte behind a character's first is 0
-behind2 : {a b : ℕ} → Two a b → 1 ≤ b
+pub behind2 : {a b : ℕ} → Two a b → 1 ≤ b
 behind2 (xC2-DF p q) = omega arith
 
-behind3 : {a b c : ℕ} → Three a b c → (1 ≤ b) × (1 ≤ c)
+pub behind3 : {a b c : ℕ} → Three a b c → (1 ≤ b) × (1 ≤ c)
 behind3 (xE0 p q t) = (omega arith, omega arith)
 behind3 (xE1-EC p q t) = (omega arith, omega arith)
 behind3 (xED p q t) = (omega arith, omega arith)
 behind3 (xEE-EF p q t) = (omega arith, omega arith)
 
-behind4 : {a b c d : ℕ} → Four a b c d → (1 ≤ b) × ((1 ≤ c) × (1 ≤ d))
+pub behind4 : {a b c d : ℕ} → Four a b c d → (1 ≤ b) × ((1 ≤ c) × (1 ≤ d))
 behind4 (xF0 p q t v) = (omega arith, (omega arith, omega arith))
 behind4 (xF1-F3 p q t v) = (omega arith, (omega arith, omega arith))
 behind4 (xF4 p q t v) = (omega arith, (omega arith, omega arith))

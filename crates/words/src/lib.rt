@@ -1,4 +1,4 @@
-// Bytes: little-endian numbers, slots, pairs, null bits, signed numbers, padding and copies.
+// Bytes: little-endian numbers, slots, pairs, null bits, signed numbers, padding, copies and text.
 pub mod copies;
 pub mod finds;
 pub mod nulls;
@@ -7,3 +7,4 @@ pub mod pairs;
 pub mod signed;
 pub mod sizes;
 pub mod slots;
+pub mod texts;

@@ -10,16 +10,16 @@ use Rattle.checking.proofs.Containers.{list-odd, list-short, map-odd, m
 use Rattle.checking.proofs.Loops.{loop-start, loop-since, loop-sum, loop-told, loop-unfit, loop-done, loop-over, loop-bit, loop-fault, loop-slot}
 use Rattle.checking.proofs.Loops.{loop-slot-on, loop-on, loop-falls, loop-null}
 use Rattle.checking.proofs.Cursor.{told-moves, told-less, stop-fits, stop-small, past-end, here-pad, here-asks, here-bad, here-whole, here-unpadded}
-use Rattle.checking.proofs.Cursor.{here-next, here-search, here-found}
+use Rattle.checking.proofs.Cursor.{here-next, here-padded, here-misspelled, here-search, here-found}
 use Rattle.checking.proofs.Elements.{list-many, list-asks, list-slots, list-mul, list-stop, list-pad, list-out, list-bits, bools-room, list-bools}
-use Rattle.checking.proofs.Elements.{numbers-end, list-numbers, texts-room, list-texts, items-room, list-items}
+use Rattle.checking.proofs.Elements.{numbers-end, list-numbers, texts-room, strings-room, list-strings, list-binaries, items-room, list-items}
 use Rattle.checking.proofs.Values.{place-low, next-place, child-plain, child-struct, child-list, child-keys, child-map, item-deep, item-eights}
 use Rattle.checking.proofs.Values.{items-slots, item-asks, item-mul, item-map, item-start}
 use Rattle.checking.proofs.Arrays.{map-bad, map-over, map-end, map-fits, map-told, keys-hold, values-hold, values-head, keys-few, keys-bad, keys-head}
 use Rattle.checking.proofs.Arrays.{values-headless, counts-differ, values-few, map-low, values-bad, map-done}
 use Rattle.checking.proofs.StructLoops.{struct-asks, struct-mul, struct-end, fields-odd, fields-short, fields-from, fields-bits, fields-whole}
 use Rattle.checking.proofs.StructLoops.{fields-asks, fields-mul, fields-first, fields-start, field-moves, field-stands, field-deep, field-low}
-use Rattle.checking.proofs.StructLoops.{field-first, reached-text, reached-eights, reached-next, leaf-room, leaf-wrong, leaf-good}
+use Rattle.checking.proofs.StructLoops.{field-first, reached-text, reached-misspelled, reached-eights, reached-next, leaf-room, leaf-wrong, leaf-good}
 use Rattle.checking.proofs.+check_fields+check_items+check_list+check_map+check_struct.Proof.Places.{μ-fields, μ-items, μ-list, μ-map, μ-struct}
 use Rattle.checking.proofs.+check_fields+check_items+check_list+check_map+check_struct.Proof.Places.{fields-Inv, fields-μ, items-Inv, items-μ}
 use Rattle.checking.proofs.+check_fields+check_items+check_list+check_map+check_struct.Proof.Places.{fields-at, items-at, list-at, map-at, struct-at}
@@ -76,18 +76,21 @@ pub +check-fields+check-items+check-list+check-map+check-struct-spec : {M : Type
     (λ c. search loop-fault)  -- add-result
     (λ c. search (past-end (fields-told t (c .before .before .before))))  -- returns-2
     (λ c κs. search stop-small)  -- pad-size-requires
-    (λ c κs. here-pad (fields-here t (c .before)))  -- pad-clear-requires
-    (λ c κs. here-search (fields-here t (c .before .before .before)))  -- first-set-requires
-    (λ c. search (here-found (fields-here t (c .before .before .before .before))))  -- add-result-2
+    (λ c κs. search (here-padded (fields-here t (c .before))))  -- is-spelled-in-requires
+    (λ c. search loop-fault)  -- add-result-2
+    (λ c. search (here-misspelled (fields-here t (c .before .before .before)), reached-misspelled))  -- returns-3
+    (λ c κs. here-pad (fields-here t (c .before .before .before)))  -- pad-clear-requires
+    (λ c κs. here-search (fields-here t (c .before .before .before .before .before)))  -- first-set-requires
+    (λ c. search (here-found (fields-here t (c .before .before .before .before .before .before))))  -- add-result-3
     (λ c. search (
-      here-unpadded (fields-here t (c .before .before .before .before)),
+      here-unpadded (fields-here t (c .before .before .before .before .before .before)),
       reached-text,
-    ))  -- returns-3
+    ))  -- returns-4
     (λ c κs. tt)  -- after-requires-3
     (λ c. search loop-slot-on)  -- add-slot-3
     (λ c. search loop-on)  -- add-i-3
     (λ c. search loop-falls)  -- loop-less-4
-    (λ c. let h = c .before .before .before .before in
+    (λ c. let h = c .before .before .before .before .before .before in
     let l = h .before .before .before .before .before .before .before .before .before .before .before .loop .inv in
     search (reached-next l, here-next (fields-here t h), reached-text l))  -- loop-again-4
     (λ c. search field-deep)  -- sub-d
@@ -96,20 +99,20 @@ pub +check-fields+check-items+check-list+check-map+check-struct-spec : {M : Type
     (λ c. search needs)  -- part-part-start
     (λ c. search)  -- part-part-end
     (λ c. search field-first)  -- add-is-plain
-    (λ c κs. child-plain (fields-child t (c .before .before .before)) (c .before .before .leaf-fields .ensures) (c .if8 .taken))  -- is-plain-requires
+    (λ c κs. child-plain (fields-child t (c .before .before .before)) (c .before .before .leaf-fields .ensures) (c .if9 .taken))  -- is-plain-requires
     (λ c. search field-first)  -- add-check-struct
     (λ c κs. tt)  -- count-requires
-    (λ c κs. child-struct (fields-child t (c .before .before .before .before .before)) (c .before .if10 .taken) (c .count .ensures))  -- check-struct-requires
+    (λ c κs. child-struct (fields-child t (c .before .before .before .before .before)) (c .before .if11 .taken) (c .count .ensures))  -- check-struct-requires
     (λ c. search field-first)  -- add-check-list
-    (λ c κs. child-list (fields-child t (c .before .before .before .before .before)) (c .if11 .taken))  -- check-list-requires
+    (λ c κs. child-list (fields-child t (c .before .before .before .before .before)) (c .if12 .taken))  -- check-list-requires
     (λ c. search field-first)  -- add-check-map
     (λ c. search field-first)  -- add-entry-at
-    (λ c κs. child-keys (fields-child t (c .before .before .before .before .before)) (c .before .if10 .left) (c .if11 .left))  -- entry-at-requires-2
+    (λ c κs. child-keys (fields-child t (c .before .before .before .before .before)) (c .before .if11 .left) (c .if12 .left))  -- entry-at-requires-2
     (λ c κs. tt)  -- after-requires-4
     (λ c κs. child-map (fields-child t (c .before .before .before .before .before .before .before))
-    (c .before .before .before .if10 .left) (c .before .before .if11 .left) (c .before .entry-at2 .ensures) (c .after4 .ensures))  -- check-map-requires
-    (λ c κs. here-asks (fields-here t (c .before .before .before .before .before)) (fields-judged t (c .before)) (c .if12 .taken))  -- in-child-requires
-    (λ c. search (here-bad (fields-here t (c .before .before .before .before .before .before)) (fields-judged t (c .before .before))))  -- returns-4
+    (c .before .before .before .if11 .left) (c .before .before .if12 .left) (c .before .entry-at2 .ensures) (c .after4 .ensures))  -- check-map-requires
+    (λ c κs. here-asks (fields-here t (c .before .before .before .before .before)) (fields-judged t (c .before)) (c .if13 .taken))  -- in-child-requires
+    (λ c. search (here-bad (fields-here t (c .before .before .before .before .before .before)) (fields-judged t (c .before .before))))  -- returns-5
     (λ c κs. tt)  -- after-requires-5
     (λ c. search loop-slot-on)  -- add-slot-4
     (λ c. search loop-on)  -- add-i-4
@@ -117,12 +120,12 @@ pub +check-fields+check-items+check-list+check-map+check-struct-spec : {M : Type
     (λ c. let h = c .before .before .before .before .before .before in
     let l = h .before .before .before .before .before .before .before .before .before .before .before .loop .inv in
     search (reached-next l, here-whole (fields-here t h), fields-judged t, reached-eights l))  -- loop-again-5
-    (λ c. search loop-told)  -- add-result-3
-    (λ c. search (loop-unfit (c .before .before .loop .inv .state)))  -- returns-5
-    (λ c. search loop-since)  -- sub-if14
-    (λ c. search loop-sum)  -- add-if14
-    (λ c. search (loop-over (c .before .before .before .loop .inv .state)))  -- returns-6
-    (λ c. search (loop-done (c .before .before .before .loop .inv .state))))  -- returns-7
+    (λ c. search loop-told)  -- add-result-4
+    (λ c. search (loop-unfit (c .before .before .loop .inv .state)))  -- returns-6
+    (λ c. search loop-since)  -- sub-if15
+    (λ c. search loop-sum)  -- add-if15
+    (λ c. search (loop-over (c .before .before .before .loop .inv .state)))  -- returns-7
+    (λ c. search (loop-done (c .before .before .before .loop .inv .state))))  -- returns-8
     (λ t. in-items.spec (items-calls t) (items-at t) check-items.Post items-Inv items-μ
     (λ c. search item-deep)  -- sub-d
     (λ c κs. tt)  -- place-requires
@@ -199,10 +202,13 @@ pub +check-fields+check-items+check-list+check-map+check-struct-spec : {M : Type
     (λ c. search list-bools)  -- returns-6
     (λ c κs. search numbers-end)  -- check-end-requires
     (λ c. search (list-numbers, slice-bytes))  -- returns-7
-    (λ c κs. search texts-room)  -- check-texts-requires
-    (λ c. search list-texts)  -- returns-8
-    (λ c κs. (search falls-list, search (items-room (c .before .before .before .before .before .before .before .pad-size .ensures))))  -- check-items-requires
-    (λ c. search list-items))  -- returns-9
+    (λ c κs. search strings-room)  -- check-strings-requires
+    (λ c. search list-strings)  -- returns-8
+    (λ c κs. search texts-room)  -- check-binaries-requires
+    (λ c. search list-binaries)  -- returns-9
+    (λ c κs. let p = c .before .before .before .before .before .before .before .before in
+    (search falls-list, search (items-room (p .pad-size .ensures))))  -- check-items-requires
+    (λ c. search list-items))  -- returns-10
     (λ t. in-map.spec (map-calls t) (map-at t) check-map.Post
     (λ c. sym (search (map-odd, no-eights)))  -- returns
     (λ c. sym (search (map-short, eights)))  -- returns-2

@@ -2,13 +2,16 @@
 use mathlib.Core.Path.{refl}
 use mathlib.Core.Logic.{⊎-elim}
 use Prim.Native.Nat.{_-_}
+use borrow.Author.Needs.{needs}
+use borrow.Author.Tests.{not-false}
 use Rattle.words.proofs.Numbers.{slice-bytes}
 use Rattle.checking.proofs.Tests.{clash}
 use Rattle.checking.proofs.Loops.{loop-slot, loop-on}
 use Rattle.checking.proofs.Cursor.{stop-fits, stop-small}
 use Rattle.checking.proofs.StructLoops.{struct-mul, field-stands, fixed-leaf}
 use Rattle.checking.proofs.Plain.{PlainAt, plain-add, plain-word, plain-start, plain-whole, plain-place, plain-shift}
-use Rattle.checking.proofs.Plain.{plain-slot-mul, plain-slot, plain-less, plain-null, plain-above, plain-fixed, plain-behind, plain-within, plain-text}
+use Rattle.checking.proofs.Plain.{plain-slot-mul, plain-slot, plain-less, plain-null, plain-above, plain-fixed, plain-behind, plain-within}
+use Rattle.checking.proofs.Plain.{plain-padded, plain-text}
 use Rattle.checking.proofs.is_plain.Statement.{statement}
 use Rattle.checking.proofs.is_plain.Tie as tie
 
@@ -59,10 +62,19 @@ is-plain-spec =
     (λ c e. absurd (clash e refl))  -- returns-7
     (λ c κs. search stop-small)  -- pad-size-requires
     (λ c κs. let a = c .before .before .before .before .before .before .before .before .before .before .before .loop .inv in
-    (search (plain-behind a), search (plain-within a), search stop-small, search))  -- pad-clear-requires
+    (search needs, search (plain-padded a)))  -- looks-spelled-requires
     (λ c e. absurd (clash e refl))  -- returns-8
+    (λ c κs. let a = c .before .before .before .before .before .before .before .before .before .before .before .before .before .loop .inv in
+    (search (plain-behind a), search (plain-within a), search stop-small, search))  -- pad-clear-requires
+    (λ c e. absurd (clash e refl))  -- returns-9
     (λ c. search loop-on)  -- add-i-3
     (λ c. search plain-less)  -- loop-less-3
-    (λ c. let a = c .before .before .before .before .before .before .before .before .before .before .before .before .before .loop .inv in
-    search (plain-text a))  -- loop-again-3
-    (λ c e. search plain-whole))  -- returns-9
+    (λ c. let s = c .before .before .before .before in
+    let p = s .before .before .before .before .before .before in
+    plain-text (p .before .before .before .before .before .loop .inv) (p .before .before .before .before .loop-test .taken)
+    (p .before .before .before .entry-at .ensures) (p .before .before .place .ensures) (p .before .if4 .left) (p .if7 .left)
+    (s .before .before .before .before .before .if8 .left) (s .before .before .before .before .offset-at .ensures) (s .before .before .before .if9 .left)
+    (s .before .before .size-at .ensures) (s .before .if10 .left) (s .pad-size .ensures)
+    (c .before .before .before .looks-spelled .ensures (not-false _ (c .before .before .if11 .left))) (c .before .pad-clear .ensures)
+    (c .if12 .left))  -- loop-again-3
+    (λ c e. search plain-whole))  -- returns-10

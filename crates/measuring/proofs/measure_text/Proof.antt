@@ -1,7 +1,7 @@
 -- `measuring::measure_text` meets its contract: each return is one law. Assumes nothing.
 use borrow.Author.Needs.{needs}
 use Rattle.words.proofs.Numbers.{slice-bytes}
-use Rattle.measuring.proofs.Chosen.{text-only, text-unmarked, text-refused, text-told}
+use Rattle.measuring.proofs.Chosen.{text-only, text-unmarked, text-refused, text-told, text-unspelled}
 use Rattle.measuring.proofs.measure_text.Statement.{statement}
 use Rattle.measuring.proofs.measure_text.Tie as tie
 
@@ -21,8 +21,12 @@ measure-text-spec =
     (λ c. search)  -- sub-if3
     (λ c. search needs)  -- sub-if3-2
     (λ c. search (text-refused, slice-bytes))  -- returns-3
-    (λ c. search needs)  -- add-pair
-    (λ c. search needs)  -- add-pair-2
+    (λ c. search needs)  -- add-end
+    (λ c. search needs)  -- add-end-2
+    (λ c κs. tt)  -- place-requires
+    (λ c. search needs)  -- add-is-spelled
+    (λ c κs. search needs)  -- is-spelled-requires
+    (λ c. search (text-unspelled, slice-bytes))  -- returns-4
     (λ c κs. search needs)  -- pad-size-requires
     (λ c κs. search needs)  -- pair-requires
-    (λ c. search (text-told, slice-bytes)))  -- returns-4
+    (λ c. search (text-told, slice-bytes)))  -- returns-5

@@ -75,7 +75,7 @@ returns-4 c =
     let g = f .before .before in
     let h = g .before .before .before .before .before in
     let a = h .args in
-    set-at-null (h .pre) (g .find .ensures) (f .x .given .1) (a .g) (a .bytes .now) (e .set-null .ensures)
+    set-at-null (h .pre) (g .find .ensures) (f .x .given .1) (givenMeans (a .g) (a .bytes .now)) (e .set-null .ensures)
 
 same-length-5 : tie.Need-same-length-5
 same-length-5 c = search needs

@@ -32,8 +32,10 @@ use Rattle.checking.proofs.in_child.Reads as in-child
 use Rattle.checking.proofs.is_plain.Reads as is-plain
 use Rattle.checking.proofs.lists.check_bools.Reads as check-bools
 use Rattle.checking.proofs.lists.check_end.Reads as check-end
-use Rattle.checking.proofs.lists.check_texts.Reads as check-texts
+use Rattle.checking.proofs.binaries.check_binaries.Reads as check-binaries
+use Rattle.checking.proofs.lists.check_strings.Reads as check-strings
 use Rattle.checking.proofs.lists.items_stand.Reads as items-stand
+use Rattle.spelling.proofs.is_spelled_in.Reads as is-spelled-in
 use Rattle.table.proofs.after.Reads as after
 use Rattle.table.proofs.count.Reads as count
 use Rattle.table.proofs.element_width.Reads as element-width
@@ -136,6 +138,8 @@ module _ (t : ℕ) where
     size-at.Learnt,
     pad-size.Asked,
     pad-size.Learnt,
+    is-spelled-in.Asked,
+    is-spelled-in.Learnt,
     pad-clear.Asked,
     pad-clear.Learnt,
     first-set.Asked,
@@ -214,8 +218,10 @@ module _ (t : ℕ) where
     check-bools.Learnt,
     check-end.Asked,
     check-end.Learnt,
-    check-texts.Asked,
-    check-texts.Learnt,
+    check-strings.Asked,
+    check-strings.Learnt,
+    check-binaries.Asked,
+    check-binaries.Learnt,
     items-below,
     check-items.Post,
   )
@@ -268,11 +274,11 @@ module _ (t : ℕ) where
   fields-child c = search (field-stands, part-small)
 
   -- and the number of their fault
-  pub fields-judged : (c : InFields in-fields.Joined8-2)
+  pub fields-judged : (c : InFields in-fields.Joined9-2)
       → let p = c .before .before .before .before .before .before .before .before .before .before .before .before .before .before .before in
       let l = p .loop in
       let s = p .before .before .before .before .args in
-      c .if8 .r ≡ faultOf (field (typesOf (s .t .now) (s .first) (s .depth) (s .n)) (l .i)) (part (s .b .now) (l .cur)
+      c .if9 .r ≡ faultOf (field (typesOf (s .t .now) (s .first) (s .depth) (s .n)) (l .i)) (part (s .b .now) (l .cur)
       (l .cur + c .before .before .before .before .before .before .size-at .result - l .cur))
   fields-judged c =
       let v = fields-child (c .before .before .before) in
@@ -280,7 +286,7 @@ module _ (t : ℕ) where
       reached-fault (l .before .loop .inv) (l .loop-test .taken) (v .entry) (v .kind) _
       (⊎-elim (λ w. search (plain-whole v (c .before .before .leaf-fields .ensures)))
       (⊎-elim (λ w. search (struct-whole v)) (⊎-elim (λ w. search (list-whole v)) (λ w. search (map-whole v))))
-      (c .if8 .came))
+      (c .if9 .came))
 
   -- a place of check_items
   abbrev InItems : (in-items.Claims → In 2 in-items.ps → Out 2 in-items.ps in-items.r

@@ -11,8 +11,16 @@ leaf-holds-requires c κs = rest-leaf (c .before .before .before .before .pre) (
 returns : tie.Need-returns
 returns c = leaf-as (c .before .before .before .before .before .pre) (c .before .if1 .taken) (c .leaf-holds .ensures)
 
+add-is-spelled : tie.Need-add-is-spelled
+add-is-spelled c = search needs
+
+is-spelled-requires : tie.Need-is-spelled-requires
+is-spelled-requires c κs = search needs
+
 returns-2 : tie.Need-returns-2
-returns-2 c = text-as (c .before .before .before .before .before .pre) (c .before .if1 .left) (c .if2 .taken)
+returns-2 c =
+    let k = c .before .before in
+    text-as (k .before .before .before .before .before .pre) (k .before .if1 .left) (k .if2 .taken) (c .is-spelled .ensures)
 
 element-width-requires : tie.Need-element-width-requires
 element-width-requires c κs = rest-list (c .before .before .before .before .before .before .pre) (c .if3 .taken)
@@ -60,6 +68,8 @@ holds-spec =
     (tie.spec
     leaf-holds-requires
     returns
+    add-is-spelled
+    is-spelled-requires
     returns-2
     element-width-requires
     list-holds-requires

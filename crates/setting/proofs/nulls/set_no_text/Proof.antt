@@ -1,5 +1,5 @@
 -- `setting::nulls::set_no_text` meets its contract. Assumes nothing.
-use Rattle.setting.proofs.Written.{no-text-null, no-text-bool, no-text-number, no-text-float32, no-text-float64, no-text-bytes}
+use Rattle.setting.proofs.Written.{no-text-null, no-text-bool, no-text-number, no-text-float32, no-text-float64, no-text-unfit, no-text-bytes}
 use borrow.Author.Needs.{needs}
 use Rattle.setting.proofs.nulls.set_no_text.Statement.{statement}
 use Rattle.setting.proofs.nulls.set_no_text.Tie as tie
@@ -25,30 +25,39 @@ enum-told-5 c = search needs
 enum-told-6 : tie.Need-enum-told-6
 enum-told-6 c = search needs
 
-same-length : tie.Need-same-length
-same-length c = search needs
+is-fit-requires : tie.Need-is-fit-requires
+is-fit-requires c κs = search needs
 
 returns : tie.Need-returns
 returns c =
-    let e = c .before .before in
-    let f = e .before .before in
-    let a = (f .before .before .before .args) in
-    λ u. no-text-null u (a .seat) (a .row .now) (a .g) (f .enum-told .given .1) _ (e .clear .ensures)
+    let a = c .before .before .before .before .before .before .args in
+    no-text-unfit _ (a .bytes .now) (a .seat) (a .row .now) (a .g) (c .before .before .enum-told6 .given .1) (c .before .is-fit .ensures) (c .if1 .taken)
+
+same-length : tie.Need-same-length
+same-length c = search needs
 
 returns-2 : tie.Need-returns-2
-returns-2 c = let a = c .before .before .before .args in λ u. no-text-bool u (a .seat) (a .row .now) (a .g) _ (c .enum-told2 .given .1)
+returns-2 c =
+    let e = c .before .before in
+    let a = e .before .before .before .before .before .before .args in
+    no-text-null _ (a .bytes .now) (a .seat) (a .row .now) (a .g) (e .before .before .enum-told .given .1) _ (e .clear .ensures)
 
 returns-3 : tie.Need-returns-3
-returns-3 c = let a = c .before .before .before .args in λ u. no-text-number u (a .seat) (a .row .now) (a .g) _ (c .enum-told3 .given .1)
+returns-3 c = let a = c .before .before .before .before .args in no-text-bool _ (a .bytes .now) (a .seat) (a .row .now) (a .g) _ (c .enum-told2 .given .1)
 
 returns-4 : tie.Need-returns-4
-returns-4 c = let a = c .before .before .before .args in λ u. no-text-float32 u (a .seat) (a .row .now) (a .g) _ (c .enum-told4 .given .1)
+returns-4 c = let a = c .before .before .before .before .args in no-text-number _ (a .bytes .now) (a .seat) (a .row .now) (a .g) _ (c .enum-told3 .given .1)
 
 returns-5 : tie.Need-returns-5
-returns-5 c = let a = c .before .before .before .args in λ u. no-text-float64 u (a .seat) (a .row .now) (a .g) _ (c .enum-told5 .given .1)
+returns-5 c = let a = c .before .before .before .before .args in no-text-float32 _ (a .bytes .now) (a .seat) (a .row .now) (a .g) _ (c .enum-told4 .given .1)
 
 returns-6 : tie.Need-returns-6
-returns-6 c = let a = c .before .before .before .args in λ u. no-text-bytes u (a .seat) (a .row .now) (a .g) (c .enum-told6 .given .1)
+returns-6 c = let a = c .before .before .before .before .args in no-text-float64 _ (a .bytes .now) (a .seat) (a .row .now) (a .g) _ (c .enum-told5 .given .1)
+
+returns-7 : tie.Need-returns-7
+returns-7 c =
+    let a = c .before .before .before .before .before .before .args in
+    no-text-bytes _ (a .bytes .now) (a .seat) (a .row .now) (a .g) (c .before .before .enum-told6 .given .1) (c .before .is-fit .ensures) (c .if1 .left)
 
 pub set-no-text-spec : {M : Type 1} → statement M
 set-no-text-spec =
@@ -61,10 +70,12 @@ set-no-text-spec =
     enum-told-4
     enum-told-5
     enum-told-6
-    same-length
+    is-fit-requires
     returns
+    same-length
     returns-2
     returns-3
     returns-4
     returns-5
-    returns-6)
+    returns-6
+    returns-7)

@@ -1,11 +1,12 @@
 -- `setting::nulls::set_null` meets its contract. Assumes nothing.
-use Rattle.setting.proofs.Settled.{null-leaf, null-sits, null-refused, null-fixed-set, null-text-set}
+use Rattle.answers.specs.Meaning.{givenMeans}
+use Rattle.setting.proofs.Settled.{null-leaf, null-refused, null-fixed-set, null-text-set}
 use borrow.Author.Needs.{needs}
 use Rattle.setting.proofs.nulls.set_null.Statement.{statement}
 use Rattle.setting.proofs.nulls.set_null.Tie as tie
 
 set-fixed-requires : tie.Need-set-fixed-requires
-set-fixed-requires c κs = null-leaf (c .before .before .before .before .pre) (c .before .if1 .taken)
+set-fixed-requires c κs = null-leaf (c .before .before .before .before .before .pre) (c .before .if1 .taken)
 
 same-length : tie.Need-same-length
 same-length c = search needs
@@ -14,11 +15,12 @@ returns : tie.Need-returns
 returns c =
     let e = c .before .before in
     let f = e .before .before in
-    let g = f .before .before .before in
-    null-fixed-set (g .pre) (g .args .g) (f .if1 .taken) (e .set-fixed .ensures)
+    let g = f .before .before .before .before in
+    let a = g .args in
+    null-fixed-set (g .pre) (givenMeans (a .g) (a .bytes .now)) (f .if1 .taken) (e .set-fixed .ensures (a .bytes .now))
 
 set-no-text-requires : tie.Need-set-no-text-requires
-set-no-text-requires c κs = null-sits (c .before .before .before .before .before .before .pre)
+set-no-text-requires c κs = search needs
 
 same-length-2 : tie.Need-same-length-2
 same-length-2 c = search needs
@@ -28,11 +30,15 @@ returns-2 c =
     let e = c .before .before in
     let f = e .before .before in
     let g = f .before .before in
-    let h = g .before .before .before in
-    null-text-set (h .pre) (h .args .g) (g .if1 .left) (f .if2 .taken) (e .set-no-text .ensures)
+    let h = g .before .before .before .before in
+    let a = h .args in
+    null-text-set (h .pre) (givenMeans (a .g) (a .bytes .now)) (g .if1 .left) (f .if2 .taken) (e .set-no-text .ensures)
 
 returns-3 : tie.Need-returns-3
-returns-3 c = let e = c .before .before .before .before .before in null-refused (e .pre) (c .if2 .left) (e .args .g)
+returns-3 c =
+    let e = c .before .before .before .before .before .before in
+    let a = e .args in
+    null-refused (e .pre) (givenMeans (a .g) (a .bytes .now)) (c .if2 .left)
 
 pub set-null-spec : {M : Type 1} → statement M
 set-null-spec =

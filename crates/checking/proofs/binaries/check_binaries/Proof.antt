@@ -1,19 +1,19 @@
--- `checking::lists::check_texts` meets its contract: before element i, what is left leads to the same end. What each place of the code asks
+-- `checking::binaries::check_binaries` meets its contract: before element i, what is left leads to the same end. What each place of the code asks
 -- is one law, in the order of the code, with the need's name behind it. Assumes nothing.
 use Prim.Native.Nat.{_+_, _*_, _-_}
 use Rattle.words.proofs.Numbers.{slice-bytes}
-use Rattle.schema.specs.Types.{text, st}
+use Rattle.schema.specs.Types.{text, bi}
 use Rattle.checking.proofs.Tests.{seen}
-use Rattle.checking.proofs.Leaves.{text-sound, texts-slots, null-ask, nulls-room}
+use Rattle.checking.proofs.Leaves.{binary-sound, texts-slots, null-ask, nulls-room}
 use Rattle.checking.proofs.Loops.{items, At, astray, slots-in, loop-start, loop-since, loop-sum, loop-told, loop-unfit, loop-done}
 use Rattle.checking.proofs.Loops.{loop-over, loop-less, loop-bit, loop-fault, loop-slot, loop-slot-on, loop-on, loop-falls, loop-null}
 use Rattle.checking.proofs.Cursor.{Told, Here, told-moves, told-less, stop-fits, stop-small, past-end, here-pad, here-unpadded, here-next}
 use Rattle.checking.proofs.Cursor.{here-search, here-found}
-use Rattle.checking.proofs.lists.check_texts.Statement.{statement}
-use Rattle.checking.proofs.lists.check_texts.Tie as tie
+use Rattle.checking.proofs.binaries.check_binaries.Statement.{statement}
+use Rattle.checking.proofs.binaries.check_binaries.Tie as tie
 
 abbrev Inv-loop : tie.InvT-loop
-Inv-loop b n slots start full slot₀ cur₀ i₀ stop₀ done₀ since₀ slot cur i stop done since = At (items (text st) n) b n slots start i slot cur stop done since
+Inv-loop b n slots start full slot₀ cur₀ i₀ stop₀ done₀ since₀ slot cur i stop done since = At (items (text bi) n) b n slots start i slot cur stop done since
 
 abbrev μ-loop : tie.MeasureT-loop
 μ-loop b n slots start full slot₀ cur₀ i₀ stop₀ done₀ since₀ slot cur i stop done since = 2 * (n - i) + astray b slot cur
@@ -28,8 +28,8 @@ here : (c : tie.After-pad-size Inv-loop μ-loop)
     (c .before .before .size-at .result) (c .pad-size .result)
 here c = search told
 
-pub check-texts-spec : {M : Type 1} → statement M
-check-texts-spec =
+pub check-binaries-spec : {M : Type 1} → statement M
+check-binaries-spec =
     tie.close
     (tie.spec
     Inv-loop
@@ -55,11 +55,11 @@ check-texts-spec =
     (λ c κs. here-pad (here c))  -- pad-clear-requires
     (λ c κs. here-search (here (c .before .before)))  -- first-set-requires
     (λ c. search (here-found (here (c .before .before .before))))  -- add-result-2
-    (λ c. search (here-unpadded (here (c .before .before .before)) (text-sound _)))  -- returns-2
+    (λ c. search (here-unpadded (here (c .before .before .before)) (binary-sound _)))  -- returns-2
     (λ c. search loop-slot-on)  -- add-slot-2
     (λ c. search loop-on)  -- add-i-2
     (λ c. search loop-falls)  -- loop-less-3
-    (λ c. search (here-next (here (c .before .before)) (text-sound _)))  -- loop-again-3
+    (λ c. search (here-next (here (c .before .before)) (binary-sound _)))  -- loop-again-3
     (λ c. search loop-told)  -- add-result-3
     (λ c. search (loop-unfit (c .before .before .loop .inv)))  -- returns-3
     (λ c. search loop-since)  -- sub-if6

@@ -1,0 +1,2 @@
+-- What the contracts of `spelling` cite.
+pub mod Spelling
