@@ -100,6 +100,7 @@ static int children(const uint8_t *s, size_t at, int depth, const uint8_t *b, si
                     cur = x >> 32;
                 }
                 if (cur + pad(size) > len) return 0;
+                if (k == 7 && !plain_is_text(b + cur, size)) return 0;
                 if (k > 8 && !value(s, at, depth, b + cur, size)) return 0;
                 if (!zero(b + cur + size, pad(size) - size)) return 0;
                 cur += pad(size);

@@ -15,6 +15,8 @@ uint64_t plain_log_add(uint8_t *room, size_t room_len, size_t used, uint32_t tic
 // the end of the frame at a place, 0 where the bytes end inside it; the frames from a place on and n before it, -1 where they end inside one
 size_t plain_frame_end(const uint8_t *batch, size_t len, size_t at);
 int64_t plain_count_on(const uint8_t *batch, size_t len, size_t at, int64_t n);
+// whether bytes are text, well-formed UTF-8
+int plain_is_text(const uint8_t *bytes, size_t length);
 // whether a row of an accepted schema, at most 16,384 bytes, keeps to the layout
 int plain_fits(const uint8_t *schema, const uint8_t *row, size_t row_len);
 // a type's line in the table, its width, and the position behind it in an accepted schema

@@ -96,7 +96,7 @@ static int measure(const uint8_t *s, size_t at, struct listing *l, size_t *size)
     size_t n = get(l->l + l->pos, 4), keys, values;
     l->pos += 4;
     if (k < 9) {
-        if (n > l->len - l->pos) return 0;
+        if (n > l->len - l->pos || (k == 7 && !plain_is_text(l->l + l->pos, n))) return 0;
         l->pos += n;
         *size = n;
         return 1;

@@ -40,6 +40,7 @@ static int own(const uint8_t *s, const struct spot *p, const uint8_t *row) {
         return n <= p->len && 8 + bitmap(n) + pad(n * wide(s, p->element)) <= p->len;
     }
     if (p->kind == 10) return p->len >= 8 && get(b, 8) % 8 == 0 && get(b, 8) <= p->len - 8;
+    if (p->kind == 7) return plain_is_text(b, p->len);
     return p->kind != 0 || b[0] < 2;
 }
 
@@ -119,6 +120,7 @@ uint64_t plain_set(const uint8_t *s, size_t slen, uint8_t *row, size_t len, cons
     if (p.kind > 8) return refused(8);
     if (p.kind > 6) {
         if (kind != 0 && kind != 5) return refused(8);
+        if (kind == 5 && p.kind == 7 && !plain_is_text(bytes, n)) return refused(8);
         if (p.null ? kind != 0 : kind != 5 || n != p.len) return refused(9);
         if (p.null) memset(row + p.slot, 0, p.wide); else memcpy(row + p.start, bytes, n);
         return 0;

@@ -18,6 +18,14 @@ static size_t one_list(struct sample *s, unsigned n, size_t w, size_t data) {
     return 16;
 }
 
+// What a text of a kind is made of: characters of one byte to four.
+static const char *letters(const char *kind) {
+    static const char *const kinds[][2] = {{"ascii", "S"}, {"binary", "S"}, {"two-byte", "\xC3\xA9"}, {"three-byte", "\xE6\xBC\xA2"}, {"four-byte", "\xF0\x9F\x99\x82"},
+                                           {"mixed", "caf\xC3\xA9, "}};
+    for (size_t i = 0; i < sizeof kinds / sizeof *kinds; i++) if (!strcmp(kinds[i][0], kind)) return kinds[i][1];
+    return NULL;
+}
+
 int make_sample(struct sample *s, const char *kind, unsigned n) {
     memset(s, 0, sizeof *s);
     s->children = n;
@@ -59,8 +67,17 @@ int make_sample(struct sample *s, const char *kind, unsigned n) {
             size_t cur = 24 + 24 * (back ? 1 - i : i);
             slot(s->row + 8 + 8 * i, cur, 24); put(s->row + cur + 8, 1000 + i, 4); put(s->row + cur + 16, 5, 4);
         }
+    } else if (letters(kind)) {                // one string of n letters, or a binary of n bytes
+        const char *letter = letters(kind);
+        size_t each = strlen(letter), size = each * n;
+        root(s, 1); mark(s, strcmp(kind, "binary") ? "st" : "bi");
+        s->row_len = 16 + pad(size);
+        if (s->row_len > sizeof s->row) return 0;
+        slot(s->row + 8, 16, size);
+        for (unsigned i = 0; i < n; i++) memcpy(s->row + 16 + each * i, letter, each);
     } else return 0;
     const uint32_t middle[] = {0, n / 2, 1}, field[] = {n / 2}, chord[] = {1, 1};
+    if (letters(kind)) { s->steps = 1; return 1; }
     int top = !strcmp(kind, "fields"), two = !strcmp(kind, "strokes");
     s->steps = top ? 1 : two || strcmp(kind, "structs") ? 2 : 3;
     memcpy(s->path, top ? field : two ? chord : middle, s->steps * sizeof *s->path);
