@@ -5,7 +5,9 @@
  * row, a batch, a log, a catalogue or an output.
  *
  * Each answers one number: the refusal's number in the upper half, 0 there for done, and in the lower half a length, or for 7 the
- * place of the first fault, counted from the row's first byte; of a schema that is added to a catalogue its number. */
+ * place of the first fault, counted from the row's first byte; of a schema that is added to a catalogue its number.
+ *
+ * A string is text, well-formed UTF-8 by RFC 3629, wherever one is written, checked, read or set; a binary takes any bytes. */
 #ifndef LOAFCOMPASS_H
 #define LOAFCOMPASS_H
 
@@ -19,13 +21,13 @@ extern "C" {
 enum loaf_refusal {
     LOAF_DONE = 0,
     LOAF_SCHEMA = 1,      /* the schema breaks its rules, or the table is not its own, or the catalogue is none that adding leaves */
-    LOAF_LISTING = 2,     /* the listing breaks its rules or does not fit the schema */
+    LOAF_LISTING = 2,     /* the listing breaks its rules or does not fit the schema, or a string in it is no text */
     LOAF_TOO_LONG = 3,    /* the row is over 16,384 bytes */
     LOAF_ROOM = 4,        /* the output is too small; the length is the length needed, of a table in words */
     LOAF_NO_PLACE = 5,    /* there is no such place */
     LOAF_NULL_BEFORE = 6, /* a null stands before the path's end */
-    LOAF_LAYOUT = 7,      /* the row breaks the layout; the place says where */
-    LOAF_UNFIT = 8,       /* the value does not fit the place */
+    LOAF_LAYOUT = 7,      /* the row breaks the layout, or a string in it is no text; the place says where */
+    LOAF_UNFIT = 8,       /* the value does not fit the place; for a string, bytes that are no text */
     LOAF_RESIZE = 9,      /* the value would change the place's size, or the nullness of a string or binary */
     LOAF_BATCH = 10,      /* the batch or the log ends inside a size or a row */
     LOAF_LOG = 11,        /* the room can't hold the log with its chord, or the numbers its chords; or the window is over 1,000 */
