@@ -1,5 +1,6 @@
 // What a caller gets back and what it asks with: refusals, outcomes, answers, settings and paths.
 // A NaN's pattern has a case of its own, because the language gives a float no NaN payload.
+#![tactic(auto)]
 pub mod floats;
 pub mod paths;
 pub mod refusals;

@@ -1,6 +1,7 @@
 // A setting that a C program asks for by a kind and a value, in a row or in a batch, plain and by a table lent beside the schema, and in a row
 // by its schema's number in a catalogue. Where they stand for none it is refused with 8, after the refusals of the table or the catalogue, of the
 // batch, of the row and of the place.
+#![tactic(auto)]
 ghost use Rattle.compare.specs.Lent.{schema_by};
 ghost use Rattle.codes.specs.Asked.{asked_of, set_asked, Leaves};
 ghost use Rattle.codes.specs.Batch.{set_asked_in};

@@ -1,5 +1,6 @@
 // Batches: frames back to back, each a row's size as 4 bytes, big endian, and the row. Each entry takes any bytes of any length and
 // ends with a result or a numbered refusal. Rows count from 0. An entry that takes a schema judges it once.
+#![tactic(auto)]
 ghost use Rattle.std.specs.Prelude.{◌≡◌, ◌+◌, ◌*◌, ◌≤◌, length};
 ghost use Rattle.schema.specs.Reading.{judged};
 ghost use Rattle.table.specs.Tables.{Table, schema_of};

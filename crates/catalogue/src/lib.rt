@@ -1,5 +1,6 @@
 // The catalogue that two parties share: schemas by number, in lent bytes. Each entry takes any bytes of any length and ends with a result or
 // a numbered refusal. The catalogue is judged in one pass, and the schema of the number as its table is worked out: none is judged twice.
+#![tactic(auto)]
 ghost use Rattle.std.specs.Prelude.{◌≡◌};
 ghost use Rattle.answers.specs.Meaning.{outcome_means, meaning, setting_of};
 ghost use Rattle.answers.specs.Paths.{path_of};

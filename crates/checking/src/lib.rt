@@ -6,6 +6,7 @@
 // Values may stand in any order, and mostly stand in the order of their slots. A loop over children holds its cursor where the next value
 // in order would stand. Where a slot says another place, the cursor moves there, and at the first such move the slots are asked, once,
 // which child is the first that can't stand where its slot says: the loop stops before that one.
+#![tactic(auto)]
 ghost use Rattle.std.specs.Prelude.{◌≡◌, true, false, [], ◌+◌, ◌≤◌, ◌<◌, length};
 ghost use Rattle.schema.specs.Types.{ro, li, ma, fixed_at};
 ghost use Rattle.schema.specs.Walk.{fields_of};

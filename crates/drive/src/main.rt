@@ -1,4 +1,5 @@
 // Requests from standard input against the library, one line each on standard output.
+#![tactic(auto)]
 ghost use Rattle.std.specs.Prelude.{◌≤◌, length};
 
 mod calls;

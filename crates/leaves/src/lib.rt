@@ -1,4 +1,5 @@
 // The card of a row that was accepted: a line of text for each of its leaves and nulls.
+#![tactic(auto)]
 ghost use Rattle.std.specs.Prelude.{◌≡◌, ◌≤◌, length};
 ghost use Rattle.table.specs.Tables.{schema_of};
 ghost use Rattle.answers.specs.Meaning.{meaning};

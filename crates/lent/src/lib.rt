@@ -1,5 +1,6 @@
 // Every entry that takes a schema, by a table lent beside it: the same answer and the same bytes where the table is the one that the schema
 // gives, and otherwise 1. The table is compared with the schema in place, and the entry goes on by it.
+#![tactic(auto)]
 ghost use Rattle.std.specs.Prelude.{◌≡◌, ◌*◌, ◌≤◌, length};
 ghost use Rattle.layout.specs.Entries.{judge_of, check_of, read_of, set_of};
 ghost use Rattle.answers.specs.Meaning.{outcome_means, meaning, setting_of};

@@ -1,4 +1,5 @@
 // Reading one place of a row by its path.
+#![tactic(auto)]
 ghost use Rattle.answers.specs.Paths.{path_of};
 ghost use Rattle.table.specs.Tables.{Table, schema_of};
 ghost use Rattle.reading.specs.Finding.{Open, Finds};

@@ -1,5 +1,6 @@
 // The library's face: each entry takes any bytes of any length and ends with a result or a numbered refusal. An entry works its schema's
 // table out once, in a room on the stack by the schema's size, and goes on by that table.
+#![tactic(auto)]
 ghost use Rattle.std.specs.Prelude.{◌≡◌, ◌*◌, ◌≤◌, length};
 ghost use Rattle.layout.specs.Entries.{judge_of, check_of, read_of, set_of};
 ghost use Rattle.answers.specs.Meaning.{outcome_means, meaning, setting_of};

@@ -1,4 +1,5 @@
 // The schema of a row: definitions in specs/, their laws in proofs/. There is no code here but the answer's name.
+#![tactic(auto)]
 #[derive(Drop)]
 pub enum Judged {
     Accepted,

@@ -1,4 +1,5 @@
 // Setting one leaf of a row by its path.
+#![tactic(auto)]
 ghost use Rattle.table.specs.Tables.{schema_of};
 ghost use Rattle.layout.specs.Entries.{set_of};
 ghost use Rattle.answers.specs.Meaning.{setting_of, given_means};

@@ -1,5 +1,6 @@
 // A catalogue's lent bytes: byte 0 the count of its schemas, and then each, its length in 2 bytes, little endian, and its bytes, back to
 // back. They are judged in one pass; what lies behind the schemas is not looked at.
+#![tactic(auto)]
 ghost use Rattle.std.specs.Prelude.{◌≡◌, ◌+◌, ◌≤◌, length};
 ghost use Rattle.compare.specs.Lent.{same};
 ghost use Rattle.words.specs.Bytes.{part};

@@ -1,5 +1,6 @@
 // The stroke log: a batch whose rows hold a chord or two, a tick and a key mask each. Each entry takes any bytes of any length and ends with
 // a result or a numbered refusal: the log is judged whole, and then 11 and 5.
+#![tactic(auto)]
 ghost use Rattle.std.specs.Prelude.{◌≡◌, ◌+◌, ◌<◌, ◌≤◌, [], ◌∷◌, length, take, slice_index_or};
 ghost use Rattle.std.proofs.Math.Option.{none, some};
 ghost use Rattle.std.proofs.lemmas.List.Edits.{sets};

@@ -1,4 +1,6 @@
 // Bytes: little-endian numbers, slots, pairs, null bits, signed numbers, padding, copies and text.
+#![tactic(auto)]
+
 pub mod copies;
 pub mod finds;
 pub mod nulls;
