@@ -1,13 +1,14 @@
 // What a caller gets back and what it asks with: refusals, outcomes, answers, settings and paths.
 // A NaN's pattern has a case of its own, because the language gives a float no NaN payload.
 #![tactic(auto)]
+
 pub mod floats;
 pub mod paths;
 pub mod refusals;
 pub mod settings;
 
 // The place of a fault counts from the row's first byte.
-#[derive(Drop)]
+#[derive(Clone, Copy)]
 pub enum Refusal {
     Schema,
     Listing,
@@ -24,20 +25,20 @@ pub enum Refusal {
     NoNumber,
 }
 
-#[derive(Drop)]
+#[derive(Clone, Copy)]
 pub enum Outcome {
     Done,
     Refused(Refusal),
 }
 
-#[derive(Drop)]
+#[derive(Clone, Copy)]
 pub enum Length {
     Done(usize),
     Refused(Refusal),
 }
 
 // Ranges count from the root row's first byte.
-#[derive(Drop)]
+#[derive(Clone, Copy)]
 pub enum Answer {
     Null,
     Bool(bool),
@@ -59,7 +60,7 @@ pub enum Answer {
 }
 
 // The bytes of a setting lie beside it, as a slice.
-#[derive(Drop)]
+#[derive(Clone, Copy)]
 pub enum Setting {
     Null,
     Bool(bool),
@@ -72,7 +73,7 @@ pub enum Setting {
 }
 
 // A setting with each float as its bits.
-#[derive(Drop)]
+#[derive(Clone, Copy)]
 pub enum Given {
     Null,
     Bool(bool),
@@ -83,7 +84,7 @@ pub enum Given {
 }
 
 // Numbers past the length play no part.
-#[derive(Drop)]
+#[derive(Clone, Copy)]
 pub struct Path {
     pub steps: [u32; 16],
     pub len: usize,

@@ -2,6 +2,7 @@
 // by its schema's number in a catalogue. Where they stand for none it is refused with 8, after the refusals of the table or the catalogue, of the
 // batch, of the row and of the place.
 #![tactic(auto)]
+
 ghost use Rattle.compare.specs.Lent.{schema_by};
 ghost use Rattle.codes.specs.Asked.{asked_of, set_asked, Leaves};
 ghost use Rattle.codes.specs.Batch.{set_asked_in};

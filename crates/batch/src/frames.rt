@@ -11,7 +11,7 @@ use answers::{Length, Refusal};
 use words::nums::wide;
 
 // What looking for a row comes to: the batch ends inside a size or a row, it has no such row, or where the row stands.
-#[derive(Drop)]
+#[derive(Clone, Copy)]
 pub enum Found {
     Broken,
     Past,

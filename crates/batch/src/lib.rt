@@ -1,6 +1,7 @@
 // Batches: frames back to back, each a row's size as 4 bytes, big endian, and the row. Each entry takes any bytes of any length and
 // ends with a result or a numbered refusal. Rows count from 0. An entry that takes a schema judges it once.
 #![tactic(auto)]
+
 ghost use Rattle.std.specs.Prelude.{◌≡◌, ◌+◌, ◌*◌, ◌≤◌, length};
 ghost use Rattle.schema.specs.Reading.{judged};
 ghost use Rattle.table.specs.Tables.{Table, schema_of};
@@ -17,21 +18,21 @@ use frames::Found;
 
 pub mod frames;
 
-#[derive(Drop)]
+#[derive(Clone, Copy)]
 pub enum Counted {
     Rows(usize),
     Refused(Refusal),
 }
 
 // A row's own bytes in the batch, without its size.
-#[derive(Drop)]
+#[derive(Clone, Copy)]
 pub enum Fetched {
     Row { start: usize, len: usize },
     Refused(Refusal),
 }
 
 // A refusal of one row comes with that row's number. The place of a 7 counts from that row's first byte.
-#[derive(Drop)]
+#[derive(Clone, Copy)]
 pub enum Checked {
     Done,
     Refused(Refusal),

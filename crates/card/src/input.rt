@@ -3,7 +3,7 @@ ghost use Rattle.std.specs.Prelude.{◌≡◌};
 ghost use Rattle.card.specs.Input.{split_of};
 
 // Where the schema of an input ends, or that the input is shorter than announced.
-#[derive(Drop)]
+#[derive(Clone, Copy)]
 pub enum Split {
     Short,
     Parts(usize),

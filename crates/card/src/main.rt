@@ -1,5 +1,6 @@
 // The card tool: a row or a batch on standard input, the leaves as lines of text on standard output, or the picture of a row.
 #![tactic(auto)]
+
 ghost use Rattle.std.specs.Prelude.{◌≡◌, length};
 ghost use Rattle.lettering.specs.Text.{Puts};
 ghost use Rattle.lettering.specs.Held.{Walked};

@@ -1,6 +1,7 @@
 // The catalogue that two parties share: schemas by number, in lent bytes. Each entry takes any bytes of any length and ends with a result or
 // a numbered refusal. The catalogue is judged in one pass, and the schema of the number as its table is worked out: none is judged twice.
 #![tactic(auto)]
+
 ghost use Rattle.std.specs.Prelude.{◌≡◌};
 ghost use Rattle.answers.specs.Meaning.{outcome_means, meaning, setting_of};
 ghost use Rattle.answers.specs.Paths.{path_of};
@@ -12,14 +13,14 @@ ghost use Rattle.catalogue.specs.Meaning.{StandsAs, Entering, Adds, ListsAt, Wri
 use answers::{Answer, Length, Outcome, Path, Refusal, Setting};
 use shelf::Found;
 
-#[derive(Drop)]
+#[derive(Clone, Copy)]
 pub enum Numbered {
     Number(usize),
     Refused(Refusal),
 }
 
 // Where a schema stands in lent bytes: at its number, or behind the schemas that are there, which end at a place; not where they are no catalogue.
-#[derive(Drop)]
+#[derive(Clone, Copy)]
 enum Standing {
     Nowhere,
     At(usize),

@@ -1,6 +1,7 @@
 // Which label each 8 bytes of a row have: a chart of 18 words for each, what stands there (0: nothing said), its path's length, and the
 // path's sixteen steps.
 #![tactic(auto)]
+
 ghost use Rattle.std.specs.Prelude.{◌≡◌, ◌<◌};
 ghost use Rattle.table.specs.Tables.{schema_of};
 ghost use Rattle.reading.specs.Finding.{Open};

@@ -7,6 +7,7 @@
 // in order would stand. Where a slot says another place, the cursor moves there, and at the first such move the slots are asked, once,
 // which child is the first that can't stand where its slot says: the loop stops before that one.
 #![tactic(auto)]
+
 ghost use Rattle.std.specs.Prelude.{◌≡◌, true, false, [], ◌+◌, ◌≤◌, ◌<◌, length};
 ghost use Rattle.schema.specs.Types.{ro, li, ma, fixed_at};
 ghost use Rattle.schema.specs.Walk.{fields_of};
@@ -22,7 +23,7 @@ mod binaries;
 mod lists;
 
 // What checking a row comes to: the place of the first fault counts from the row's first byte.
-#[derive(Drop)]
+#[derive(Clone, Copy)]
 pub enum Checked {
     Sound,
     Broken { place: usize },

@@ -1,5 +1,6 @@
 // One row of a log: which rows a log may have, the chords that a row holds, and the row that holds a chord or two.
 #![tactic(auto)]
+
 ghost use Rattle.std.specs.Prelude.{◌≡◌, true, false, ◌+◌, ◌*◌, ◌≤◌, ◌<◌, length};
 ghost use Rattle.std.proofs.Math.Option.{none, some};
 ghost use Rattle.std.proofs.lemmas.List.Edits.{sets};
@@ -15,7 +16,7 @@ use words::nums::{get4, get8, put8};
 use words::slots::{offset_at, slot};
 
 // A tick and a key mask.
-#[derive(Drop)]
+#[derive(Clone, Copy)]
 pub struct Chord {
     pub tick: u32,
     pub keys: u32,

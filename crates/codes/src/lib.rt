@@ -1,5 +1,6 @@
 // An answer as a C program gets it: one 64-bit code, and words lent beside it; a path and a setting as it gives them.
 #![tactic(auto)]
+
 ghost use Rattle.std.specs.Prelude.{◌≡◌};
 ghost use Rattle.layout.specs.Setting.{refusal_in, ◌or◌};
 ghost use Rattle.answers.specs.Meaning.{refusal_means, outcome_means, length_means, meaning, Numbered};
@@ -18,7 +19,7 @@ pub mod numbers;
 pub mod told;
 
 // What a kind and a value ask for: nothing that there is, or a setting.
-#[derive(Drop)]
+#[derive(Clone, Copy)]
 pub enum Asked {
     Nothing,
     Of(Setting),

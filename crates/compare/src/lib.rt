@@ -1,6 +1,7 @@
 // Whether a lent table is the one that its schema gives: the schema and the table are walked side by side, once, with no room but a frame
 // for each container that is open.
 #![tactic(auto)]
+
 ghost use Rattle.std.specs.Prelude.{◌≡◌};
 ghost use Rattle.compare.specs.Lent.{Gives};
 ghost use Rattle.compare.specs.Lines.{leaves_of, is_leaf, held_by};

@@ -1,6 +1,7 @@
 // The entries under C names. Each answers the refusal's number times 2^32, plus the length, or of a 7 the place; 0 in the upper half is
 // done.
 #![tactic(auto)]
+
 ghost use Rattle.std.specs.Prelude.{◌≡◌, length};
 ghost use Rattle.layout.specs.Entries.{judge_of, check_of, write_of, written_of, list_of, listed_of, read_of};
 ghost use Rattle.codes.specs.Asked.{asked_of, set_asked, Leaves};

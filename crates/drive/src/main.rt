@@ -1,5 +1,6 @@
 // Requests from standard input against the library, one line each on standard output.
 #![tactic(auto)]
+
 ghost use Rattle.std.specs.Prelude.{◌≤◌, length};
 
 mod calls;

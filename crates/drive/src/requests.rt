@@ -22,7 +22,7 @@ const BY_TABLE: u8 = 0x80;
 
 // The lengths count bytes, `steps` the steps of 4 bytes each, and `room` the bytes lent for an output, the words for a table, or the numbers
 // for a log's chords.
-#[derive(Drop)]
+#[derive(Clone, Copy)]
 pub struct Head {
     pub op: u8,
     pub schema: usize,
@@ -35,7 +35,7 @@ pub struct Head {
     pub value: u64,
 }
 
-#[derive(Drop)]
+#[derive(Clone, Copy)]
 enum Start {
     Nothing,
     Cut,

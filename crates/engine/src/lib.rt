@@ -1,5 +1,6 @@
 // Check, list and set by the table of an accepted schema: a layer below the entries, which asks for a table that was built.
 #![tactic(auto)]
+
 ghost use Rattle.std.specs.Prelude.{◌≡◌};
 ghost use Rattle.layout.specs.Entries.{check_of, set_of};
 ghost use Rattle.answers.specs.Meaning.{outcome_means, setting_of};

@@ -1,5 +1,6 @@
 // The card of a row that was accepted: a line of text for each of its leaves and nulls.
 #![tactic(auto)]
+
 ghost use Rattle.std.specs.Prelude.{◌≡◌, ◌≤◌, length};
 ghost use Rattle.table.specs.Tables.{schema_of};
 ghost use Rattle.answers.specs.Meaning.{meaning};
@@ -16,7 +17,7 @@ use reading::{Found, TypeParts};
 mod lines;
 
 // What a place comes to: where the text ends behind its line, and how many places are right below it.
-#[derive(Drop)]
+#[derive(Clone, Copy)]
 pub struct Shown {
     pub next: usize,
     pub count: usize,

@@ -1,6 +1,7 @@
 // Every entry that takes a schema, by a table lent beside it: the same answer and the same bytes where the table is the one that the schema
 // gives, and otherwise 1. The table is compared with the schema in place, and the entry goes on by it.
 #![tactic(auto)]
+
 ghost use Rattle.std.specs.Prelude.{◌≡◌, ◌*◌, ◌≤◌, length};
 ghost use Rattle.layout.specs.Entries.{judge_of, check_of, read_of, set_of};
 ghost use Rattle.answers.specs.Meaning.{outcome_means, meaning, setting_of};
@@ -168,7 +169,7 @@ pub fn text_or_by<'a>(
 }
 
 // A row held with its schema and its table, all lent. Opening judges nothing: each question gets the plain read's answer, refusals included.
-#[derive(Drop)]
+#[derive(Clone, Copy)]
 pub struct OpenedBy<'a> {
     pub schema: &'a [u8],
     pub table: &'a [u64],

@@ -1,5 +1,6 @@
 // Text for standard output: numbers, bytes and paths, put into lent bytes and printed where they grow long.
 #![tactic(auto)]
+
 ghost use Rattle.std.specs.Prelude.{◌≤◌, length};
 ghost use Rattle.lettering.specs.Held.{Spilt};
 

@@ -1,6 +1,7 @@
 // Listing a row that was checked, back into records: a cycle over value, struct, list and map, with remaining depth falling along the
 // calls, and loops over the children. A type is its entry w of the schema's table t, which stands at a place there.
 #![tactic(auto)]
+
 ghost use Rattle.std.specs.Prelude.{◌≡◌, ◌++◌, ◌≤◌, length};
 ghost use Rattle.std.proofs.Math.Option.{none};
 ghost use Rattle.words.specs.Bytes.{le, part};

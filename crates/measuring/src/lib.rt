@@ -2,6 +2,7 @@
 // A measure is one number and stays in a register: where the listing goes on in the low half, and the bytes in the high half. It is 0
 // where the listing is refused. What a container holds is whole words, so only a text is padded.
 #![tactic(auto)]
+
 ghost use Rattle.std.specs.Prelude.{◌≡◌, ◌+◌, ◌*◌, ◌≤◌, ◌<◌};
 ghost use Rattle.words.specs.Bytes.{bitmap, pad};
 ghost use Rattle.schema.specs.Marks.{element_width};

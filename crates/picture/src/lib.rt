@@ -1,5 +1,6 @@
 // The picture of a row: a line for each 8 of its bytes, and a mark under its first wrong byte.
 #![tactic(auto)]
+
 ghost use Rattle.std.specs.Prelude.{◌≡◌, ◌+◌, ◌*◌, ◌≤◌, ◌<◌, length};
 ghost use Rattle.words.specs.Bytes.{part, zeros};
 ghost use Rattle.answers.specs.Paths.{path_of};

@@ -1,6 +1,7 @@
 // Writing the row of a listing that was measured, by the schema's table. An answer is two numbers in one word (words::pairs): in its low
 // half where the listing goes on, in its high half where what was written ends.
 #![tactic(auto)]
+
 ghost use Rattle.std.specs.Prelude.{◌≡◌, length};
 ghost use Rattle.std.proofs.Math.Option.{some};
 ghost use Rattle.words.specs.Pairs.{low_in, high_in};

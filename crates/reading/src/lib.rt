@@ -1,5 +1,6 @@
 // Reading one place of a row by its path.
 #![tactic(auto)]
+
 ghost use Rattle.answers.specs.Paths.{path_of};
 ghost use Rattle.table.specs.Tables.{Table, schema_of};
 ghost use Rattle.reading.specs.Finding.{Open, Finds};
@@ -15,7 +16,7 @@ pub mod values;
 mod walk;
 
 // A type taken apart: its kind, the place of the first that it holds, and its entry. A map's array is a list, with the map's entry.
-#[derive(Drop)]
+#[derive(Clone, Copy)]
 pub struct TypeParts {
     pub kind: usize,
     pub first: usize,
@@ -24,7 +25,7 @@ pub struct TypeParts {
 
 // Where a child stands: its container's bitmap starts at the row's byte `bits` and it is child `number`; its slot or element starts at
 // the row's byte `slot` and has `wide` bytes.
-#[derive(Drop)]
+#[derive(Clone, Copy)]
 pub struct Seat {
     pub bits: usize,
     pub number: usize,
@@ -33,7 +34,7 @@ pub struct Seat {
 }
 
 // A place of the row: its type, its seat, and where its bytes start and how many they are.
-#[derive(Drop)]
+#[derive(Clone, Copy)]
 pub struct Place {
     pub opened: TypeParts,
     pub seat: Seat,
@@ -42,7 +43,7 @@ pub struct Place {
 }
 
 // Where a child's bytes are: its slot breaks the layout, at a byte of the row; it is null; or its start and size in the row.
-#[derive(Drop)]
+#[derive(Clone, Copy)]
 enum Child {
     Broken(usize),
     Null(Seat),
@@ -50,14 +51,14 @@ enum Child {
 }
 
 // The type that a step leads to by the schema alone.
-#[derive(Drop)]
+#[derive(Clone, Copy)]
 enum Lot {
     Nowhere,
     Of(TypeParts),
 }
 
 // What a step comes to: no such place, a slot that breaks the layout, at a byte of the row, a null of a type, or a place.
-#[derive(Drop)]
+#[derive(Clone, Copy)]
 enum Next {
     Nowhere,
     Broken(usize),
@@ -67,7 +68,7 @@ enum Next {
 
 // What a walk comes to: no such place, a null before the path's end, a place that breaks the layout, at a byte of the row, a null of a
 // type at the path's end, or the place.
-#[derive(Drop)]
+#[derive(Clone, Copy)]
 pub enum Found {
     NoPlace,
     NullBefore,

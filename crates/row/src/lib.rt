@@ -1,6 +1,7 @@
 // The library's face: each entry takes any bytes of any length and ends with a result or a numbered refusal. An entry works its schema's
 // table out once, in a room on the stack by the schema's size, and goes on by that table.
 #![tactic(auto)]
+
 ghost use Rattle.std.specs.Prelude.{◌≡◌, ◌*◌, ◌≤◌, length};
 ghost use Rattle.layout.specs.Entries.{judge_of, check_of, read_of, set_of};
 ghost use Rattle.answers.specs.Meaning.{outcome_means, meaning, setting_of};
@@ -237,7 +238,7 @@ pub fn text_or<'a>(schema: &[u8], row: &'a [u8], path: Path, stand_in: &'a [u8])
 }
 
 // A row held with its schema, both lent. Opening judges nothing: each question gets the plain read's answer, refusals included.
-#[derive(Drop)]
+#[derive(Clone, Copy)]
 pub struct Opened<'a> {
     pub schema: &'a [u8],
     pub row: &'a [u8],

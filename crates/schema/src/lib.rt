@@ -1,6 +1,7 @@
 // The schema of a row: definitions in specs/, their laws in proofs/. There is no code here but the answer's name.
 #![tactic(auto)]
-#[derive(Drop)]
+
+#[derive(Clone, Copy)]
 pub enum Judged {
     Accepted,
     Refused,

@@ -1,5 +1,6 @@
 // Setting one leaf of a row by its path.
 #![tactic(auto)]
+
 ghost use Rattle.table.specs.Tables.{schema_of};
 ghost use Rattle.layout.specs.Entries.{set_of};
 ghost use Rattle.answers.specs.Meaning.{setting_of, given_means};
@@ -16,7 +17,7 @@ mod puts;
 mod texts;
 
 // What a setting comes to at a leaf of a fixed width: it doesn't fit, null, or the number whose bytes are written.
-#[derive(Drop)]
+#[derive(Clone, Copy)]
 enum Leaf {
     Unfit,
     Null,

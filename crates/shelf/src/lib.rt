@@ -1,6 +1,7 @@
 // A catalogue's lent bytes: byte 0 the count of its schemas, and then each, its length in 2 bytes, little endian, and its bytes, back to
 // back. They are judged in one pass; what lies behind the schemas is not looked at.
 #![tactic(auto)]
+
 ghost use Rattle.std.specs.Prelude.{◌≡◌, ◌+◌, ◌≤◌, length};
 ghost use Rattle.compare.specs.Lent.{same};
 ghost use Rattle.words.specs.Bytes.{part};
@@ -111,7 +112,7 @@ fn start_of(t: &[u8], k: usize) -> usize
 }
 
 // Where the schema of a number lies. Its own rules are left to whoever works its table out: no schema is judged twice.
-#[derive(Drop)]
+#[derive(Clone, Copy)]
 pub enum Found {
     Broken,
     Past,

@@ -1,6 +1,7 @@
 // What a string's and a binary's type asks of its bytes: wherever one is written, checked, read or set, this is asked. Most strings are
 // short and ASCII: one word tells of them, with what stands beside them in b, and only the others are walked.
 #![tactic(auto)]
+
 ghost use Rattle.std.specs.Prelude.{◌-◌, ◌≤◌, length};
 ghost use Rattle.words.specs.Bytes.{part};
 ghost use Rattle.schema.specs.Types.{st, text_at};

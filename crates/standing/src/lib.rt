@@ -1,6 +1,7 @@
 // The first child of a container whose value can't stand where its slot says, alone or beside those before it: by the slots alone, for
 // containers whose values stand in any order.
 #![tactic(auto)]
+
 ghost use Rattle.std.specs.Prelude.{true, ◌+◌, ◌*◌};
 ghost use Rattle.words.specs.Bytes.{bitmap};
 ghost use Rattle.standing.specs.Standing.{SlotsIn, FieldsFrom, FirstUnfit, field_varies};

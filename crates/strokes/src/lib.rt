@@ -1,6 +1,7 @@
 // The stroke log: a batch whose rows hold a chord or two, a tick and a key mask each. Each entry takes any bytes of any length and ends with
 // a result or a numbered refusal: the log is judged whole, and then 11 and 5.
 #![tactic(auto)]
+
 ghost use Rattle.std.specs.Prelude.{◌≡◌, ◌+◌, ◌<◌, ◌≤◌, [], ◌∷◌, length, take, slice_index_or};
 ghost use Rattle.std.proofs.Math.Option.{none, some};
 ghost use Rattle.std.proofs.lemmas.List.Edits.{sets};
@@ -17,14 +18,14 @@ use batch::{Counted, frames};
 use chords::Chord;
 
 // What one chord of a log reads as.
-#[derive(Drop)]
+#[derive(Clone, Copy)]
 pub enum Struck {
     Chord(Chord),
     Refused(Refusal),
 }
 
 // What judging a log comes to: where the frame of its last row starts, and how many chords it has; or a refusal.
-#[derive(Drop)]
+#[derive(Clone, Copy)]
 enum Judged {
     Sound { last: usize, count: usize },
     Refused(Refusal),

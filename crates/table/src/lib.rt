@@ -1,5 +1,6 @@
 // The table of a schema: for each type an entry of one word, in the schema's order.
 #![tactic(auto)]
+
 ghost use Rattle.std.specs.Prelude.{◌≡◌, ◌+◌, ◌*◌, ◌<◌, ◌≤◌, length};
 ghost use Rattle.schema.specs.Marks.{element_width, LIST};
 ghost use Rattle.table.specs.Words.{MarkAt, line_for, lines_of, held_at, behind_at, Lined, place_in, mark_in, width_in, top_in, count_in, after_in};

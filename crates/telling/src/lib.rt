@@ -1,5 +1,6 @@
 // What a call answered, as text at the start of a lent line. Each function is proved safe and ending; the text is tested, and not promised.
 #![tactic(auto)]
+
 use answers::{Answer, Length, Refusal, floats, refusals};
 use batch::{Checked, Counted, Fetched};
 use strokes::Struck;

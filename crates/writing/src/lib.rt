@@ -1,5 +1,6 @@
 // Writing a row from a listing: the whole listing is judged and measured first, so that nothing is written where it is refused.
 #![tactic(auto)]
+
 ghost use Rattle.std.specs.Prelude.{◌≡◌, length};
 ghost use Rattle.layout.specs.Entries.{write_of, written_of};
 ghost use Rattle.answers.specs.Meaning.{length_means};
