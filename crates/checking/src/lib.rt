@@ -166,7 +166,7 @@ fn is_plain(t: &[u64], first: usize, n: usize, depth: usize, b: &[u8]) -> bool
 }
 
 // A struct of n fields, whose types stand from a place on: its size and bitmap, then the fields.
-#[cycle(check_fields_check_items_check_list_check_map_check_struct)]
+#[cycle(checks)]
 fn check_struct(t: &[u64], first: usize, n: usize, depth: usize, b: &[u8]) -> usize
     requires { Fields t.now first n depth b.now }
     ensures { result ≡ fault_of (ro (types_of t.now first depth n)) b.now }
@@ -185,7 +185,7 @@ fn check_struct(t: &[u64], first: usize, n: usize, depth: usize, b: &[u8]) -> us
 }
 
 // A list of the type at a place: its size, header and bitmap, then its elements by their kind.
-#[cycle(check_fields_check_items_check_list_check_map_check_struct)]
+#[cycle(checks)]
 fn check_list(t: &[u64], c: usize, depth: usize, b: &[u8]) -> usize
     requires { Holding t.now c depth b.now }
     ensures { result ≡ fault_of (li (type_of t.now c depth)) b.now }
@@ -228,7 +228,7 @@ fn check_list(t: &[u64], c: usize, depth: usize, b: &[u8]) -> usize
 
 // Elements that are containers. Their kind is asked here, as that of fields in `check_fields`: a function between would cost each of them
 // another call.
-#[cycle(check_fields_check_items_check_list_check_map_check_struct)]
+#[cycle(checks)]
 fn check_items(t: &[u64], c: usize, depth: usize, w: u64, b: &[u8], n: usize) -> usize
     requires { Items t.now c depth w b.now n }
     ensures { result ≡ fault_from 8 8 (elements (type_of t.now c depth) n) b.now 0 [] }
@@ -295,7 +295,7 @@ fn check_items(t: &[u64], c: usize, depth: usize, w: u64, b: &[u8], n: usize) ->
 }
 
 // A map: K, the two arrays, and equal counts.
-#[cycle(check_fields_check_items_check_list_check_map_check_struct)]
+#[cycle(checks)]
 fn check_map(t: &[u64], k: usize, v: usize, depth: usize, b: &[u8]) -> usize
     requires { Pair t.now k v depth b.now }
     ensures { result ≡ fault_of (ma (type_of t.now k depth) (type_of t.now v depth)) b.now }
@@ -332,7 +332,7 @@ fn check_map(t: &[u64], k: usize, v: usize, depth: usize, b: &[u8]) -> usize
 }
 
 // The n fields of a struct, whose types stand from a place on: leaves are judged in the loop, only containers by a call.
-#[cycle(check_fields_check_items_check_list_check_map_check_struct)]
+#[cycle(checks)]
 fn check_fields(t: &[u64], first: usize, n: usize, depth: usize, b: &[u8]) -> usize
     requires { FieldsFrom t.now first depth n b.now }
     ensures { result ≡ fault_from 0 8 (kids (types_of t.now first depth n)) b.now 0 [] }

@@ -111,6 +111,8 @@ Alike w (k ∷ ks) (j ∷ js) = AlikeOne w k j × Alike w ks js
 alike-length : (w : ℕ) (ks : List Kid) (js : List Child) → Alike w ks js → length js ≡ length ks
 alike-length w [] [] m = refl
 alike-length w (k ∷ ks) (j ∷ js) m = ap suc (alike-length w ks js m.1)
+alike-length w [] (j ∷ js) m = elim m [ ]
+alike-length w (k ∷ ks) [] m = elim m [ ]
 
 module _ (w at : ℕ) (d : List ℕ) where
   all-forth : (ks : List Kid) (js : List Child) → Alike w ks js → (cs : List Cell) (s : List ℕ) (vs : List Value) (rs : List Range)
@@ -128,6 +130,10 @@ module _ (w at : ℕ) (d : List ℕ) where
         are = t.are;
         good = t.good;
       }
+  all-forth [] [] m (x ∷ cs) s vs rs y g = elim y [ ]
+  all-forth [] (j ∷ js) m cs s vs rs y g = elim m [ ]
+  all-forth (k ∷ ks) [] m cs s vs rs y g = elim m [ ]
+  all-forth (k ∷ ks) (j ∷ js) m [] s vs rs y g = elim y [ ]
 
   all_back : (ks : List Kid) (js : List Child) → Alike w ks js → (cs : List Cell) (s : List ℕ) (vs vs' : List Value) → Slots w js cs s vs vs' → Good at d vs'
       → AllLay w at d ks cs s (ranges vs) (ranges vs') × Good at d vs
@@ -137,6 +143,10 @@ module _ (w at : ℕ) (d : List ℕ) where
       let t = all_back ks js m.1 cs y.left y.values vs' y.others g in
       let r = m.0.back at d x y.slot vs y.values y.one t.1 in
       (record { slot = y.slot; left = y.left; ranges = ranges y.values; whole = y.whole; one = r.0; others = t.0 }, r.1)
+  all_back [] [] m (x ∷ cs) s vs vs' y g = elim y [ ]
+  all_back [] (j ∷ js) m cs s vs vs' y g = elim m [ ]
+  all_back (k ∷ ks) [] m cs s vs vs' y g = elim m [ ]
+  all_back (k ∷ ks) (j ∷ js) m [] s vs vs' y g = elim y [ ]
 
 -- ---- bodies
 
@@ -291,6 +301,8 @@ module _ (w : ℕ) where
         slotted = record { slot = o.slots; left = r.slots; values = r.values; whole = refl; one = o.slotted; others = r.slotted };
         are = o.are;
       }
+  move_all [] (c ∷ cs) s vs vs' ws' y e = elim y [ ]
+  move_all (k ∷ ks) [] s vs vs' ws' y e = elim y [ ]
 
 -- a container's bytes in which the values have these bytes, child by child, and stand in this order
 pub record Ordered (h w : ℕ) (ks : List Child) (cs : List Cell) {us ws : List (List ℕ)} (o : Order us ws) : Type 0 where

@@ -112,6 +112,8 @@ pub all-length : (w : ℕ) (ks : List Kid) (cs : List Cell) → AllFit w ks cs �
 unfolding AllFit
 all-length w [] [] f = refl
 all-length w (k ∷ ks) (c ∷ cs) f = ap suc (all-length w ks cs f.1)
+all-length w [] (c ∷ cs) f = elim f [ ]
+all-length w (k ∷ ks) [] f = elim f [ ]
 
 -- slots of w bytes, and data for what the ranges add
 pub record AllTake (w : ℕ) (ks : List Kid) (cs : List Cell) (s : List ℕ) (rs rs' : List Range) : Type 0 where
@@ -127,6 +129,8 @@ module _ (w at : ℕ) (d : List ℕ) where
     all_fit ks cs y.left y.ranges rs' l.1
         y.others,
   )
+  all_fit [] (c ∷ cs) s rs rs' l y = elim y [ ]
+  all_fit (k ∷ ks) [] s rs rs' l y = elim y [ ]
 
   pub all_take : (ks : List Kid) (cs : List Cell) (s : List ℕ) (rs rs' : List Range) → AllLawful w ks → AllLay w at d ks cs s rs rs' → AllTake w ks cs s rs rs'
   unfolding AllLay tails
@@ -138,6 +142,8 @@ module _ (w at : ℕ) (d : List ℕ) where
         slots = rw (← y.whole, length-append) (omega (arith, a.slot, b.slots));
         adds = rw length-append (omega (arith, a.adds, b.adds));
       }
+  all_take [] (c ∷ cs) s rs rs' l y = elim y [ ]
+  all_take (k ∷ ks) [] s rs rs' l y = elim y [ ]
 
   pub reads-back : (ks : List Kid) (j : ℕ) (cs : List Cell) (s : List ℕ) (rs rs' : List Range) → AllLawful w ks → AllLay w at d ks cs s rs rs'
       → at + length d < 2 ^ 32
@@ -155,6 +161,8 @@ module _ (w at : ℕ) (d : List ℕ) where
         kid-back w k l.0 j at d rs c y.slot y.ranges y.one b,
         reads-back ks (j + w) cs y.left y.ranges rs' l.1 y.others b,
       )
+  reads-back [] j (c ∷ cs) s rs rs' l y b = elim y [ ]
+  reads-back (k ∷ ks) j [] s rs rs' l y b = elim y [ ]
 
   pub reads-forth : (ks : List Kid) (j m : ℕ) (s : List ℕ) (rs : List Range) → AllLawful w ks → m < 2 ^ length ks → length s ≡ length ks * w → Bytes s → Bytes d
       → When (λ p. (flags p.0 ≡ m) × AllLay w at d ks p.0 s rs p.1) (reads w at d ks j m s rs)
@@ -206,12 +214,16 @@ all_laid w at d (k ∷ ks) (c ∷ cs) rs l f p n o =
       };
       ends = z.ends;
     }
+all_laid w at d [] (c ∷ cs) rs l f p n o = elim f [ ]
+all_laid w at d (k ∷ ks) [] rs l f p n o = elim f [ ]
 
 pub slots_length : (w at : ℕ) (ks : List Kid) (cs : List Cell) → AllLawful w ks → AllFit w ks cs → length (slots at ks cs) ≡ length ks * w
 unfolding AllFit slots
 slots_length w at [] [] l f = omega arith
 slots_length w at (k ∷ ks) (c ∷ cs) l f =
     rw (length-append, kid-wide w k l.0 at c f.0, slots_length w (at + length (kid_tail k c)) ks cs l.1 f.1) (omega arith)
+slots_length w at [] (c ∷ cs) l f = elim f [ ]
+slots_length w at (k ∷ ks) [] l f = elim f [ ]
 
 pub tails-eight : (w : ℕ) (ks : List Kid) (cs : List Cell) → AllLawful w ks → length (tails ks cs) % 8 ≡ 0
 unfolding tails
@@ -224,11 +236,15 @@ pub slots-proper : (w at : ℕ) (ks : List Kid) (cs : List Cell) → AllLawful w
 unfolding AllFit slots
 slots-proper w at [] [] l f = empty
 slots-proper w at (k ∷ ks) (c ∷ cs) l f = bytes-append (kid-slotted w k l.0 at c f.0) (slots-proper w (at + length (kid_tail k c)) ks cs l.1 f.1)
+slots-proper w at [] (c ∷ cs) l f = elim f [ ]
+slots-proper w at (k ∷ ks) [] l f = elim f [ ]
 
 pub tails-proper : (w : ℕ) (ks : List Kid) (cs : List Cell) → AllLawful w ks → AllFit w ks cs → Bytes (tails ks cs)
 unfolding AllFit tails
 tails-proper w [] [] l f = empty
 tails-proper w (k ∷ ks) (c ∷ cs) l f = bytes-append (kid-proper w k l.0 c f.0) (tails-proper w ks cs l.1 f.1)
+tails-proper w [] (c ∷ cs) l f = elim f [ ]
+tails-proper w (k ∷ ks) [] l f = elim f [ ]
 
 -- zeros under the nulls: they still fit, and their data takes as many bytes
 pub record AllCleaned (w : ℕ) (ks : List Kid) (cs : List Cell) : Type 0 where
@@ -242,6 +258,8 @@ all-cleaned w (k ∷ ks) (c ∷ cs) l f =
     let a = kid-cleaned w k l.0 c f.0 in
     let b = all-cleaned w ks cs l.1 f.1 in
     record { fit = (a.fits, b.fit); size = rw (length-append, length-append, a.size, b.size) }
+all-cleaned w [] (c ∷ cs) l f = elim f [ ]
+all-cleaned w (k ∷ ks) [] l f = elim f [ ]
 
 -- ---- the bitmap as a number
 

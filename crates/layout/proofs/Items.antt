@@ -220,22 +220,36 @@ unfolding run_put
 run-same w [] [] cs l = refl
 run-same w (k ∷ ks) (s ∷ ss) [] l = refl
 run-same w (k ∷ ks) (s ∷ ss) (c ∷ cs) l = rw (l.0.same c, run-same w ks ss cs l.1)
+run-same w [] (s ∷ ss) cs l = elim l [ ]
+run-same w (k ∷ ks) [] cs l = elim l [ ]
 
 pub run-proper : (w : ℕ) (ks : List Kid) (ss : List Script) (cs : List Cell) → AllScripted w ks ss → AllFit w ks cs → Bytes (run_put ss cs)
 unfolding AllFit run_put
 run-proper w [] [] [] l f = empty
 run-proper w (k ∷ ks) (s ∷ ss) (c ∷ cs) l f = bytes-append (l.0.proper c f.0) (run-proper w ks ss cs l.1 f.1)
+run-proper w [] [] (c ∷ cs) l f = elim f [ ]
+run-proper w [] (s ∷ ss) cs l f = elim l [ ]
+run-proper w (k ∷ ks) [] cs l f = elim l [ ]
+run-proper w (k ∷ ks) (s ∷ ss) [] l f = elim f [ ]
 
 pub run_long : (w : ℕ) (ks : List Kid) (ss : List Script) (cs : List Cell) → AllScripted w ks ss → AllFit w ks cs → length cs ≤ length (run_put ss cs)
 unfolding AllFit run_put
 run_long w [] [] [] l f = omega arith
 run_long w (k ∷ ks) (s ∷ ss) (c ∷ cs) l f = rw length-append (omega (arith, l.0.long c f.0, run_long w ks ss cs l.1 f.1))
+run_long w [] [] (c ∷ cs) l f = elim f [ ]
+run_long w [] (s ∷ ss) cs l f = elim l [ ]
+run_long w (k ∷ ks) [] cs l f = elim l [ ]
+run_long w (k ∷ ks) (s ∷ ss) [] l f = elim f [ ]
 
 pub run_short : (w : ℕ) (ks : List Kid) (ss : List Script) (cs : List Cell) → AllScripted w ks ss → AllFit w ks cs
     → length (run_put ss cs) ≤ 3 * (length ks * w + length (tails ks cs))
 unfolding AllFit run_put tails
 run_short w [] [] [] l f = omega arith
 run_short w (k ∷ ks) (s ∷ ss) (c ∷ cs) l f = rw (length-append, length-append) (omega (arith, l.0.short c f.0, run_short w ks ss cs l.1 f.1))
+run_short w [] [] (c ∷ cs) l f = elim f [ ]
+run_short w [] (s ∷ ss) cs l f = elim l [ ]
+run_short w (k ∷ ks) [] cs l f = elim l [ ]
+run_short w (k ∷ ks) (s ∷ ss) [] l f = elim f [ ]
 
 pub run-back : (w : ℕ) (ks : List Kid) (ss : List Script) (cs : List Cell) (r : List ℕ) → AllScripted w ks ss → AllFit w ks cs → length (run_put ss cs) < 2 ^ 32
     → run_get ss (run_put ss cs ++ r) ≡ some (map clean cs, r)
@@ -244,6 +258,10 @@ run-back w [] [] [] r l f h = refl
 run-back w (k ∷ ks) (s ∷ ss) (c ∷ cs) r l f h =
     let n = length-append (s.put c) (run_put ss cs) in
     rw (append_assoc, l.0.back c (run_put ss cs ++ r) f.0 (omega arith), run-back w ks ss cs r l.1 f.1 (omega arith))
+run-back w [] [] (c ∷ cs) r l f h = elim f [ ]
+run-back w [] (s ∷ ss) cs r l f h = elim l [ ]
+run-back w (k ∷ ks) [] cs r l f h = elim l [ ]
+run-back w (k ∷ ks) (s ∷ ss) [] r l f h = elim f [ ]
 
 pub record RunListed (w : ℕ) (ks : List Kid) (ss : List Script) (b : List ℕ) (p : List Cell × List ℕ) : Type 0 where
   pub fit : AllFit w ks p.0
@@ -264,6 +282,8 @@ run-forth w (k ∷ ks) (s ∷ ss) b l h =
       rest =
           q.rest;
     })
+run-forth w [] (s ∷ ss) b l h = elim l [ ]
+run-forth w (k ∷ ks) [] b l h = elim l [ ]
 
 pub repeat-scripted : (w n : ℕ) (k : Kid) (s : Script) → ScriptedKid w k s → AllScripted w (replicate n k) (replicate n s)
 repeat-scripted w zero k s l = tt

@@ -159,6 +159,8 @@ unfolding AllFit
 fit_at w [] [] i f h = absurd (omega arith)
 fit_at w (k ∷ ks) (c ∷ cs) zero f h = f.0
 fit_at w (k ∷ ks) (c ∷ cs) (suc i) f h = fit_at w ks cs i f.1 (omega arith)
+fit_at w [] (c ∷ cs) i f h = elim f [ ]
+fit_at w (k ∷ ks) [] i f h = elim f [ ]
 
 null-fit : (w : ℕ) (k : Kid) (c : Cell) (u : List ℕ) → c ≡ null u → kid_fits w k c → length u ≡ w
 unfolding on_null

@@ -103,10 +103,10 @@ behind at stop r [] c h = tt
 behind at stop r (q ∷ qs) c h = (inl (omega arith), behind (q.start + q.size) stop r qs c.1 (omega arith))
 
 -- one taken out of a chain: it was apart from the others, and they are a chain
-out : (at stop : ℕ) (r : Range) {qs qs' : List Range} → Insert r qs qs' → Chain at qs' stop
+out : (r : Range) (at stop : ℕ) {qs qs' : List Range} → Insert r qs qs' → Chain at qs' stop
     → (at ≤ r.start) × (r.start + r.size ≤ stop) × Aparts r qs × Chain at qs stop
 unfolding Chain
-out at stop r (here {ys = qs}) c = (
+out r at stop (here {ys = qs}) c = (
   c.0,
   omega (arith, chain-room (r.start + r.size) stop qs c.1),
   behind (r.start + r.size) stop r qs c.1 (omega arith),
@@ -116,8 +116,8 @@ out at stop r (here {ys = qs}) c = (
     wider : (at at' stop : ℕ) (qs : List Range) → at ≤ at' → Chain at' qs stop → Chain at qs stop
     wider at at' stop [] l c = omega arith
     wider at at' stop (q ∷ qs) l c = (omega arith, c.1)
-out at stop r (there {y = q} i) c =
-    let o = out (q.start + q.size) stop r i c.1 in
+out r at stop (there {y = q} i) c =
+    let o = out r (q.start + q.size) stop i c.1 in
     (omega arith, o.1, (inr o.0, o.2), (c.0, o.3))
 
 abbrev pub Eights : List Range → Type 0
@@ -157,7 +157,7 @@ order-out x (put {x = r} o i) a = let p = apart_out x r i a in (p.0, order-out x
 standing-of : (at stop : ℕ) {rs qs : List Range} → Order rs qs → Chain at qs stop → Even qs → Standing at stop rs
 standing-of at stop nothing c e = tt
 standing-of at stop (put {x = r} o i) c e =
-    let p = out at stop r i c in
+    let p = out r at stop i c in
     let q = out-even r i e in
     (record { low = p.0; high = p.1; eight = q.0; clear = order-out r o p.2 }, standing-of at stop o p.3 q.1)
 

@@ -41,6 +41,7 @@ order-among q (put {x = r} {xs = rs} {ys = qs} o i) m = go (insert-among q r i m
     go : (q ≡ r) ⊎ Among q qs → (Among q qs → Among q rs) → Among q (r ∷ rs)
     go (inl e) f = subst (λ (x : Range). Among x (r ∷ rs)) (sym e) first
     go (inr a) f = later (f a)
+order-among q Rattle.layout.specs.Orders.nothing m = elim m [ ]
 
 row_same : (at x : ℕ) (d d' : List ℕ) (qs : List Range) → length d ≡ length d' → at ≤ x → Row x qs (at + length d)
     → ((q : Range) → Among q qs → Agree at d d' q) → drop (x - at) d ≡ drop (x - at) d'
@@ -120,3 +121,5 @@ module _ (w at : ℕ) (d d' : List ℕ) where
         standing = r.standing;
         agree = λ q m. or_else q (back q a f.agree) (r.agree q m);
       }
+  twins [] (c ∷ cs) s s' rs rs' rs₁ rs₁' l y y' g g' e t = elim y [ ]
+  twins (k ∷ ks) [] s s' rs rs' rs₁ rs₁' l y y' g g' e t = elim y [ ]

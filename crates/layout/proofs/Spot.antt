@@ -59,6 +59,8 @@ module _ (w at : ℕ) (d : List ℕ) where
         one = kid-keep w k l.0 at d e rs c y.slot y.ranges n (λ q z. g q rs (λ _ m. m) t (adds-stands a q z)) y.one;
         others = all_keep e ks cs y.left y.ranges rs' l.1 n (λ q qs i u v. g q qs (λ z m. i z (adds-among a z m)) u v) (adds-standing a t) y.others;
       }
+  all_keep e [] (c ∷ cs) s rs rs' l n g t y = elim y [ ]
+  all_keep e (k ∷ ks) [] s rs rs' l n g t y = elim y [ ]
 
   -- child i as it stands, and what setting it asks for
   pub record Spot (ks : List Kid) (cs : List Cell) (s : List ℕ) (rs rs' : List Range) (i : ℕ) : Type 0 where
@@ -120,6 +122,8 @@ module _ (w at : ℕ) (d : List ℕ) where
           others = r.put e x v m f g u z;
         };
       }
+  spot [] (c ∷ cs) s rs rs' i l y t h = elim y [ ]
+  spot (k ∷ ks) [] s rs rs' i l y t h = elim y [ ]
 
   -- the ranges up to a child are among those before a later one
   pub spot-order : (ks : List Kid) (cs : List Cell) (s : List ℕ) (rs rs' : List Range) (i j : ℕ) (l : AllLawful w ks) (y : AllLay w at d ks cs s rs rs')
@@ -136,6 +140,8 @@ module _ (w at : ℕ) (d : List ℕ) where
   spot-order (q ∷ ks) (c ∷ cs) s rs rs' (suc i) (suc j) l y t h k o z m =
       let a = kid-adds w q l.0 at d rs c y.slot y.ranges y.one in
       spot-order ks cs y.left y.ranges rs' i j l.1 y.others (adds-standing a t) (below i (length cs) h) (below j (length cs) k) (omega arith) z m
+  spot-order [] (c ∷ cs) s rs rs' i j l y t h k o z m = elim y [ ]
+  spot-order (q ∷ ks) [] s rs rs' i j l y t h k o z m = elim y [ ]
 
 -- ---- bytes put into one range: what stands apart from it is kept
 

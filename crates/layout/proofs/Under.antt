@@ -273,6 +273,8 @@ slots_same P w o at (q ∷ ks) (c ∷ cs) l f y g =
     (slot_same P w o at q c (y 0 (omega arith)) f.0 (λ n i lo hi. g 0 (omega arith) n i (omega arith) (omega arith)))
     (rw z (slots_same P w (o + w) (at + length (kid_tail q c)) ks cs l.1 f.1 (λ k h. y (suc k) (omega arith))
     (λ k h n i lo hi. g (suc k) (omega arith) n i (omega arith) (omega arith))))
+slots_same P w o at [] (c ∷ cs) l f y g = elim f [ ]
+slots_same P w o at (q ∷ ks) [] l f y g = elim f [ ]
 
 tails-same : (P : ℕ → Type 0) (w o : ℕ) (ks : List Kid) (cs : List Cell) → AllFit w ks cs
     → ((k : ℕ) → k < length cs → Same P (o + before ks cs k) (kid_tail (kid_at ks k) (cell_at cs k)) (kid_tail (kid_at ks k) (clean (cell_at cs k))))
@@ -283,6 +285,8 @@ tails-same P w o (q ∷ ks) (c ∷ cs) f g =
     let m = length (kid_tail q c) in
     same-append P o (o + m) (kid_tail q c) (kid_tail q (clean c)) _ _ refl (rw add-zero at (g 0 (omega arith)))
     (tails-same P w (o + m) ks cs f.1 (λ k h. rw (add_assoc o m (before ks cs k)) (g (suc k) (omega arith))))
+tails-same P w o [] (c ∷ cs) f g = elim f [ ]
+tails-same P w o (q ∷ ks) [] f g = elim f [ ]
 
 -- ---- a byte of the row under a null, found from contents of type t that start at o
 

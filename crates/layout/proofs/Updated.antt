@@ -426,3 +426,4 @@ set-lays x T row (i ∷ []) t c s o b y lim st (text_given {k = k} q h e z f n h
 set-lays x T row (i ∷ p) t c s o b y lim st (deeper h f a) =
     rw (own-holds t c s o b (go_on p (λ t s o b. walk p t s o b) (step_in t i s o b)) y lim)
     (deep-edit x T row i p t c o b (step_in t i s o b) y h f lim st a (λ t c s o b y l q a. set-lays x T row p t c s o b y l q a) (comes t c i s o b y lim))
+set-lays x T row [] t c s o b y lim st x5 = elim x5 [ ]

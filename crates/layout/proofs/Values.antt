@@ -84,8 +84,8 @@ module _ {A B : Type 0} (f : A → B) where
   take_out [] here e = absurd (omega (arith, ap length e))
   take_out (z ∷ zs) here e = record { thing = z; things = zs; insert = here; is = cc; are = cc; place = refl }
   take_out [] (there i) e = absurd (omega (arith, ap length e))
-  take_out (z ∷ zs) (there i) e =
-      let r = take_out zs i cc in
+  take_out (z ∷ zs) (there {ys = ys} i) e =
+      let r = take_out {ps = ys} zs i cc in
       let q = r.are in
       record { thing = r.thing; things = z ∷ r.things; insert = there r.insert; is = r.is; are = cc; place = ap suc r.place }
 

@@ -57,6 +57,8 @@ unfolding before AllFit
 before-clean w [] [] k l f = refl
 before-clean w (q ∷ ks) (c ∷ cs) zero l f = refl
 before-clean w (q ∷ ks) (c ∷ cs) (suc k) l f = rw (tail-clean w q c l.0 f.0, before-clean w ks cs k l.1 f.1)
+before-clean w [] (c ∷ cs) k l f = elim f [ ]
+before-clean w (q ∷ ks) [] k l f = elim f [ ]
 
 pub flag-clean : (c : Cell) → flag (clean c) ≡ flag c
 unfolding on_null clean
@@ -76,6 +78,8 @@ slots_at w at (q ∷ ks) (c ∷ cs) (suc k) l f h =
     let o : suc k * w ≡ length (kid_slot q at c) + k * w = rw (kid-wide w q l.0 at c f.0) (omega arith) in
     let e : at + (m + before ks cs k) ≡ at + m + before ks cs k = omega arith in
     rw (o, e, drop-append-add (kid_slot q at c) (slots (at + m) ks cs) (k * w)) (slots_at w (at + m) ks cs k l.1 f.1 (omega arith))
+slots_at w at [] (c ∷ cs) k l f h = elim f [ ]
+slots_at w at (q ∷ ks) [] k l f h = elim f [ ]
 
 -- u stands at j in d
 record DataAt (d : List ℕ) (j : ℕ) (u : List ℕ) : Type 0 where
@@ -90,6 +94,8 @@ tails-at w (q ∷ ks) (c ∷ cs) zero f h = record { there = take_at (kid_tail q
 tails-at w (q ∷ ks) (c ∷ cs) (suc k) f h =
     let a = tails-at w ks cs k f.1 (omega arith) in
     record { there = rw (drop-append-add (kid_tail q c) (tails ks cs) (before ks cs k)) a.there; room = rw length-append (omega (arith, a.room)) }
+tails-at w [] (c ∷ cs) k f h = elim f [ ]
+tails-at w (q ∷ ks) [] k f h = elim f [ ]
 
 -- ---- child k of a body behind a header hs
 

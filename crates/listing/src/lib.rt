@@ -143,7 +143,7 @@ fn list_leaves(w: u64, b: &[u8], out: &mut [u8], pos: usize) -> usize
 }
 
 // A container.
-#[cycle(list_fields_list_items_list_map_list_value)]
+#[cycle(lists)]
 fn list_value(t: &[u64], at: usize, depth: usize, b: &[u8], out: &mut [u8], pos: usize) -> usize
     requires { Container t.now at depth b.now pos }
     ensures { Written out.old pos (lines (type_of t.now at depth) b.now) out.new result }
@@ -163,7 +163,7 @@ fn list_value(t: &[u64], at: usize, depth: usize, b: &[u8], out: &mut [u8], pos:
 }
 
 // A map: its count, the keys, then the values.
-#[cycle(list_fields_list_items_list_map_list_value)]
+#[cycle(lists)]
 fn list_map(t: &[u64], at: usize, depth: usize, b: &[u8], out: &mut [u8], pos: usize) -> usize
     requires { Pair t.now at depth b.now pos }
     ensures { Written out.old pos (lines (type_of t.now at depth) b.now) out.new result }
@@ -180,7 +180,7 @@ fn list_map(t: &[u64], at: usize, depth: usize, b: &[u8], out: &mut [u8], pos: u
 }
 
 // The elements of a list, whose type stands at a place of the table.
-#[cycle(list_fields_list_items_list_map_list_value)]
+#[cycle(lists)]
 fn list_items(t: &[u64], at: usize, depth: usize, b: &[u8], out: &mut [u8], pos: usize) -> usize
     requires { Elements t.now at depth b.now pos }
     ensures { Written out.old pos (item_lines (type_of t.now at depth) b.now) out.new result }
@@ -206,7 +206,7 @@ fn list_items(t: &[u64], at: usize, depth: usize, b: &[u8], out: &mut [u8], pos:
 }
 
 // The fields of a struct, whose n types stand from a place of the table on: only containers are listed by a call of the cycle.
-#[cycle(list_fields_list_items_list_map_list_value)]
+#[cycle(lists)]
 fn list_fields(
     t: &[u64],
     first: usize,

@@ -105,7 +105,7 @@ fn measure_text(w: u64, l: &[u8], from: usize) -> u64
 }
 
 // A container with its mark: its type's entry stands at place c.
-#[cycle(measure_array_measure_child_measure_fields_measure_lists)]
+#[cycle(measures)]
 fn measure_child(t: &[u64], c: usize, depth: usize, l: &[u8], from: usize) -> u64
     requires { ChildCan t.now c depth l.now from }
     ensures { ChildTold (type_at (schema_of t.now) (pos_of t.now c) depth) l.now from result }
@@ -125,7 +125,7 @@ fn measure_child(t: &[u64], c: usize, depth: usize, l: &[u8], from: usize) -> u6
 }
 
 // The contents of a list or a map, whose entry w stands at place c.
-#[cycle(measure_array_measure_child_measure_fields_measure_lists)]
+#[cycle(measures)]
 fn measure_lists(t: &[u64], c: usize, depth: usize, w: u64, l: &[u8], from: usize) -> u64
     requires { ListsCan t.now c depth w l.now from }
     ensures { BodyTold (type_at (schema_of t.now) (pos_of t.now c) depth) l.now from result }
@@ -160,7 +160,7 @@ fn measure_lists(t: &[u64], c: usize, depth: usize, w: u64, l: &[u8], from: usiz
 }
 
 // n elements of the type at place c, as an array: a short listing that announces many is refused where it ends.
-#[cycle(measure_array_measure_child_measure_fields_measure_lists)]
+#[cycle(measures)]
 fn measure_array(t: &[u64], c: usize, depth: usize, l: &[u8], from: usize, n: usize) -> u64
     requires { ArrayCan t.now c depth l.now from n }
     ensures { ArrayTold (type_at (schema_of t.now) (pos_of t.now c) depth) l.now from n result }
@@ -188,7 +188,7 @@ fn measure_array(t: &[u64], c: usize, depth: usize, l: &[u8], from: usize, n: us
 }
 
 // The n fields of a struct, the first's entry at place first.
-#[cycle(measure_array_measure_child_measure_fields_measure_lists)]
+#[cycle(measures)]
 fn measure_fields(t: &[u64], first: usize, n: usize, depth: usize, l: &[u8], from: usize) -> u64
     requires { FieldsCan t.now first n depth l.now from }
     ensures { FieldsTold (types_at (schema_of t.now) (pos_of t.now first) depth n) l.now from result }

@@ -18,7 +18,7 @@ mod leaves;
 const NULL: usize = 0x756E;
 
 // The contents of the container at a place of the table, behind their mark, from pos on.
-#[cycle(put_array_put_fields_put_value)]
+#[cycle(puts)]
 fn put_value(
     t: &[u64],
     c: usize,
@@ -52,7 +52,7 @@ fn put_value(
 
 // An array of n elements of the type at a place, from pos on: its count, its bitmap, its elements and the zeros up to Pad, and the
 // bytes behind them.
-#[cycle(put_array_put_fields_put_value)]
+#[cycle(puts)]
 fn put_array(
     t: &[u64],
     c: usize,
@@ -102,7 +102,7 @@ fn put_array(
 }
 
 // The fields of the struct at a place of the table, from pos on: its bitmap, its slots, and the bytes behind them.
-#[cycle(put_array_put_fields_put_value)]
+#[cycle(puts)]
 fn put_fields(
     t: &[u64],
     c: usize,

@@ -16,11 +16,11 @@ use Rattle.putting.proofs.Fields.{field-goes, fields-done}
 use Rattle.putting.proofs.Valued.{element-rank, value-deep, value-falls, value-child, struct-can, value-four, value_after}
 use Rattle.putting.proofs.Valued.{list-can, list_held, keys-stand, keys-can, head-fits, head_in, keys-long, values-can, map-held}
 use Rattle.putting.proofs.put_array.Reads as array
-use Rattle.putting.proofs.+put_array_put_fields_put_value.Lts-put_array as array-lts
+use Rattle.putting.proofs.+puts.Lts-put_array as array-lts
 use Rattle.putting.proofs.put_fields.Reads as fields
-use Rattle.putting.proofs.+put_array_put_fields_put_value.Lts-put_fields as fields-lts
+use Rattle.putting.proofs.+puts.Lts-put_fields as fields-lts
 use Rattle.putting.proofs.put_value.Reads as value
-use Rattle.putting.proofs.+put_array_put_fields_put_value.Lts-put_value as value-lts
+use Rattle.putting.proofs.+puts.Lts-put_value as value-lts
 use Rattle.putting.proofs.leaves.clear_bits.Reads as clear-bits
 use Rattle.putting.proofs.leaves.held_end.Reads as held-end
 use Rattle.putting.proofs.leaves.held_slot.Reads as held-slot
@@ -44,8 +44,8 @@ use Rattle.words.proofs.pairs.pair.Reads as pair
 use Rattle.words.proofs.sizes.bitmap_size.Reads as bitmap-size
 use Rattle.words.proofs.sizes.pad_size.Reads as pad-size
 use Rattle.measuring.proofs.Chosen.{child-rank}
-use Rattle.putting.proofs.+put_array_put_fields_put_value.{statement}
-use Rattle.putting.proofs.+put_array_put_fields_put_value.Tie.{close}
+use Rattle.putting.proofs.+puts.{statement}
+use Rattle.putting.proofs.+puts.Tie.{close}
 
 abbrev μ-array : Measures 3 array-lts.ps ℕ
 μ-array κs a = 3 * a.1.1.0 + 3

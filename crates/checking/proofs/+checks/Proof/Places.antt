@@ -15,15 +15,15 @@ use Rattle.checking.proofs.StructLoops.{fields_map, FieldAt, field-stands, reach
 use borrow.Fn.Kinds.{In, Out}
 use borrow.Fn.PlainCycle.{Measures, is, falls, and}
 use Rattle.checking.proofs.check_fields.Reads as check-fields
-use Rattle.checking.proofs.+check_fields_check_items_check_list_check_map_check_struct.Lts-check_fields as in-fields
+use Rattle.checking.proofs.+checks.Lts-check_fields as in-fields
 use Rattle.checking.proofs.check_items.Reads as check-items
-use Rattle.checking.proofs.+check_fields_check_items_check_list_check_map_check_struct.Lts-check_items as in-items
+use Rattle.checking.proofs.+checks.Lts-check_items as in-items
 use Rattle.checking.proofs.check_list.Reads as check-list
-use Rattle.checking.proofs.+check_fields_check_items_check_list_check_map_check_struct.Lts-check_list as in_List
+use Rattle.checking.proofs.+checks.Lts-check_list as in_List
 use Rattle.checking.proofs.check_map.Reads as check-map
-use Rattle.checking.proofs.+check_fields_check_items_check_list_check_map_check_struct.Lts-check_map as in_map
+use Rattle.checking.proofs.+checks.Lts-check_map as in_map
 use Rattle.checking.proofs.check_struct.Reads as check-struct
-use Rattle.checking.proofs.+check_fields_check_items_check_list_check_map_check_struct.Lts-check_struct as in_struct
+use Rattle.checking.proofs.+checks.Lts-check_struct as in_struct
 use Rattle.checking.proofs.leaf_fields.Reads as leaf_fields
 use Rattle.checking.proofs.check_field.Reads as check-field
 use Rattle.checking.proofs.field_fault.Reads as field-fault

@@ -15,13 +15,13 @@ use Rattle.listing.proofs.Containers.{child-rank, map-rank, value-deep, value-ch
 use Rattle.listing.proofs.Containers.{list_written, map-pair, struct_fields, struct_written, keys-stand, map-falls, map-size-in}
 use Rattle.listing.proofs.Containers.{map-count-in, map-fits, map-end, map_keys, map-values, map-written}
 use Rattle.listing.proofs.list_fields.Reads as fields
-use Rattle.listing.proofs.+list_fields_list_items_list_map_list_value.Lts-list_fields as fields-lts
+use Rattle.listing.proofs.+lists.Lts-list_fields as fields-lts
 use Rattle.listing.proofs.list_items.Reads as items
-use Rattle.listing.proofs.+list_fields_list_items_list_map_list_value.Lts-list_items as items-lts
+use Rattle.listing.proofs.+lists.Lts-list_items as items-lts
 use Rattle.listing.proofs.list_map.Reads as map
-use Rattle.listing.proofs.+list_fields_list_items_list_map_list_value.Lts-list_map as map-lts
+use Rattle.listing.proofs.+lists.Lts-list_map as map-lts
 use Rattle.listing.proofs.list_value.Reads as value
-use Rattle.listing.proofs.+list_fields_list_items_list_map_list_value.Lts-list_value as value-lts
+use Rattle.listing.proofs.+lists.Lts-list_value as value-lts
 use Rattle.listing.proofs.list_leaves.Reads as leaves
 use Rattle.listing.proofs.own.Reads as own
 use Rattle.listing.proofs.put_count.Reads as put_count
@@ -36,8 +36,8 @@ use Rattle.words.proofs.nulls.is_null.Reads as is-null
 use Rattle.words.proofs.nums.get8.Reads as get8
 use Rattle.words.proofs.sizes.bitmap_size.Reads as bitmap-size
 use Rattle.table.specs.Tables.{type_of}
-use Rattle.listing.proofs.+list_fields_list_items_list_map_list_value.{statement}
-use Rattle.listing.proofs.+list_fields_list_items_list_map_list_value.Tie.{close}
+use Rattle.listing.proofs.+lists.{statement}
+use Rattle.listing.proofs.+lists.Tie.{close}
 
 abbrev μ-fields : Measures 3 fields-lts.ps ℕ
 μ-fields κs a = a.1.1.1.0 * 3 + 3

@@ -14,13 +14,13 @@ use Rattle.measuring.proofs.Chosen.{child-rank, lists-rank, child-deep, fields-f
 use Rattle.measuring.proofs.Chosen.{child-other, child-told, struct-can, struct-body, lists-can, keys-stand, lists-short, keys-can, list-is}
 use Rattle.measuring.proofs.Chosen.{keys-bad, keys-fit, values-can, values-bad, map-low, map-high, map-fits, map_is}
 use Rattle.measuring.proofs.measure_array.Reads as array
-use Rattle.measuring.proofs.+measure_array_measure_child_measure_fields_measure_lists.Lts-measure_array as array-lts
+use Rattle.measuring.proofs.+measures.Lts-measure_array as array-lts
 use Rattle.measuring.proofs.measure_child.Reads as child
-use Rattle.measuring.proofs.+measure_array_measure_child_measure_fields_measure_lists.Lts-measure_child as child-lts
+use Rattle.measuring.proofs.+measures.Lts-measure_child as child-lts
 use Rattle.measuring.proofs.measure_fields.Reads as fields
-use Rattle.measuring.proofs.+measure_array_measure_child_measure_fields_measure_lists.Lts-measure_fields as fields-lts
+use Rattle.measuring.proofs.+measures.Lts-measure_fields as fields-lts
 use Rattle.measuring.proofs.measure_lists.Reads as lists
-use Rattle.measuring.proofs.+measure_array_measure_child_measure_fields_measure_lists.Lts-measure_lists as lists-lts
+use Rattle.measuring.proofs.+measures.Lts-measure_lists as lists-lts
 use Rattle.measuring.proofs.array_size.Reads as array_size
 use Rattle.measuring.proofs.measure_fixed.Reads as measure-fixed
 use Rattle.measuring.proofs.measure_text.Reads as measure-text
@@ -38,8 +38,8 @@ use Rattle.words.proofs.pairs.low.Reads as low
 use Rattle.words.proofs.pairs.pair.Reads as pair
 use Rattle.words.proofs.Numbers.{slice-bytes}
 use Rattle.table.specs.Tables.{type_of}
-use Rattle.measuring.proofs.+measure_array_measure_child_measure_fields_measure_lists.{statement}
-use Rattle.measuring.proofs.+measure_array_measure_child_measure_fields_measure_lists.Tie.{close}
+use Rattle.measuring.proofs.+measures.{statement}
+use Rattle.measuring.proofs.+measures.Tie.{close}
 
 abbrev μ-array : Measures 2 array-lts.ps ℕ
 μ-array κs a = 3 * a.1.1.0 + 2

@@ -20,26 +20,26 @@ use Rattle.checking.proofs.Arrays.{values-headless, counts-differ, values-few, m
 use Rattle.checking.proofs.StructLoops.{struct-asks, struct-mul, struct-end, fields-odd, fields-short, fields-from, fields_bits, fields-whole}
 use Rattle.checking.proofs.StructLoops.{fields-asks, fields-mul, fields-first, fields-start, field-moves, field-stands, field-deep, field-low}
 use Rattle.checking.proofs.StructLoops.{field-first, reached-text, reached-misspelled, reached-eights, reached-next, leaf_room, leaf-wrong, leaf-good}
-use Rattle.checking.proofs.+check_fields_check_items_check_list_check_map_check_struct.Proof.Places.{μ-fields, μ-items, μ-list, μ-map, μ-struct}
-use Rattle.checking.proofs.+check_fields_check_items_check_list_check_map_check_struct.Proof.Places.{fields-Inv, fields-μ, items-Inv, items-μ}
-use Rattle.checking.proofs.+check_fields_check_items_check_list_check_map_check_struct.Proof.Places.{fields_at, items_at, list_at, map_at, struct_at}
-use Rattle.checking.proofs.+check_fields_check_items_check_list_check_map_check_struct.Proof.Places.{fields-calls, items-calls, list-calls, map-calls}
-use Rattle.checking.proofs.+check_fields_check_items_check_list_check_map_check_struct.Proof.Places.{struct-calls, fields_told, fields-here}
-use Rattle.checking.proofs.+check_fields_check_items_check_list_check_map_check_struct.Proof.Places.{fields-child, fields-judged, items-told}
-use Rattle.checking.proofs.+check_fields_check_items_check_list_check_map_check_struct.Proof.Places.{items-here, items-child, items-judged}
-use Rattle.checking.proofs.+check_fields_check_items_check_list_check_map_check_struct.Proof.Places.{list-mapped, struct-mapped}
+use Rattle.checking.proofs.+checks.Proof.Places.{μ-fields, μ-items, μ-list, μ-map, μ-struct}
+use Rattle.checking.proofs.+checks.Proof.Places.{fields-Inv, fields-μ, items-Inv, items-μ}
+use Rattle.checking.proofs.+checks.Proof.Places.{fields_at, items_at, list_at, map_at, struct_at}
+use Rattle.checking.proofs.+checks.Proof.Places.{fields-calls, items-calls, list-calls, map-calls}
+use Rattle.checking.proofs.+checks.Proof.Places.{struct-calls, fields_told, fields-here}
+use Rattle.checking.proofs.+checks.Proof.Places.{fields-child, fields-judged, items-told}
+use Rattle.checking.proofs.+checks.Proof.Places.{items-here, items-child, items-judged}
+use Rattle.checking.proofs.+checks.Proof.Places.{list-mapped, struct-mapped}
 use Rattle.checking.proofs.check_fields.Reads as check-fields
-use Rattle.checking.proofs.+check_fields_check_items_check_list_check_map_check_struct.Lts-check_fields as in-fields
+use Rattle.checking.proofs.+checks.Lts-check_fields as in-fields
 use Rattle.checking.proofs.check_items.Reads as check-items
-use Rattle.checking.proofs.+check_fields_check_items_check_list_check_map_check_struct.Lts-check_items as in-items
+use Rattle.checking.proofs.+checks.Lts-check_items as in-items
 use Rattle.checking.proofs.check_list.Reads as check-list
-use Rattle.checking.proofs.+check_fields_check_items_check_list_check_map_check_struct.Lts-check_list as in_List
+use Rattle.checking.proofs.+checks.Lts-check_list as in_List
 use Rattle.checking.proofs.check_map.Reads as check-map
-use Rattle.checking.proofs.+check_fields_check_items_check_list_check_map_check_struct.Lts-check_map as in_map
+use Rattle.checking.proofs.+checks.Lts-check_map as in_map
 use Rattle.checking.proofs.check_struct.Reads as check-struct
-use Rattle.checking.proofs.+check_fields_check_items_check_list_check_map_check_struct.Lts-check_struct as in_struct
-use Rattle.checking.proofs.+check_fields_check_items_check_list_check_map_check_struct.{statement}
-use Rattle.checking.proofs.+check_fields_check_items_check_list_check_map_check_struct.Tie.{close}
+use Rattle.checking.proofs.+checks.Lts-check_struct as in_struct
+use Rattle.checking.proofs.+checks.{statement}
+use Rattle.checking.proofs.+checks.Tie.{close}
 
 pub +check-fields-check-items-check-list-check-map-check-struct-spec : {M : Type 1} → statement M
 +check-fields-check-items-check-list-check-map-check-struct-spec =
