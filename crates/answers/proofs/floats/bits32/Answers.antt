@@ -1,0 +1,12 @@
+-- `answers::floats::bits32` meets its contract. Assumes nothing.
+use mathlib.Core.Path.{sym, ap}
+use lib.Ieee.{binary32, to_bits}
+use Rattle.answers.proofs.FloatLaws.{is-nan, not-nan}
+use Rattle.answers.proofs.floats.bits32.Goals as goal
+
+pub float_to_bits-result : goal.float_to_bits-result
+float_to_bits-result c = not-nan c.args.x c.if-x.false
+
+pub returns-then-x : goal.returns-then-x
+unfolding to_bits
+returns-then-x c = sym (ap (to_bits binary32) (is-nan c.args.x c.if-x.true))

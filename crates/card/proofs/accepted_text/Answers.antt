@@ -1,0 +1,30 @@
+-- `card::accepted_text` meets its contract: the table of an accepted schema says the schema. Assumes nothing.
+use mathlib.Core.Path.{ap}
+use mathlib.Core.List.{List}
+use Prim.Native.Nat.{ℕ}
+use native.Mathlib.Omega.{arith}
+use lib.ListN.{length-replicate}
+use Rattle.lettering.proofs.Putting.{walked_as}
+use Rattle.leaves.specs.Whole.{card_of}
+use Rattle.card.proofs.Tabled.{schema-fits, made, made-open}
+use Rattle.card.proofs.accepted_text.Goals as goal
+
+pub build-n-requires : goal.build-n-requires
+build-n-requires c = schema-fits _ c.requires.0.schema (length-replicate {0} {A = ℕ} 512 0)
+
+pub slice_bounds-room-end : goal.slice_bounds-room-end
+slice_bounds-room-end c = let got = made c.requires.0.schema c.build-n.ensures in
+    omega (arith, got.room, c.build-n.auto.1.0, length-replicate {0} {A = ℕ} 512 0)
+
+pub slice_bounds-whole-end : goal.slice_bounds-whole-end
+slice_bounds-whole-end c = let got = made c.requires.0.schema c.build-n.ensures in
+    got.size
+
+pub whole-requires : goal.whole-requires
+whole-requires c = let entry = (goal.at.whole-requires c).Start in
+    (made-open entry.requires.0 c.build-n.ensures, entry.requires.1, omega arith)
+
+pub returns : goal.returns
+returns c = let entry = (goal.at.returns c).Start in
+    let got = made entry.requires.0.schema c.build-n.ensures in
+    walked_as (ap (λ (s : List ℕ). card_of s entry.args.row.now) got.says) c.whole.ensures

@@ -1,0 +1,33 @@
+-- `card::batches::accepted_text` meets its contract: the table of an accepted schema says the schema. Assumes nothing.
+use mathlib.Core.Path.{ap}
+use mathlib.Core.List.{List}
+use Prim.Native.Nat.{ℕ}
+use native.Mathlib.Omega.{arith}
+use lib.ListN.{length-replicate}
+use Rattle.batch.specs.Entries.{rows_of}
+use Rattle.lettering.proofs.Putting.{walked_as}
+use Rattle.card.specs.Rows.{rows_text}
+use Rattle.card.proofs.Tabled.{schema-fits, made}
+use Rattle.card.proofs.Turns.{batch-judged}
+use Rattle.card.proofs.batches.accepted_text.Goals as goal
+
+pub build-n-requires : goal.build-n-requires
+build-n-requires c = schema-fits _ (batch-judged _ _ c.requires.0) (length-replicate {0} {A = ℕ} 512 0)
+
+pub slice_bounds-room-end : goal.slice_bounds-room-end
+slice_bounds-room-end c = let got = made (batch-judged _ _ c.requires.0) c.build-n.ensures in
+    omega (arith, got.room, c.build-n.auto.1.0, length-replicate {0} {A = ℕ} 512 0)
+
+pub slice_bounds-rows_text-end : goal.slice_bounds-rows_text-end
+slice_bounds-rows_text-end c = let got = made (batch-judged _ _ c.requires.0) c.build-n.ensures in
+    got.size
+
+pub rows_text-requires : goal.rows_text-requires
+rows_text-requires c = let entry = (goal.at.rows_text-requires c).Start in
+    let got = made (batch-judged _ _ c.requires.0) c.build-n.ensures in
+    (got.table, rw got.says entry.requires.0, entry.requires.1)
+
+pub returns : goal.returns
+returns c = let entry = (goal.at.returns c).Start in
+    let got = made (batch-judged _ _ entry.requires.0) c.build-n.ensures in
+    walked_as (ap (λ (s : List ℕ). rows_text s 0 (rows_of entry.args.b.now)) got.says) c.rows_text.ensures

@@ -1,0 +1,7 @@
+-- `card::print_where` is safe and ends. Assumes nothing.
+use native.Mathlib.Omega.{arith}
+use lib.ListN.{length-take}
+use Rattle.card.proofs.print_where.Goals as goal
+
+pub slice_bounds-write_all-end : goal.slice_bounds-write_all-end
+slice_bounds-write_all-end c = simp length-take (omega (arith, c.where_output-k.ensures.within, c.where_output-k.auto.1.0))

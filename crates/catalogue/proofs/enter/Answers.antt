@@ -1,0 +1,47 @@
+-- `catalogue::enter` meets its contract. Assumes nothing.
+use mathlib.Core.Path.{◌∙◌}
+use native.Mathlib.Omega.{arith}
+use lib.ListN.{length-set}
+use Rattle.catalogue.proofs.Entering.{enters-size, enters-few, enters-room, enters-full, enters-new}
+use borrow.Author.Rules.{rules}
+use Rattle.catalogue.proofs.enter.Goals as goal
+
+pub bounds-catalogue-0 : goal.bounds-catalogue-0
+bounds-catalogue-0 c = omega (arith, enters-size c.requires)
+
+pub overflow_cast-count : goal.overflow_cast-count
+overflow_cast-count c = let f = (c.slice_known-2-1.given 0).fits in search rules
+
+pub returns-then-count-eq-MOST : goal.returns-then-count-eq-MOST
+returns-then-count-eq-MOST c = enters-full c.requires c.if-count-eq-MOST.true
+
+pub put2-requires : goal.put2-requires
+put2-requires c = let y = c.requires in omega (arith, enters-room y c.if-count-eq-MOST.false, enters-size y)
+
+pub overflow_add-end : goal.overflow_add-end
+overflow_add-end c = let d = (goal.at.overflow_add-end c).Else-count-eq-MOST in
+    let y = d.before.before.before.before.requires in
+    omega (arith, enters-room y d.if1.false, enters-size y)
+
+pub copy-requires : goal.copy-requires
+copy-requires c = let d = (goal.at.copy-requires c).Else-count-eq-MOST in
+    let y = d.before.before.before.before.requires in
+    (omega (arith, enters-room y d.if1.false, c.put2.auto.0), omega arith)
+
+pub overflow_add-catalogue : goal.overflow_add-catalogue
+overflow_add-catalogue c = omega (arith, enters-few c.requires)
+
+pub overflow_cast-catalogue : goal.overflow_cast-catalogue
+overflow_cast-catalogue c = record { fits = omega (arith, enters-few c.requires) }
+
+pub bounds-catalogue-0-2 : goal.bounds-catalogue-0-2
+bounds-catalogue-0-2 c = let y = c.requires in
+    omega (arith, enters-size y, c.copy.auto.0, c.put2.auto.0)
+
+pub shape_of-catalogue : goal.shape_of-catalogue
+shape_of-catalogue c = simp length-set (c.copy.auto.0 ∙ c.put2.auto.0)
+
+pub returns : goal.returns
+returns c = let d = (goal.at.returns c).Else-count-eq-MOST in
+    enters-new d.before.before.before.before.requires d.if1.false c.put2.ensures
+    c.copy.ensures

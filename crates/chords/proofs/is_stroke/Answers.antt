@@ -1,0 +1,8 @@
+-- `chords::is_stroke` meets its contract. Assumes nothing.
+use Rattle.chords.specs.Plain.{word_at}
+use Rattle.chords.proofs.PlainRows.{stroke-seen}
+use Rattle.chords.proofs.is_stroke.Goals as goal
+
+pub returns : goal.returns
+unfolding word_at
+returns c = stroke-seen _ _ c.get8.ensures.is c.get8-2.ensures.is c.get8-3.ensures.is

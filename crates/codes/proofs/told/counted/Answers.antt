@@ -1,0 +1,9 @@
+-- `codes::told::counted` meets its contract. Assumes nothing.
+use Rattle.codes.proofs.InBatch.{count-told, low_count}
+use Rattle.codes.proofs.told.counted.Goals as goal
+
+pub refusal_code-requires : goal.refusal_code-requires
+refusal_code-requires c = low_count c.c-in-Refused-1.given.1 c.requires
+
+pub returns-in-Rows : goal.returns-in-Rows
+returns-in-Rows c = count-told c.c-1.given.1 c.put_one.ensures

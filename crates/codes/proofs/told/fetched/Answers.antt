@@ -1,0 +1,9 @@
+-- `codes::told::fetched` meets its contract. Assumes nothing.
+use Rattle.codes.proofs.InBatch.{fetch-told, low-fetch}
+use Rattle.codes.proofs.told.fetched.Goals as goal
+
+pub refusal_code-requires : goal.refusal_code-requires
+refusal_code-requires c = low-fetch c.f-in-Refused-1.given.1 c.requires
+
+pub returns-in-Row : goal.returns-in-Row
+returns-in-Row c = fetch-told c.f-1.given.1 c.put_two.ensures

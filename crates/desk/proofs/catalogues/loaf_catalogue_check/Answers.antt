@@ -1,0 +1,11 @@
+-- `desk::catalogues::loaf_catalogue_check` meets its contract. Assumes nothing.
+use mathlib.Core.Path.{ap, ◌∙◌}
+use Rattle.codes.specs.Codes.{verdict_code}
+use Rattle.codes.proofs.ByNumber.{check-at-known}
+use Rattle.desk.proofs.catalogues.loaf_catalogue_check.Goals as goal
+
+pub outcome_code-requires : goal.outcome_code-requires
+outcome_code-requires c = check-at-known _ _ _ c.check.ensures
+
+pub returns : goal.returns
+returns c = c.outcome_code.ensures ∙ ap verdict_code c.check.ensures

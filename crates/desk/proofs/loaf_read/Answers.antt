@@ -1,0 +1,10 @@
+-- `desk::loaf_read` meets its contract. Assumes nothing.
+use Rattle.codes.proofs.Answered.{read_known, read_as}
+use Rattle.desk.proofs.loaf_read.Goals as goal
+
+pub put_answer-requires : goal.put_answer-requires
+put_answer-requires c = read_known _ _ _ c.read.ensures
+
+pub returns : goal.returns
+returns c = let t = (goal.at.returns c).After-read in
+    read_as t.before.path-of.ensures _ _ t.read.ensures c.put_answer.ensures

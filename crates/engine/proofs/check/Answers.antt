@@ -1,0 +1,12 @@
+-- `engine::check` meets its contract. Assumes nothing.
+use Rattle.engine.proofs.Orders.{check-long, check-good, check-bad}
+use Rattle.engine.proofs.check.Goals as goal
+
+pub returns-then-row-gt16384 : goal.returns-then-row-gt16384
+returns-then-row-gt16384 c = search check-long
+
+pub returns-in-Sound : goal.returns-in-Sound
+returns-in-Sound c = search check-good
+
+pub returns-in-Broken : goal.returns-in-Broken
+returns-in-Broken c = search check-bad

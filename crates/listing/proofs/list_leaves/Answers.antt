@@ -1,0 +1,51 @@
+-- `listing::list_leaves` meets its contract: `AtItem` is its invariant. Assumes nothing.
+use mathlib.Core.Logic.{⊎_elim}
+use Prim.Native.Nat.{◌-◌}
+use Rattle.listing.proofs.Children.{items-head, item-seat, item-null-room, item-more, item_on, item-less}
+use Rattle.listing.proofs.Children.{items-null, items-own, items_kept, items-end}
+use Rattle.listing.proofs.Items.{leaves-few, leaves-first, leaves-start, leaves-leaf}
+use Rattle.listing.proofs.list_leaves.Goals as goal
+
+pub get8-n-requires : goal.get8-n-requires
+get8-n-requires c = search items-head
+
+pub bitmap_size-slot-requires : goal.bitmap_size-slot-requires
+bitmap_size-slot-requires c = search leaves-few
+
+pub overflow_add-slot : goal.overflow_add-slot
+overflow_add-slot c = search leaves-first
+
+pub loop-i-init : goal.loop-i-init
+loop-i-init c = search leaves-start
+
+pub is_null-requires : goal.is_null-requires
+is_null-requires c = (item-seat c.loop-i.invariant.1 c.loop-i-test.true).bit-room
+
+pub put_null-p-requires : goal.put_null-p-requires
+put_null-p-requires c = search item-null-room
+
+pub put_leaf-p-requires : goal.put_leaf-p-requires
+put_leaf-p-requires c = search leaves-leaf
+
+pub overflow_add-slot-in-loop-i : goal.overflow_add-slot-in-loop-i
+overflow_add-slot-in-loop-i c = search item-more
+
+pub overflow_add-i : goal.overflow_add-i
+overflow_add-i c = search item_on
+
+pub loop-i-smaller : goal.loop-i-smaller
+loop-i-smaller c = search item-less
+
+pub loop-i-preserved : goal.loop-i-preserved
+loop-i-preserved c = let i = c.loop-i.invariant in
+    let l = c.loop-i-test.true in
+    let e = c.is_null.ensures in
+    ⊎_elim (λ w. (i.0, items-null i.1 l e w.5 w.6 w.0.taken w.2.ensures))
+    (λ w. (i.0, items-own i.1 l e w.5 w.6 w.0.left w.2.ensures))
+    c.if-is_null.branch
+
+pub shape_of-out : goal.shape_of-out
+shape_of-out c = search items_kept
+
+pub returns : goal.returns
+returns c = search items-end

@@ -1,0 +1,90 @@
+-- `picture::line` meets its contract: five texts one behind the other. Assumes nothing.
+use native.Mathlib.Omega.{arith}
+use Prim.Native.Nat.{◌*◌}
+use lib.ListN.{length}
+use Rattle.chart.specs.Claims.{what_at, steps_at}
+use Rattle.picture.proofs.Drawing.{right-length, on-line-fits, spaced-most, labelled-most, steps-most, line-puts}
+use Rattle.picture.proofs.line.Goals as goal
+
+pub byte-b-requires : goal.byte-b-requires
+byte-b-requires c = let pre = c.requires in
+    let right = c.right-s in
+    let args = c.args in
+    omega (arith, pre.0, right.ensures.next, right.auto.0, right-length 5 (8 * args.u))
+
+pub spaced-l-requires : goal.spaced-l-requires
+spaced-l-requires c = let args = c.args in
+    let pre = c.requires in
+    let on_line = c.on_line-k in
+    let right = c.right-s in
+    let byte = c.byte-b in
+    let f = on-line-fits (length args.row.now) args.u pre.2 in
+    let e = on_line.ensures in (
+      omega (arith, pre.0, right.ensures.next, right.auto.0, right-length 5 (8 * args.u), byte.ensures.next, byte.auto.0, e, f.0),
+      rw e f.1,
+    )
+
+pub labelled-end-requires : goal.labelled-end-requires
+labelled-end-requires c = let far = (goal.at.labelled-end-requires c).After-right-arg-1 in
+    let args = far.before.before.before.before.before.args in
+    let pre = far.before.before.before.before.before.requires in
+    let on_line = c.on_line-k in
+    let right = c.right-s in
+    let byte = c.byte-b in
+    let spaced = c.spaced-l in
+    let f = on-line-fits (length args.row.now) args.u pre.2 in
+    let e = on_line.ensures in (
+      omega (
+        arith,
+        pre.0,
+        right.ensures.next,
+        right.auto.0,
+        right-length 5 (8 * args.u),
+        byte.ensures.next,
+        byte.auto.0,
+        spaced.ensures.next,
+        spaced.auto.0,
+        spaced-most args.row.now args.u _ e pre.2,
+      ),
+      pre.1,
+      omega (arith, pre.2, pre.3),
+      rw e f.0,
+    )
+
+pub byte-requires : goal.byte-requires
+byte-requires c = let far = (goal.at.byte-requires c).After-byte-arg-1 in
+    let args = far.before.before.before.before.before.before.before.before.before.args in
+    let pre = far.before.before.before.before.before.before.before.before.before.requires in
+    let right = far.before.before.before.right in
+    let byte = c.byte-b in
+    let spaced = c.spaced-l in
+    let on_line = far.before.before.before.before.before.on_line in
+    let labelled = c.labelled-end in
+    let m = args.chart.now in
+    omega (
+      arith,
+      pre.0,
+      right.ensures.next,
+      right.auto.0,
+      right-length 5 (8 * args.u),
+      byte.ensures.next,
+      byte.auto.0,
+      spaced.ensures.next,
+      spaced.auto.0,
+      spaced-most args.row.now args.u _ on_line.ensures pre.2,
+      labelled.ensures.next,
+      labelled.auto.0,
+      labelled-most on_line.result (what_at m args.u) (steps_at m args.u) (steps-most m args.u),
+    )
+
+pub returns : goal.returns
+returns c = let far = (goal.at.returns c).After-slice_known-3-1 in
+    let args = far.before.before.before.before.before.before.before.before.before.before.before.before.args in
+    let on_line = far.before.before.before.before.before.before.before.before.on_line in
+    let right = far.before.before.before.before.before.before.right in
+    let byte = far.before.before.byte in
+    let spaced = c.spaced-l in
+    let labelled = c.labelled-end in
+    let byte2 = c.byte in
+    line-puts args.row.now args.chart.now args.u _ on_line.ensures right.ensures byte.ensures spaced.ensures
+    labelled.ensures byte2.ensures

@@ -1,0 +1,27 @@
+-- `setting::present::set_place` meets its contract. Assumes nothing.
+use Rattle.answers.specs.Meaning.{given_means}
+use Rattle.setting.proofs.Settled.{place-leaf, place-refused, place-fixed-set, place-text-set}
+use Rattle.setting.proofs.present.set_place.Goals as goal
+
+pub set_fixed-requires : goal.set_fixed-requires
+set_fixed-requires c = place-leaf c.requires c.if-x-lt-STRING.true
+
+pub returns-then-x-lt-STRING : goal.returns-then-x-lt-STRING
+returns-then-x-lt-STRING c = let e = (goal.at.returns-then-x-lt-STRING c).After-set_fixed in
+    let f = e.before.before in
+    let g = f.before.before.before.before.before in
+    let a = g.args in
+    place-fixed-set g.requires (given_means a.g a.bytes.now) f.if1.true (e.set-fixed.ensures a.bytes.now)
+
+pub returns-then-x-lt-LIST : goal.returns-then-x-lt-LIST
+returns-then-x-lt-LIST c = let e = (goal.at.returns-then-x-lt-LIST c).After-set_text in
+    let f = e.before.before in
+    let g = f.before.before in
+    let h = g.before.before.before.before.before in
+    let a = h.args in
+    place-text-set h.requires (given_means a.g a.bytes.now) g.if1.false f.if2.true e.set-text.ensures
+
+pub returns : goal.returns
+returns c = let e = (goal.at.returns c).Start in
+    let a = e.args in
+    place-refused e.requires (given_means a.g a.bytes.now) c.if-x-lt-LIST.false

@@ -1,0 +1,9 @@
+-- `spelling::looks_spelled` meets its contract. Assumes nothing.
+use Rattle.spelling.proofs.ByKind.{of-binary, of-string}
+use Rattle.spelling.proofs.looks_spelled.Goals as goal
+
+pub returns-then-k-ne-STRING : goal.returns-then-k-ne-STRING
+returns-then-k-ne-STRING c = search of-binary
+
+pub returns : goal.returns
+returns c = of-string c.if-k-ne-STRING.false (c.is_short.ensures e)

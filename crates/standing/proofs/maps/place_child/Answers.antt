@@ -1,0 +1,34 @@
+-- `standing::maps::place_child` meets its contract. Assumes nothing.
+use borrow.Author.Tests.{leb-true}
+use Rattle.standing.proofs.Marks.{place-low, place-odd, place-long, place-beside, place-unit, slot-bounds, child-null, child-there}
+use Rattle.standing.proofs.maps.place_child.Goals as goal
+
+pub returns-then-is_null : goal.returns-then-is_null
+returns-then-is_null c = search child-null
+
+pub returns-then-from-start : goal.returns-then-from-start
+returns-then-from-start c = search (child-there, place-low)
+
+pub returns-then-b-end : goal.returns-then-b-end
+returns-then-b-end c = search (child-there, place-long, slot-bounds)
+
+pub returns-then-from-ne0 : goal.returns-then-from-ne0
+returns-then-from-ne0 c = search (child-there, place-odd)
+
+pub returns-then-size-le8 : goal.returns-then-size-le8
+returns-then-size-le8 c = let e = (goal.at.returns-then-size-le8 c).Else-from-ne0 in
+    let p = e.before.before in
+    let q = p.before.before in
+    let r = q.before.before in
+    child-there r.is-null.ensures q.before.if1.false (place-unit (slot-bounds q.offset_at.ensures p.size-at.ensures p.before.if2.false)
+    e.if4.false r.before.before.before.requires.whole e.before.if3.false c.if-size-ne0.true
+    (leb-true p.size-at.result 8 c.if-size-le8.true-raw) c.take.ensures)
+
+pub returns : goal.returns
+returns c = let e = (goal.at.returns c).Else-from-ne0 in
+    let p = e.before.before in
+    let q = p.before.before in
+    let r = q.before.before in
+    child-there r.is-null.ensures q.before.if1.false (place-beside (slot-bounds q.offset_at.ensures p.size-at.ensures p.before.if2.false)
+    e.if4.false r.before.before.before.requires.whole e.before.if3.false c.pad_size.ensures
+    c.admit.ensures)
