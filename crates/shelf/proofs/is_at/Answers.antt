@@ -15,9 +15,10 @@ pub returns-then-t-at : goal.returns-then-t-at
 returns-then-t-at c = other_byte c.get2-n.ensures c.requires c.args.s.now c.loop-i.i (omega arith) c.if-t-at.true
 
 pub loop-i-preserved : goal.loop-i-preserved
-loop-i-preserved c = (omega arith,
-      next-byte c.get2-n.ensures c.requires c.args.s.now c.loop-i.i (omega arith) (omega arith) c.loop-i.invariant.1 c.if-t-at.false,
-    )
+loop-i-preserved c = (
+  omega arith,
+  next-byte c.get2-n.ensures c.requires c.args.s.now c.loop-i.i (omega arith) (omega arith) c.loop-i.invariant.1 c.if-t-at.false,
+)
 
 pub returns : goal.returns
 returns c = let e : c.loop-i.i ≡ c.get2-n.result = omega arith in

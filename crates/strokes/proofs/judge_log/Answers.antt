@@ -59,12 +59,12 @@ chords_in-count-requires c = walked_keeps c.loop-at.invariant
 
 pub overflow_add-count : goal.overflow_add-count
 overflow_add-count c = omega (
-      arith,
-      walked-fits c.loop-at.invariant
-          (stands_of c.frame_end-end.ensures
-          c.if-end-eq0.false),
-      c.chords_in-count.ensures.1,
-    )
+  arith,
+  walked-fits c.loop-at.invariant
+      (stands_of c.frame_end-end.ensures
+      c.if-end-eq0.false),
+  c.chords_in-count.ensures.1,
+)
 
 pub overflow_add-n-in-loop-at : goal.overflow_add-n-in-loop-at
 overflow_add-n-in-loop-at c = let s = stands_of c.frame_end-end.ensures
