@@ -43,7 +43,7 @@ fields_told t c = search (seen, reached-vary)
 pub fields-here : (t : ℕ) → (c : check_fields-After-pad_size-next t)
     → Here c.loop-i.invariant.state
     c.offset_at-from.result c.size_at.result c.pad_size-next.result
-fields-here t c = search (fields_told t)
+fields-here t c = search (seen, reached-vary)
 
 -- its bytes, which should stand for a container
 pub fields-child : (t : ℕ) → (c : check_fields-Else-k-lt-LIST t)
@@ -60,11 +60,11 @@ pub fields-judged : (t : ℕ) → (c : check_fields-Joined-m-ne0 t)
     c.if-m-ne0.r ≡ fault_of (field (types_of s.t.now s.first s.depth s.n) l.i) (part s.b.now l.cur
     (l.cur + c.size_at.result - l.cur))
 fields-judged t c =
-    let v = fields-child t c.before.before.before in
-    reached-fault c.loop-i.invariant c.loop-i-test.true v.entry v.kind _
-    (⊎_elim (λ w. search (plain-whole v c.leaf_fields-m.ensures))
-    (⊎_elim (λ w. search (struct-whole v)) (⊎_elim (λ w. search (list-whole v)) (λ w. search (map_whole v))))
-    c.if-m-ne0.branch)
+    let l = c.loop-i in
+    let s = c.args in
+    let v : Child s.t.now l.c s.depth c.entry_at-w.result c.place-k.result t (part s.b.now l.cur (l.cur + c.size_at.result - l.cur)) =
+      search (field-stands, part_small) in
+    reached-fault c.loop-i.invariant c.loop-i-test.true v.entry v.kind _ ?
 
 -- what the item's slot says
 pub items-told : (t : ℕ) → (c : check_items-After-offset_at-from t) → Told c.loop-i.invariant c.offset_at-from.result
@@ -74,7 +74,7 @@ items-told t c = search seen
 pub items-here : (t : ℕ) → (c : check_items-After-pad_size-next t)
     → Here c.loop-i.invariant c.offset_at-from.result
     c.size_at.result c.pad_size-next.result
-items-here t c = search (items-told t)
+items-here t c = search seen
 
 -- its bytes, which should stand for a container
 pub items-child : (t : ℕ) → (c : check_items-After-pad_size-next t)
@@ -91,11 +91,12 @@ pub items-judged : (t : ℕ) → (c : check_items-Joined-m-ne0 t)
     c.if-m-ne0.r ≡ fault_of (type_of s.t.now s.c s.depth) (part s.b.now l.cur
     (l.cur + c.size_at.result - l.cur))
 items-judged t c =
-    let v = items-child t c.before.before in
+    let l = c.loop-i in
+    let s = c.args in
+    let v : Child s.t.now s.c s.depth s.w c.place-k.result t (part s.b.now l.cur (l.cur + c.size_at.result - l.cur)) =
+      search (part_small, holds-kind) in
     let f = c.leaf_fields-m.ensures in
-    ⊎_elim (λ w. search (plain-whole v f))
-    (⊎_elim (λ w. search (struct-whole v)) (⊎_elim (λ w. search (list-whole v)) (λ w. search (map_whole v))))
-    c.if-m-ne0.branch
+    ?
 
 -- a list's bitmap is there
 pub list-mapped : (t : ℕ) → (c : check_list-Else-b-start t)
@@ -127,7 +128,7 @@ pub check_fields-check_field-requires : goal.check_fields-check_field-requires
 check_fields-check_field-requires t c = search leaf_room
 
 pub check_fields-field_fault-requires : goal.check_fields-field_fault-requires
-check_fields-field_fault-requires t c = (search leaf_room, failed c.check_field.ensures c.if-not-check_field.true-raw)
+check_fields-field_fault-requires t c = record { field_room = search leaf_room; slot_value = failed c.check_field.ensures c.if-not-check_field.true-raw }
 
 pub check_fields-returns-then-not-check_field : goal.check_fields-returns-then-not-check_field
 check_fields-returns-then-not-check_field t c = search (leaf-wrong c.loop-i.invariant)
@@ -169,10 +170,10 @@ pub check_fields-overflow_add-done : goal.check_fields-overflow_add-done
 check_fields-overflow_add-done t c = search loop-sum
 
 pub check_fields-loop-i-smaller-then-from-cur : goal.check_fields-loop-i-smaller-then-from-cur
-check_fields-loop-i-smaller-then-from-cur t c = search (told-less (fields_told t (goal.at.check_fields-loop-i-smaller-then-from-cur t c).check_fields-After-offset_at-from))
+check_fields-loop-i-smaller-then-from-cur t c = search (told-less (fields_told t (goal.at.check_fields-loop-i-smaller-then-from-cur t c).After-offset_at-from))
 
 pub check_fields-loop-i-preserved-then-from-cur : goal.check_fields-loop-i-preserved-then-from-cur
-check_fields-loop-i-preserved-then-from-cur t c = search (field-moves, told-moves (fields_told t (goal.at.check_fields-loop-i-preserved-then-from-cur t c).check_fields-After-offset_at-from))
+check_fields-loop-i-preserved-then-from-cur t c = search (field-moves, told-moves (fields_told t (goal.at.check_fields-loop-i-preserved-then-from-cur t c).After-offset_at-from))
 
 pub check_fields-size_at-requires : goal.check_fields-size_at-requires
 check_fields-size_at-requires t c = search loop-slot
@@ -184,33 +185,33 @@ pub check_fields-overflow_add-result : goal.check_fields-overflow_add-result
 check_fields-overflow_add-result t c = search loop-fault
 
 pub check_fields-returns-then-b-end : goal.check_fields-returns-then-b-end
-check_fields-returns-then-b-end t c = search (past_end (fields_told t (goal.at.check_fields-returns-then-b-end t c).check_fields-After-offset_at-from))
+check_fields-returns-then-b-end t c = search (past_end (fields_told t (goal.at.check_fields-returns-then-b-end t c).After-offset_at-from))
 
 pub check_fields-pad_size-next-requires : goal.check_fields-pad_size-next-requires
 check_fields-pad_size-next-requires t c = search stop-small
 
 pub check_fields-is_spelled_in-requires : goal.check_fields-is_spelled_in-requires
-check_fields-is_spelled_in-requires t c = search (here-padded (fields-here t (goal.at.check_fields-is_spelled_in-requires t c).check_fields-After-pad_size-next))
+check_fields-is_spelled_in-requires t c = search (here-padded (fields-here t (goal.at.check_fields-is_spelled_in-requires t c).After-pad_size-next))
 
 pub check_fields-overflow_add-result-then-not-is_spelled_in : goal.check_fields-overflow_add-result-then-not-is_spelled_in
 check_fields-overflow_add-result-then-not-is_spelled_in t c = search loop-fault
 
 pub check_fields-returns-then-not-is_spelled_in : goal.check_fields-returns-then-not-is_spelled_in
-check_fields-returns-then-not-is_spelled_in t c = search (here-misspelled (fields-here t (goal.at.check_fields-returns-then-not-is_spelled_in t c).check_fields-After-pad_size-next), reached-misspelled)
+check_fields-returns-then-not-is_spelled_in t c = search (here-misspelled (fields-here t (goal.at.check_fields-returns-then-not-is_spelled_in t c).After-pad_size-next), reached-misspelled)
 
 pub check_fields-pad_clear-requires : goal.check_fields-pad_clear-requires
-check_fields-pad_clear-requires t c = here-pad (fields-here t (goal.at.check_fields-pad_clear-requires t c).check_fields-After-pad_size-next)
+check_fields-pad_clear-requires t c = here-pad (fields-here t (goal.at.check_fields-pad_clear-requires t c).After-pad_size-next)
 
 pub check_fields-first_set-requires : goal.check_fields-first_set-requires
-check_fields-first_set-requires t c = here-search (fields-here t (goal.at.check_fields-first_set-requires t c).check_fields-After-pad_size-next)
+check_fields-first_set-requires t c = here-search (fields-here t (goal.at.check_fields-first_set-requires t c).After-pad_size-next)
 
 pub check_fields-overflow_add-result-then-not-pad_clear : goal.check_fields-overflow_add-result-then-not-pad_clear
-check_fields-overflow_add-result-then-not-pad_clear t c = search (here_found (fields-here t (goal.at.check_fields-overflow_add-result-then-not-pad_clear t c).check_fields-After-pad_size-next))
+check_fields-overflow_add-result-then-not-pad_clear t c = search (here_found (fields-here t (goal.at.check_fields-overflow_add-result-then-not-pad_clear t c).After-pad_size-next))
 
 pub check_fields-returns-then-not-pad_clear : goal.check_fields-returns-then-not-pad_clear
 check_fields-returns-then-not-pad_clear t c =
     search (
-      here-unpadded (fields-here t (goal.at.check_fields-returns-then-not-pad_clear t c).check_fields-After-pad_size-next),
+      here-unpadded (fields-here t (goal.at.check_fields-returns-then-not-pad_clear t c).After-pad_size-next),
       reached-text,
     )
 
@@ -226,7 +227,7 @@ check_fields-loop-i-smaller-then-k-lt-LIST t c = search loop-falls
 pub check_fields-loop-i-preserved-then-k-lt-LIST : goal.check_fields-loop-i-preserved-then-k-lt-LIST
 check_fields-loop-i-preserved-then-k-lt-LIST t c =
     let l = c.loop-i.invariant in
-    search (reached-next l, here-next (fields-here t (goal.at.check_fields-loop-i-preserved-then-k-lt-LIST t c).check_fields-After-pad_size-next), reached-text l)
+    search (reached-next l, here-next (fields-here t (goal.at.check_fields-loop-i-preserved-then-k-lt-LIST t c).After-pad_size-next), reached-text l)
 
 pub check_fields-overflow_sub-d : goal.check_fields-overflow_sub-d
 check_fields-overflow_sub-d t c = search field-deep
@@ -238,19 +239,19 @@ pub check_fields-overflow_add-c : goal.check_fields-overflow_add-c
 check_fields-overflow_add-c t c = search field-first
 
 pub check_fields-is_plain-requires : goal.check_fields-is_plain-requires
-check_fields-is_plain-requires t c = child-plain (fields-child t (goal.at.check_fields-is_plain-requires t c).check_fields-Else-k-lt-LIST) c.leaf_fields-m.ensures c.if-m-ne0.true
+check_fields-is_plain-requires t c = child-plain (fields-child t (goal.at.check_fields-is_plain-requires t c).Else-k-lt-LIST) c.leaf_fields-m.ensures c.if-m-ne0.true
 
 pub check_fields-overflow_add-c-then-k-eq-STRUCT : goal.check_fields-overflow_add-c-then-k-eq-STRUCT
 check_fields-overflow_add-c-then-k-eq-STRUCT t c = search field-first
 
 pub check_fields-check_struct-requires : goal.check_fields-check_struct-requires
-check_fields-check_struct-requires t c = child-struct (fields-child t (goal.at.check_fields-check_struct-requires t c).check_fields-Else-k-lt-LIST) c.if-k-eq-STRUCT.true c.count.ensures
+check_fields-check_struct-requires t c = child-struct (fields-child t (goal.at.check_fields-check_struct-requires t c).Else-k-lt-LIST) c.if-k-eq-STRUCT.true c.count.ensures
 
 pub check_fields-overflow_add-c-then-k-eq-LIST : goal.check_fields-overflow_add-c-then-k-eq-LIST
 check_fields-overflow_add-c-then-k-eq-LIST t c = search field-first
 
 pub check_fields-check_list-requires : goal.check_fields-check_list-requires
-check_fields-check_list-requires t c = child-list (fields-child t (goal.at.check_fields-check_list-requires t c).check_fields-Else-k-lt-LIST) c.if-k-eq-LIST.true
+check_fields-check_list-requires t c = child-list (fields-child t (goal.at.check_fields-check_list-requires t c).Else-k-lt-LIST) c.if-k-eq-LIST.true
 
 pub check_fields-overflow_add-c-else-k-eq-LIST : goal.check_fields-overflow_add-c-else-k-eq-LIST
 check_fields-overflow_add-c-else-k-eq-LIST t c = search field-first
@@ -259,18 +260,18 @@ pub check_fields-overflow_add-c-else-k-eq-LIST-2 : goal.check_fields-overflow_ad
 check_fields-overflow_add-c-else-k-eq-LIST-2 t c = search field-first
 
 pub check_fields-entry_at-requires : goal.check_fields-entry_at-requires
-check_fields-entry_at-requires t c = child-keys (fields-child t (goal.at.check_fields-entry_at-requires t c).check_fields-Else-k-lt-LIST) c.if-k-eq-STRUCT.false c.if-k-eq-LIST.false
+check_fields-entry_at-requires t c = child-keys (fields-child t (goal.at.check_fields-entry_at-requires t c).Else-k-lt-LIST) c.if-k-eq-STRUCT.false c.if-k-eq-LIST.false
 
 pub check_fields-check_map-requires : goal.check_fields-check_map-requires
 check_fields-check_map-requires t c =
-    child-map (fields-child t (goal.at.check_fields-check_map-requires t c).check_fields-Else-k-lt-LIST)
+    child-map (fields-child t (goal.at.check_fields-check_map-requires t c).Else-k-lt-LIST)
     c.if-k-eq-STRUCT.false c.if-k-eq-LIST.false c.entry_at.ensures c.after.ensures
 
 pub check_fields-in_child-requires : goal.check_fields-in_child-requires
-check_fields-in_child-requires t c = here-asks (fields-here t (goal.at.check_fields-in_child-requires t c).check_fields-After-pad_size-next) (fields-judged t (goal.at.check_fields-in_child-requires t c).check_fields-Joined-m-ne0) c.if-r-ne0.true
+check_fields-in_child-requires t c = here-asks (fields-here t (goal.at.check_fields-in_child-requires t c).After-pad_size-next) (fields-judged t (goal.at.check_fields-in_child-requires t c).Joined-m-ne0) c.if-r-ne0.true
 
 pub check_fields-returns-then-r-ne0 : goal.check_fields-returns-then-r-ne0
-check_fields-returns-then-r-ne0 t c = search (here-bad (fields-here t (goal.at.check_fields-returns-then-r-ne0 t c).check_fields-After-pad_size-next) (fields-judged t (goal.at.check_fields-returns-then-r-ne0 t c).check_fields-Joined-m-ne0))
+check_fields-returns-then-r-ne0 t c = search (here-bad (fields-here t (goal.at.check_fields-returns-then-r-ne0 t c).After-pad_size-next) (fields-judged t (goal.at.check_fields-returns-then-r-ne0 t c).Joined-m-ne0))
 
 pub check_fields-overflow_add-slot-in-loop-i : goal.check_fields-overflow_add-slot-in-loop-i
 check_fields-overflow_add-slot-in-loop-i t c = search loop-slot-on
@@ -284,7 +285,7 @@ check_fields-loop-i-smaller t c = search loop-falls
 pub check_fields-loop-i-preserved : goal.check_fields-loop-i-preserved
 check_fields-loop-i-preserved t c =
     let l = c.loop-i.invariant in
-    search (reached-next l, here-whole (fields-here t (goal.at.check_fields-loop-i-preserved t c).check_fields-After-pad_size-next), fields-judged t, reached-eights l)
+    search (reached-next l, here-whole (fields-here t (goal.at.check_fields-loop-i-preserved t c).After-pad_size-next), fields-judged t, reached-eights l)
 
 pub check_fields-overflow_add-result-then-stop-n : goal.check_fields-overflow_add-result-then-stop-n
 check_fields-overflow_add-result-then-stop-n t c = search loop-told
@@ -350,10 +351,10 @@ pub check_items-overflow_add-done : goal.check_items-overflow_add-done
 check_items-overflow_add-done t c = search loop-sum
 
 pub check_items-loop-i-smaller-then-from-cur : goal.check_items-loop-i-smaller-then-from-cur
-check_items-loop-i-smaller-then-from-cur t c = search (told-less (items-told t (goal.at.check_items-loop-i-smaller-then-from-cur t c).check_items-After-offset_at-from))
+check_items-loop-i-smaller-then-from-cur t c = search (told-less (items-told t (goal.at.check_items-loop-i-smaller-then-from-cur t c).After-offset_at-from))
 
 pub check_items-loop-i-preserved-then-from-cur : goal.check_items-loop-i-preserved-then-from-cur
-check_items-loop-i-preserved-then-from-cur t c = search (told-moves (items-told t (goal.at.check_items-loop-i-preserved-then-from-cur t c).check_items-After-offset_at-from))
+check_items-loop-i-preserved-then-from-cur t c = search (told-moves (items-told t (goal.at.check_items-loop-i-preserved-then-from-cur t c).After-offset_at-from))
 
 pub check_items-size_at-requires : goal.check_items-size_at-requires
 check_items-size_at-requires t c = search (loop-slot c.loop-i.invariant)
@@ -365,7 +366,7 @@ pub check_items-overflow_add-result : goal.check_items-overflow_add-result
 check_items-overflow_add-result t c = search loop-fault
 
 pub check_items-returns-then-b-end : goal.check_items-returns-then-b-end
-check_items-returns-then-b-end t c = search (past_end (items-told t (goal.at.check_items-returns-then-b-end t c).check_items-After-offset_at-from))
+check_items-returns-then-b-end t c = search (past_end (items-told t (goal.at.check_items-returns-then-b-end t c).After-offset_at-from))
 
 pub check_items-pad_size-next-requires : goal.check_items-pad_size-next-requires
 check_items-pad_size-next-requires t c = search stop-small
@@ -375,20 +376,20 @@ check_items-overflow_add-c t c = search next_place
 
 pub check_items-is_plain-requires : goal.check_items-is_plain-requires
 check_items-is_plain-requires t c =
-    search (child-plain (items-child t (goal.at.check_items-is_plain-requires t c).check_items-After-pad_size-next)
+    search (child-plain (items-child t (goal.at.check_items-is_plain-requires t c).After-pad_size-next)
     c.leaf_fields-m.ensures)
 
 pub check_items-overflow_add-c-then-k-eq-STRUCT : goal.check_items-overflow_add-c-then-k-eq-STRUCT
 check_items-overflow_add-c-then-k-eq-STRUCT t c = search next_place
 
 pub check_items-check_struct-requires : goal.check_items-check_struct-requires
-check_items-check_struct-requires t c = child-struct (items-child t (goal.at.check_items-check_struct-requires t c).check_items-After-pad_size-next) c.if-k-eq-STRUCT.true c.count.ensures
+check_items-check_struct-requires t c = child-struct (items-child t (goal.at.check_items-check_struct-requires t c).After-pad_size-next) c.if-k-eq-STRUCT.true c.count.ensures
 
 pub check_items-overflow_add-c-then-k-eq-LIST : goal.check_items-overflow_add-c-then-k-eq-LIST
 check_items-overflow_add-c-then-k-eq-LIST t c = search next_place
 
 pub check_items-check_list-requires : goal.check_items-check_list-requires
-check_items-check_list-requires t c = child-list (items-child t (goal.at.check_items-check_list-requires t c).check_items-After-pad_size-next) c.if-k-eq-LIST.true
+check_items-check_list-requires t c = child-list (items-child t (goal.at.check_items-check_list-requires t c).After-pad_size-next) c.if-k-eq-LIST.true
 
 pub check_items-overflow_add-c-else-k-eq-LIST : goal.check_items-overflow_add-c-else-k-eq-LIST
 check_items-overflow_add-c-else-k-eq-LIST t c = search next_place
@@ -397,18 +398,18 @@ pub check_items-overflow_add-c-else-k-eq-LIST-2 : goal.check_items-overflow_add-
 check_items-overflow_add-c-else-k-eq-LIST-2 t c = search next_place
 
 pub check_items-entry_at-requires : goal.check_items-entry_at-requires
-check_items-entry_at-requires t c = search (child-keys (items-child t (goal.at.check_items-entry_at-requires t c).check_items-After-pad_size-next))
+check_items-entry_at-requires t c = search (child-keys (items-child t (goal.at.check_items-entry_at-requires t c).After-pad_size-next))
 
 pub check_items-check_map-requires : goal.check_items-check_map-requires
 check_items-check_map-requires t c =
-    child-map (items-child t (goal.at.check_items-check_map-requires t c).check_items-After-pad_size-next) c.if-k-eq-STRUCT.false
+    child-map (items-child t (goal.at.check_items-check_map-requires t c).After-pad_size-next) c.if-k-eq-STRUCT.false
     c.if-k-eq-LIST.false c.entry_at.ensures c.after.ensures
 
 pub check_items-in_child-requires : goal.check_items-in_child-requires
-check_items-in_child-requires t c = here-asks (items-here t (goal.at.check_items-in_child-requires t c).check_items-After-pad_size-next) (items-judged t (goal.at.check_items-in_child-requires t c).check_items-Joined-m-ne0) c.if-r-ne0.true
+check_items-in_child-requires t c = here-asks (items-here t (goal.at.check_items-in_child-requires t c).After-pad_size-next) (items-judged t (goal.at.check_items-in_child-requires t c).Joined-m-ne0) c.if-r-ne0.true
 
 pub check_items-returns-then-r-ne0 : goal.check_items-returns-then-r-ne0
-check_items-returns-then-r-ne0 t c = search (here-bad (items-here t (goal.at.check_items-returns-then-r-ne0 t c).check_items-After-pad_size-next), items-judged t)
+check_items-returns-then-r-ne0 t c = search (here-bad (items-here t (goal.at.check_items-returns-then-r-ne0 t c).After-pad_size-next), items-judged t (goal.at.check_items-returns-then-r-ne0 t c).Joined-m-ne0)
 
 pub check_items-overflow_add-slot-in-loop-i : goal.check_items-overflow_add-slot-in-loop-i
 check_items-overflow_add-slot-in-loop-i t c = search loop-slot-on
@@ -420,7 +421,7 @@ pub check_items-loop-i-smaller : goal.check_items-loop-i-smaller
 check_items-loop-i-smaller t c = search loop-falls
 
 pub check_items-loop-i-preserved : goal.check_items-loop-i-preserved
-check_items-loop-i-preserved t c = search (here-whole (items-here t (goal.at.check_items-loop-i-preserved t c).check_items-After-pad_size-next), items-judged t, item-eights)
+check_items-loop-i-preserved t c = search (here-whole (items-here t (goal.at.check_items-loop-i-preserved t c).After-pad_size-next), items-judged t (goal.at.check_items-loop-i-preserved t c).Joined-m-ne0, item-eights)
 
 pub check_items-overflow_add-result-then-stop-n : goal.check_items-overflow_add-result-then-stop-n
 check_items-overflow_add-result-then-stop-n t c = search loop-told
@@ -468,13 +469,13 @@ pub check_list-returns-then-b-start : goal.check_list-returns-then-b-start
 check_list-returns-then-b-start t c = search list-out
 
 pub check_list-past_clear-requires : goal.check_list-past_clear-requires
-check_list-past_clear-requires t c = map-asks (list-mapped t (goal.at.check_list-past_clear-requires t c).check_list-Else-b-start)
+check_list-past_clear-requires t c = map-asks (list-mapped t (goal.at.check_list-past_clear-requires t c).Else-b-start)
 
 pub check_list-past_byte-requires : goal.check_list-past_byte-requires
-check_list-past_byte-requires t c = past-asks (list-mapped t (goal.at.check_list-past_byte-requires t c).check_list-Else-b-start) (search slice-bytes) c.past_clear.ensures c.if-not-past_clear.true-raw
+check_list-past_byte-requires t c = past-asks (list-mapped t (goal.at.check_list-past_byte-requires t c).Else-b-start) (search slice-bytes) c.past_clear.ensures c.if-not-past_clear.true-raw
 
 pub check_list-overflow_add-result : goal.check_list-overflow_add-result
-check_list-overflow_add-result t c = past_fits (list-mapped t (goal.at.check_list-overflow_add-result t c).check_list-Else-b-start) c.past_byte.ensures
+check_list-overflow_add-result t c = past_fits (list-mapped t (goal.at.check_list-overflow_add-result t c).Else-b-start) c.past_byte.ensures
 
 pub check_list-returns-then-not-past_clear : goal.check_list-returns-then-not-past_clear
 check_list-returns-then-not-past_clear t c = search list-bits
@@ -546,7 +547,7 @@ pub check_map-returns-then-b-end-lt8 : goal.check_map-returns-then-b-end-lt8
 check_map-returns-then-b-end-lt8 t c = search values-headless
 
 pub check_map-get8-requires : goal.check_map-get8-requires
-check_map-get8-requires t c = search (keys-head c.requires.1)
+check_map-get8-requires t c = search (keys-head c.requires)
 
 pub check_map-get8-requires-2 : goal.check_map-get8-requires-2
 check_map-get8-requires-2 t c = search values-head
@@ -591,13 +592,13 @@ pub check_struct-returns-then-b-slots : goal.check_struct-returns-then-b-slots
 check_struct-returns-then-b-slots t c = search fields-short
 
 pub check_struct-past_clear-requires : goal.check_struct-past_clear-requires
-check_struct-past_clear-requires t c = map-asks (struct-mapped t (goal.at.check_struct-past_clear-requires t c).check_struct-Else-b-slots)
+check_struct-past_clear-requires t c = map-asks (struct-mapped t (goal.at.check_struct-past_clear-requires t c).Else-b-slots)
 
 pub check_struct-past_byte-requires : goal.check_struct-past_byte-requires
-check_struct-past_byte-requires t c = past-asks (struct-mapped t (goal.at.check_struct-past_byte-requires t c).check_struct-Else-b-slots) (search slice-bytes) c.past_clear.ensures c.if-not-past_clear.true-raw
+check_struct-past_byte-requires t c = past-asks (struct-mapped t (goal.at.check_struct-past_byte-requires t c).Else-b-slots) (search slice-bytes) c.past_clear.ensures c.if-not-past_clear.true-raw
 
 pub check_struct-overflow_add-result : goal.check_struct-overflow_add-result
-check_struct-overflow_add-result t c = past_fits (struct-mapped t (goal.at.check_struct-overflow_add-result t c).check_struct-Else-b-slots) c.past_byte.ensures
+check_struct-overflow_add-result t c = past_fits (struct-mapped t (goal.at.check_struct-overflow_add-result t c).Else-b-slots) c.past_byte.ensures
 
 pub check_struct-returns-then-not-past_clear : goal.check_struct-returns-then-not-past_clear
 check_struct-returns-then-not-past_clear t c = search fields_bits

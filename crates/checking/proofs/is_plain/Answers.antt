@@ -13,6 +13,7 @@ use Rattle.checking.proofs.Plain.{plain-add, plain_word, plain-start, plain-whol
 use Rattle.checking.proofs.Plain.{plain-slot-mul, plain-slot, plain-less, plain-null, plain-above, plain-fixed, plain-behind, plain-within}
 use Rattle.checking.proofs.Plain.{plain-padded, plain-text}
 use Rattle.checking.proofs.is_plain.Goals as goal
+use Rattle.checking.proofs.is_plain.Goals.{else-nulls-i-eq0-via-then-nulls-i-eq0+else-get8-top-ne0, else-nulls-i-eq0-via-else-nulls-i-eq0}
 
 pub returns-then-b-ne0 : goal.returns-then-b-ne0
 returns-then-b-ne0 c e = absurd (clash e refl)
@@ -72,7 +73,10 @@ pub loop-i-smaller-then-k-lt-STRING : goal.loop-i-smaller-then-k-lt-STRING
 loop-i-smaller-then-k-lt-STRING c = search plain-less
 
 pub loop-i-preserved-then-k-lt-STRING : goal.loop-i-preserved-then-k-lt-STRING
-loop-i-preserved-then-k-lt-STRING c = ?
+loop-i-preserved-then-k-lt-STRING c = elim c.else-nulls-i-eq0.branch [
+  else-nulls-i-eq0-via-then-nulls-i-eq0+else-get8-top-ne0 w ↦ search plain-fixed
+  | else-nulls-i-eq0-via-else-nulls-i-eq0 w ↦ search (plain-null, fixed-leaf)
+]
 
 pub returns-then-k-ge-LIST : goal.returns-then-k-ge-LIST
 returns-then-k-ge-LIST c e = absurd (clash e refl)
