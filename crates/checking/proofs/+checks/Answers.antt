@@ -32,6 +32,7 @@ use Rattle.checking.proofs.StructLoops.{struct-asks, struct-mul, struct-end, fie
 use Rattle.checking.proofs.StructLoops.{fields-asks, fields-mul, fields-first, fields-start, field-moves, field-stands, field-deep, field-low}
 use Rattle.checking.proofs.StructLoops.{field-first, reached-text, reached-misspelled, reached-eights, reached-next, leaf_room, leaf-wrong, leaf-good}
 use Rattle.checking.proofs.+checks.Goals as goal
+use Rattle.checking.proofs.+checks.Goals.{check_fields-then-m-ne0+then-is_plain, check_fields-else-m-ne0+then-k-eq-STRUCT, check_fields-else-m-ne0+else-k-eq-STRUCT+then-k-eq-LIST, check_fields-else-m-ne0+else-k-eq-STRUCT+else-k-eq-LIST, check_items-then-m-ne0+then-is_plain, check_items-else-m-ne0+then-k-eq-STRUCT, check_items-else-m-ne0+else-k-eq-STRUCT+then-k-eq-LIST, check_items-else-m-ne0+else-k-eq-STRUCT+else-k-eq-LIST}
 use Rattle.checking.proofs.+checks.Goals.{check_fields-After-offset_at-from, check_fields-After-pad_size-next, check_fields-Else-k-lt-LIST, check_fields-Joined-m-ne0, check_items-After-offset_at-from, check_items-After-pad_size-next, check_items-Joined-m-ne0, check_list-Else-b-start, check_struct-Else-b-slots}
 
 -- what its slot says
@@ -63,8 +64,13 @@ fields-judged t c =
     let l = c.loop-i in
     let s = c.args in
     let v : Child s.t.now l.c s.depth c.entry_at-w.result c.place-k.result t (part s.b.now l.cur (l.cur + c.size_at.result - l.cur)) =
-      search (field-stands, part_small) in
-    reached-fault c.loop-i.invariant c.loop-i-test.true v.entry v.kind _ ?
+    search (field-stands, part_small) in
+    reached-fault c.loop-i.invariant c.loop-i-test.true v.entry v.kind _ (elim c.if-m-ne0.branch [
+      | check_fields-then-m-ne0+then-is_plain w ↦ search (plain-whole v c.leaf_fields-m.ensures)
+      | check_fields-else-m-ne0+then-k-eq-STRUCT w ↦ search (struct-whole v)
+      | check_fields-else-m-ne0+else-k-eq-STRUCT+then-k-eq-LIST w ↦ search (list-whole v)
+      | check_fields-else-m-ne0+else-k-eq-STRUCT+else-k-eq-LIST w ↦ search (map_whole v)
+    ])
 
 -- what the item's slot says
 pub items-told : (t : ℕ) → (c : check_items-After-offset_at-from t) → Told c.loop-i.invariant c.offset_at-from.result
@@ -94,9 +100,14 @@ items-judged t c =
     let l = c.loop-i in
     let s = c.args in
     let v : Child s.t.now s.c s.depth s.w c.place-k.result t (part s.b.now l.cur (l.cur + c.size_at.result - l.cur)) =
-      search (part_small, holds-kind) in
+    search (part_small, holds-kind) in
     let f = c.leaf_fields-m.ensures in
-    ?
+    elim c.if-m-ne0.branch [
+      | check_items-then-m-ne0+then-is_plain w ↦ search (plain-whole v f)
+      | check_items-else-m-ne0+then-k-eq-STRUCT w ↦ search (struct-whole v)
+      | check_items-else-m-ne0+else-k-eq-STRUCT+then-k-eq-LIST w ↦ search (list-whole v)
+      | check_items-else-m-ne0+else-k-eq-STRUCT+else-k-eq-LIST w ↦ search (map_whole v)
+    ]
 
 -- a list's bitmap is there
 pub list-mapped : (t : ℕ) → (c : check_list-Else-b-start t)
@@ -285,7 +296,7 @@ check_fields-loop-i-smaller t c = search loop-falls
 pub check_fields-loop-i-preserved : goal.check_fields-loop-i-preserved
 check_fields-loop-i-preserved t c =
     let l = c.loop-i.invariant in
-    search (reached-next l, here-whole (fields-here t (goal.at.check_fields-loop-i-preserved t c).After-pad_size-next), fields-judged t, reached-eights l)
+    search (reached-next l, here-whole (fields-here t (goal.at.check_fields-loop-i-preserved t c).After-pad_size-next), fields-judged t (goal.at.check_fields-loop-i-preserved t c).Joined-m-ne0, reached-eights l)
 
 pub check_fields-overflow_add-result-then-stop-n : goal.check_fields-overflow_add-result-then-stop-n
 check_fields-overflow_add-result-then-stop-n t c = search loop-told

@@ -74,7 +74,7 @@ loop-i-smaller-then-k-lt-STRING c = search plain-less
 
 pub loop-i-preserved-then-k-lt-STRING : goal.loop-i-preserved-then-k-lt-STRING
 loop-i-preserved-then-k-lt-STRING c = elim c.else-nulls-i-eq0.branch [
-  else-nulls-i-eq0-via-then-nulls-i-eq0+else-get8-top-ne0 w ↦ search plain-fixed
+  | else-nulls-i-eq0-via-then-nulls-i-eq0+else-get8-top-ne0 w ↦ search plain-fixed
   | else-nulls-i-eq0-via-else-nulls-i-eq0 w ↦ search (plain-null, fixed-leaf)
 ]
 
