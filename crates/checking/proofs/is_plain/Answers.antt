@@ -1,7 +1,5 @@
 -- `checking::is_plain` meets its contract: its loop is that of check_fields as long as nothing is out of order. Assumes nothing.
 use mathlib.Core.Path.{refl}
-use mathlib.Core.Logic.{⊎_elim}
-use Prim.Native.Nat.{◌-◌}
 use borrow.Author.Rules.{rules}
 use borrow.Author.Tests.{not-false}
 use Rattle.words.proofs.Numbers.{slice-bytes}

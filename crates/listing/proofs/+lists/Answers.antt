@@ -1,6 +1,5 @@
 -- The cycle of `listing` meets its contracts: what each call asks, and each return, is one law, in the order of the code, with the need's name
 -- behind it. The measure is the depth, and in it the rank of the member; the loops' invariants are `AtField` and `AtItem`. Assumes nothing.
-use Prim.Native.Nat.{◌-◌}
 use Rattle.listing.proofs.Children.{items-head, item-seat, item-null-room, item-more, item_on, item-less, items-null, items_kept, items-end}
 use Rattle.listing.proofs.Items.{elements-leaves, elements-written, containers, containers-few, containers-first, containers-start}
 use Rattle.listing.proofs.Items.{element-elsewhere, element-container, element-value}

@@ -1,5 +1,4 @@
 -- `listing::list_leaves` meets its contract: `AtItem` is its invariant. Assumes nothing.
-use Prim.Native.Nat.{◌-◌}
 use Rattle.listing.proofs.Children.{items-head, item-seat, item-null-room, item-more, item_on, item-less}
 use Rattle.listing.proofs.Children.{items-null, items-own, items_kept, items-end}
 use Rattle.listing.proofs.Items.{leaves-few, leaves-first, leaves-start, leaves-leaf}
