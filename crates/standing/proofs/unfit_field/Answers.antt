@@ -6,7 +6,6 @@ use Rattle.standing.proofs.Tabled.{FieldsPassed, FieldIs, fields-start, fields-a
 use Rattle.standing.proofs.unfit_field.Goals as goal
 use Rattle.standing.proofs.unfit_field.Goals.{After-place}
 
-
 -- the field that the loop has come to
 here : (c : After-place) → FieldIs c.loop-i.invariant c.after-at.result c.place.result
 here c = record {
@@ -15,6 +14,7 @@ here c = record {
   entry = c.entry_at-w.ensures;
   after = c.after-at.ensures;
   kind = c.place.ensures;
+}
 
 pub bitmap_size-slots-requires : goal.bitmap_size-slots-requires
 bitmap_size-slots-requires c = slots-few c.requires.slots
