@@ -56,42 +56,37 @@ pub step-requires : goal.step-requires
 step-requires c = (stepping (goal.at.step-requires c).Else-n-k).stands
 
 pub returns-in-Nowhere : goal.returns-in-Nowhere
-returns-in-Nowhere c = let before = (goal.at.returns-in-Nowhere c).Else-n-k in
-    let step = c.step in
-    walk-nowhere (stepping (before)) refl step.ensures c.enum_told-1.given.1
+returns-in-Nowhere c = let step = c.step in
+    walk-nowhere (stepping ((goal.at.returns-in-Nowhere c).Else-n-k)) refl step.ensures c.enum_told-1.given.1
 
 pub refused-requires-in-Broken : goal.refused-requires-in-Broken
 refused-requires-in-Broken c = walk-asked c.loop-numbers.invariant.0
 
 pub returns-in-Broken : goal.returns-in-Broken
-returns-in-Broken c = let before = (goal.at.returns-in-Broken c).After-step in
-    let step = c.step in
+returns-in-Broken c = let step = c.step in
     let place = c.place-1 in
-    walk-broken (stepping (before)) refl step.ensures place.given.1 c.refused-in-Broken.ensures
+    walk-broken (stepping ((goal.at.returns-in-Broken c).After-step)) refl step.ensures place.given.1 c.refused-in-Broken.ensures
 
 pub overflow_add-k : goal.overflow_add-k
 overflow_add-k c = step_fits (stepping (goal.at.overflow_add-k c).Else-n-k)
 
 pub returns-then-k-n : goal.returns-then-k-n
-returns-then-k-n c = let before = (goal.at.returns-then-k-n c).Else-n-k in
-    let step = c.step in
+returns-then-k-n c = let step = c.step in
     let x = c.x-1 in
-    walk-null (stepping (before)) refl step.ensures x.given.1 c.if-k-n.true
+    walk-null (stepping ((goal.at.returns-then-k-n c).Else-n-k)) refl step.ensures x.given.1 c.if-k-n.true
 
 pub refused-requires-in-Null : goal.refused-requires-in-Null
 refused-requires-in-Null c = walk-asked c.loop-numbers.invariant.0
 
 pub returns-in-Null : goal.returns-in-Null
-returns-in-Null c = let before = (goal.at.returns-in-Null c).After-step in
-    let step = c.step in
+returns-in-Null c = let step = c.step in
     let x = c.x-1 in
-    walk-under (stepping (before)) refl step.ensures x.given.1 c.if-k-n.false c.refused-in-Null.ensures
+    walk-under (stepping ((goal.at.returns-in-Null c).After-step)) refl step.ensures x.given.1 c.if-k-n.false c.refused-in-Null.ensures
 
 pub overflow_add-k-in-loop-numbers : goal.overflow_add-k-in-loop-numbers
 overflow_add-k-in-loop-numbers c = step_fits (stepping (goal.at.overflow_add-k-in-loop-numbers c).Else-n-k)
 
 pub loop-numbers-preserved : goal.loop-numbers-preserved
-loop-numbers-preserved c = let before = (goal.at.loop-numbers-preserved c).Else-n-k in
-    let step = c.step in
+loop-numbers-preserved c = let step = c.step in
     let loop = c.loop-numbers in
-    (walk-to (stepping (before)) refl step.ensures c.p-1.given.1, loop.invariant.1)
+    (walk-to (stepping ((goal.at.loop-numbers-preserved c).Else-n-k)) refl step.ensures c.p-1.given.1, loop.invariant.1)

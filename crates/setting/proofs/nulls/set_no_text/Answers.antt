@@ -7,9 +7,8 @@ returns-then-not-is_fit c = let a = c.args in
     no-text-unfit _ a.bytes.now a.seat a.row.now a.g c.enum_told-in-Bytes-1.given.1 c.is_fit.ensures c.if-not-is_fit.true-raw
 
 pub returns-in-Null : goal.returns-in-Null
-returns-in-Null c = let e = (goal.at.returns-in-Null c).After-clear in
-    let a = e.before.before.before.before.before.before.args in
-    no-text-null _ a.bytes.now a.seat a.row.now a.g e.before.before.enum_told.given.1 _ e.clear.ensures
+returns-in-Null c = let a = c.args in
+    no-text-null _ a.bytes.now a.seat a.row.now a.g c.enum_told-1.given.1 _ c.clear.ensures
 
 pub returns-in-Bool : goal.returns-in-Bool
 returns-in-Bool c = let a = c.args in no-text-bool _ a.bytes.now a.seat a.row.now a.g _ c.enum_told-in-Bool-1.given.1

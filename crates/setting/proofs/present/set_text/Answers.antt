@@ -9,9 +9,8 @@ returns-then-not-is_fit c = let a = c.args in
     c.if-not-is_fit.true-raw
 
 pub returns-then-bytes-len : goal.returns-then-bytes-len
-returns-then-bytes-len c = let e = (goal.at.returns-then-bytes-len c).After-is_fit in
-    let a = e.before.before.before.before.before.args in
-    text-size _ a.bytes.now a.start a.len a.row.now a.g e.before.enum-told6.given.1 e.is-fit.ensures c.if-not-is_fit.false-raw
+returns-then-bytes-len c = let a = c.args in
+    text-size _ a.bytes.now a.start a.len a.row.now a.g c.enum_told-in-Bytes-1.given.1 c.is_fit.ensures c.if-not-is_fit.false-raw
     (search rules)
 
 pub returns-in-Null : goal.returns-in-Null
@@ -35,7 +34,6 @@ returns-in-Float64 c = let a = c.args in
     text-float64 _ a.bytes.now a.start a.len a.row.now a.g _ c.enum_told-in-Float64-1.given.1
 
 pub returns-else-bytes-len : goal.returns-else-bytes-len
-returns-else-bytes-len c = let e = (goal.at.returns-else-bytes-len c).Else-not-is_fit in
-    let a = e.before.before.before.before.before.before.args in
-    text-bytes _ a.bytes.now a.start a.len a.row.now a.g e.before.before.enum-told6.given.1 e.before.is-fit.ensures
-    e.if1.false (search rules) _ c.copy.ensures
+returns-else-bytes-len c = let a = c.args in
+    text-bytes _ a.bytes.now a.start a.len a.row.now a.g c.enum_told-in-Bytes-1.given.1 c.is_fit.ensures
+    c.if-not-is_fit.false-raw (search rules) _ c.copy.ensures
