@@ -5,22 +5,22 @@ use Rattle.setting.proofs.Fits.{leaf-null, leaf-as, leaf-number, leaf-bytes}
 use Rattle.setting.proofs.leaves.leaf_of.Goals as goal
 
 pub returns-in-Null : goal.returns-in-Null
-returns-in-Null c = leaf-null c.args.w c.enum_told-1.given.1
+returns-in-Null c = leaf-null c.args.w c.in-Null.is
 
 pub returns-in-Bool : goal.returns-in-Bool
-returns-in-Bool c = leaf-as c.args.w c.place.result c.place.ensures c.of_bool.result c.g-1.given.1 (λ u. c.of_bool.ensures)
+returns-in-Bool c = leaf-as c.args.w c.place.result c.place.ensures c.of_bool.result c.in-Bool.is (λ u. c.of_bool.ensures)
 
 pub returns-in-Number : goal.returns-in-Number
-returns-in-Number c = leaf-number c.args.w c.of_number.result c.g-in-Number-1.given.1
+returns-in-Number c = leaf-number c.args.w c.of_number.result c.in-Number.is
     (to_z-of_z w64 c.g-in-Number-1.given.0.0 (record { sfits = c.known_told-in-Number-1.given.0.1 })) c.of_number.ensures
 
 pub returns-in-Float32 : goal.returns-in-Float32
-returns-in-Float32 c = leaf-as c.args.w c.place-in-Float32.result c.place-in-Float32.ensures c.of_float32.result c.g-in-Float32-1.given.1
+returns-in-Float32 c = leaf-as c.args.w c.place-in-Float32.result c.place-in-Float32.ensures c.of_float32.result c.in-Float32.is
     (λ u. c.of_float32.ensures)
 
 pub returns-in-Float64 : goal.returns-in-Float64
-returns-in-Float64 c = leaf-as c.args.w c.place-in-Float64.result c.place-in-Float64.ensures c.of_float64.result c.g-in-Float64-1.given.1
+returns-in-Float64 c = leaf-as c.args.w c.place-in-Float64.result c.place-in-Float64.ensures c.of_float64.result c.in-Float64.is
     (λ u. c.of_float64.ensures)
 
 pub returns-in-Bytes : goal.returns-in-Bytes
-returns-in-Bytes c = leaf-bytes c.args.w c.requires c.enum_told-in-Bytes-1.given.1
+returns-in-Bytes c = leaf-bytes c.args.w c.requires c.in-Bytes.is

@@ -3,10 +3,10 @@ use Rattle.setting.proofs.Written.{leaf-unfit, leaf-nulls, leaf-bits}
 use Rattle.setting.proofs.leaves.set_fixed.Goals as goal
 
 pub returns-in-Unfit : goal.returns-in-Unfit
-returns-in-Unfit c = leaf-unfit c.requires c.args.g _ c.leaf_of.ensures c.enum_told-1.given.1
+returns-in-Unfit c = leaf-unfit c.requires c.args.g _ c.leaf_of.ensures c.in-Unfit.is
 
 pub returns-in-Null : goal.returns-in-Null
-returns-in-Null c = leaf-nulls c.requires c.args.g _ c.leaf_of.ensures c.enum_told-in-Null-1.given.1 c.put_null.ensures
+returns-in-Null c = leaf-nulls c.requires c.args.g _ c.leaf_of.ensures c.in-Null.is c.put_null.ensures
 
 pub returns-in-Bits : goal.returns-in-Bits
-returns-in-Bits c = leaf-bits c.requires c.args.g _ c.leaf_of.ensures c.v-1.given.1 c.put_bits.ensures
+returns-in-Bits c = leaf-bits c.requires c.args.g _ c.leaf_of.ensures c.in-Bits.is c.put_bits.ensures
