@@ -1,5 +1,7 @@
 -- `setting::leaves::leaf_of` meets its contract. Assumes nothing.
 use mir.Syntax.{w64}
+use borrow.Author.Rules.{rules}
+use mir.Val.{SFits}
 use mir.ValLaws.{to_z-of_z}
 use Rattle.setting.proofs.Fits.{leaf-null, leaf-as, leaf-number, leaf-bytes}
 use Rattle.setting.proofs.leaves.leaf_of.Goals as goal
@@ -11,8 +13,8 @@ pub returns-in-Bool : goal.returns-in-Bool
 returns-in-Bool c = leaf-as c.args.w c.place.result c.place.ensures c.of_bool.result c.in-Bool.is (λ u. c.of_bool.ensures)
 
 pub returns-in-Number : goal.returns-in-Number
-returns-in-Number c = leaf-number c.args.w c.of_number.result c.in-Number.is
-    (to_z-of_z w64 c.g-in-Number-1.given.0.0 (record { sfits = c.known_told-in-Number-1.given.0.1 })) c.of_number.ensures
+returns-in-Number c = let f : SFits w64 c.in-Number.z = search rules in
+    leaf-number c.args.w c.of_number.result c.in-Number.is (to_z-of_z w64 c.in-Number.z f) c.of_number.ensures
 
 pub returns-in-Float32 : goal.returns-in-Float32
 returns-in-Float32 c = leaf-as c.args.w c.place-in-Float32.result c.place-in-Float32.ensures c.of_float32.result c.in-Float32.is
