@@ -20,8 +20,7 @@ pub to_signed-requires : goal.to_signed-requires
 to_signed-requires c = (c.requires.1, c.requires.2, rw c.get_num.ensures.is (fits (goal.at.to_signed-requires c).After-shared_slice_known-1))
 
 pub returns : goal.returns
-returns c = let s = (goal.at.returns c).Start in
-    let n = num (part s.args.b.now s.args.at s.args.k) in
-    passed c.to_signed.result (to_signed (half_of s.args.k) n)
-    (c.to_signed.ensures ∙ ap (to_signed (half_of s.args.k)) c.get_num.ensures.is)
-    (lt_of_lt_of_le (to_signed-mag (half_of s.args.k) n (fits (goal.at.returns c).After-shared_slice_known-1)) (half_le s.args.k s.requires.2))
+returns c = let n = num (part c.args.b.now c.args.at c.args.k) in
+    passed c.to_signed.result (to_signed (half_of c.args.k) n)
+    (c.to_signed.ensures ∙ ap (to_signed (half_of c.args.k)) c.get_num.ensures.is)
+    (lt_of_lt_of_le (to_signed-mag (half_of c.args.k) n (fits (goal.at.returns c).After-shared_slice_known-1)) (half_le c.args.k c.requires.2))

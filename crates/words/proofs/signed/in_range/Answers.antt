@@ -7,6 +7,5 @@ use mir.ValLaws.{to_z-of_z}
 use Rattle.words.proofs.signed.in_range.Goals as goal
 
 pub returns : goal.returns
-returns c = let s = (goal.at.returns c).Start in
-    let m : c.magnitude.result ≡ mag s.args.x = c.magnitude.ensures ∙ ap mag (to_z-of_z w64 s.args.x s.ranges.x) in
+returns c = let m : c.magnitude.result ≡ mag c.args.x = c.magnitude.ensures ∙ ap mag (to_z-of_z w64 c.args.x c.ranges.x) in
     rw (m, c.half.ensures)

@@ -26,11 +26,9 @@ overflow_add-result c = omega (
 )
 
 pub returns-then-negative : goal.returns-then-negative
-returns-then-negative c = let s = (goal.at.returns-then-negative c).Start in
-    rw (c.half-h.ensures, size (goal.at.returns-then-negative c).After-magnitude-m)
-    (of-high (half_of s.args.k) s.args.x (sign (goal.at.returns-then-negative c).After-negative ∙ c.if-negative.true) s.requires.2)
+returns-then-negative c = rw (c.half-h.ensures, size (goal.at.returns-then-negative c).After-magnitude-m)
+    (of-high (half_of c.args.k) c.args.x (sign (goal.at.returns-then-negative c).After-negative ∙ c.if-negative.true) c.requires.2)
 
 pub returns-else-negative : goal.returns-else-negative
-returns-else-negative c = let s = (goal.at.returns-else-negative c).Start in
-    rw (size (goal.at.returns-else-negative c).After-magnitude-m)
-    (of_low (half_of s.args.k) s.args.x (sign (goal.at.returns-else-negative c).After-negative ∙ c.if-negative.false))
+returns-else-negative c = rw (size (goal.at.returns-else-negative c).After-magnitude-m)
+    (of_low (half_of c.args.k) c.args.x (sign (goal.at.returns-else-negative c).After-negative ∙ c.if-negative.false))

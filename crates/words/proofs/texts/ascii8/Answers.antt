@@ -5,5 +5,6 @@ use Rattle.words.proofs.CharLaws.{word-ascii}
 use Rattle.words.proofs.texts.ascii8.Goals as goal
 
 pub returns : goal.returns
-returns c = let a = c.args in
+returns c e =
+    let a = c.args in
     word-ascii a.at c.get8.result (slice-bytes c.shared_slice_known-1.given) c.requires c.get8.ensures.is (eqb-true _ 0 e)

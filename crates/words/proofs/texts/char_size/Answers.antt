@@ -21,11 +21,12 @@ starts c =
 
 goes : (c : Else-not-within) →
     let a = c.args in
+    Starts (part a.b.now a.i (a.end - a.i)) (get_or a.b.now a.i 0) c.behind.result →
     Goes (part a.b.now a.i (a.end - a.i)) (get_or a.b.now a.i 0) c.behind.result
     c.behind-2.result
-goes c =
+goes c begun =
     record {
-      starts = starts c.before.before.before.before;
+      starts = begun;
       third = c.behind-2.ensures;
       long = c.if-a-lt224.false;
       tail = tells-yes c.within.ensures (not-false _ c.if-not-within.false-raw);
@@ -44,12 +45,12 @@ returns-then-not-within c = size-no-third (starts (goal.at.returns-then-not-with
     (tells-no c.within.ensures (not-true _ c.if-not-within.true-raw))
 
 pub returns-then-a-lt240 : goal.returns-then-a-lt240
-returns-then-a-lt240 c = size-three (goes (goal.at.returns-then-a-lt240 c).Else-not-within) c.if-a-lt240.true
+returns-then-a-lt240 c = size-three (goes (goal.at.returns-then-a-lt240 c).Else-not-within (starts (goal.at.returns-then-a-lt240 c).Else-not-begins)) c.if-a-lt240.true
 
 pub returns-then-not-within-2 : goal.returns-then-not-within-2
-returns-then-not-within-2 c = size-no-fourth (goes (goal.at.returns-then-not-within-2 c).Else-not-within) c.behind-3.ensures c.if-a-lt240.false
+returns-then-not-within-2 c = size-no-fourth (goes (goal.at.returns-then-not-within-2 c).Else-not-within (starts (goal.at.returns-then-not-within-2 c).Else-not-begins)) c.behind-3.ensures c.if-a-lt240.false
     (tells-no c.within-2.ensures (not-true _ c.if-not-within-2.true-raw))
 
 pub returns : goal.returns
-returns c = size-four (goes (goal.at.returns c).Else-not-within) c.behind-3.ensures c.if-a-lt240.false
+returns c = size-four (goes (goal.at.returns c).Else-not-within (starts (goal.at.returns c).Else-not-begins)) c.behind-3.ensures c.if-a-lt240.false
     (tells-yes c.within-2.ensures (not-false _ c.if-not-within-2.false-raw))
