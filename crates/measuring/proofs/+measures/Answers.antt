@@ -1,6 +1,5 @@
 -- The cycle of `measuring` meets its contracts: what each call asks, and each return, is one law, in the order of the code, with the need's name
 -- behind it. The measure is the depth, and in it the rank of the member; the loops' invariants are `ArrayGoing` and `FieldsGoing`. Assumes nothing.
-use mathlib.Core.Logic.{⊎_elim}
 use Prim.Native.Nat.{ℕ}
 use Rattle.measuring.specs.Measure.{ChildTold}
 use Rattle.measuring.proofs.Bodies.{child-short}
@@ -14,18 +13,25 @@ use Rattle.words.proofs.Numbers.{slice-bytes}
 use Rattle.table.specs.Tables.{type_of}
 use Rattle.measuring.proofs.+measures.Goals as goal
 use Rattle.measuring.proofs.+measures.Goals.{measure_array-Joined-place-lt-STRING, measure_fields-Joined-place-lt-STRING}
+use Rattle.measuring.proofs.+measures.Goals.{measure_array-then-place-lt-STRING, measure_array-else-place-lt-STRING+then-place-lt-LIST, measure_array-else-place-lt-STRING+else-place-lt-LIST, measure_fields-then-place-lt-STRING, measure_fields-else-place-lt-STRING+then-place-lt-LIST, measure_fields-else-place-lt-STRING+else-place-lt-LIST}
 
 -- the branches of a turn meet: the child was a number, a text, or a container
 array_told : (m : ℕ) → (c : measure_array-Joined-place-lt-STRING m)
     → let a = c.args in
     ChildTold (type_of a.t.now a.c a.depth) a.l.now c.loop-left.pos c.if-place-lt-STRING.r
-array_told m c = ⊎_elim (λ x. search leaf-came) (⊎_elim (λ x. search leaf-came) (λ x. search child-came)) c.if-place-lt-STRING.branch
+array_told m c = elim c.if-place-lt-STRING.branch [
+    measure_array-then-place-lt-STRING w ↦ search leaf-came
+  | measure_array-else-place-lt-STRING+then-place-lt-LIST w ↦ search leaf-came
+  | measure_array-else-place-lt-STRING+else-place-lt-LIST w ↦ search child-came ]
 
 fields_told : (m : ℕ) → (c : measure_fields-Joined-place-lt-STRING m)
     → let a = c.args in
     let b = c.loop-left in
     ChildTold (type_of a.t.now b.c a.depth) a.l.now b.pos c.if-place-lt-STRING.r
-fields_told m c = ⊎_elim (λ x. search (leaf-came, field-stands)) (⊎_elim (λ x. search (leaf-came, field-stands)) (λ x. search child-came)) c.if-place-lt-STRING.branch
+fields_told m c = elim c.if-place-lt-STRING.branch [
+    measure_fields-then-place-lt-STRING w ↦ search (leaf-came, field-stands)
+  | measure_fields-else-place-lt-STRING+then-place-lt-LIST w ↦ search (leaf-came, field-stands)
+  | measure_fields-else-place-lt-STRING+else-place-lt-LIST w ↦ search child-came ]
 
 pub measure_array-loop-left-init : goal.measure_array-loop-left-init
 measure_array-loop-left-init m c = search (array-start, slice-bytes)
@@ -40,10 +46,10 @@ pub measure_array-measure_child-requires : goal.measure_array-measure_child-requ
 measure_array-measure_child-requires m c = search (child-rank, is-child)
 
 pub measure_array-returns-then-r-eq0 : goal.measure_array-returns-then-r-eq0
-measure_array-returns-then-r-eq0 m c = search (array-bad, array_told m)
+measure_array-returns-then-r-eq0 m c = search (array-bad, array_told m (goal.at.measure_array-returns-then-r-eq0 m c).Joined-place-lt-STRING)
 
 pub measure_array-overflow_add-sum : goal.measure_array-overflow_add-sum
-measure_array-overflow_add-sum m c = search (array-add, array_told m)
+measure_array-overflow_add-sum m c = search (array-add, array_told m (goal.at.measure_array-overflow_add-sum m c).Joined-place-lt-STRING)
 
 pub measure_array-overflow_sub-left : goal.measure_array-overflow_sub-left
 measure_array-overflow_sub-left m c = search some_left
@@ -52,7 +58,7 @@ pub measure_array-loop-left-smaller : goal.measure_array-loop-left-smaller
 measure_array-loop-left-smaller m c = search less-left
 
 pub measure_array-loop-left-preserved : goal.measure_array-loop-left-preserved
-measure_array-loop-left-preserved m c = search (array-next, array_told m)
+measure_array-loop-left-preserved m c = search (array-next, array_told m (goal.at.measure_array-loop-left-preserved m c).Joined-place-lt-STRING)
 
 pub measure_array-pair-requires : goal.measure_array-pair-requires
 measure_array-pair-requires m c = search (goes-low, array-high)
@@ -100,10 +106,10 @@ pub measure_fields-measure_child-requires : goal.measure_fields-measure_child-re
 measure_fields-measure_child-requires m c = search (child-rank, is-child, field-stands)
 
 pub measure_fields-returns-then-r-eq0 : goal.measure_fields-returns-then-r-eq0
-measure_fields-returns-then-r-eq0 m c = search (fields-bad, fields_told m)
+measure_fields-returns-then-r-eq0 m c = search (fields-bad, fields_told m (goal.at.measure_fields-returns-then-r-eq0 m c).Joined-place-lt-STRING)
 
 pub measure_fields-overflow_add-sum : goal.measure_fields-overflow_add-sum
-measure_fields-overflow_add-sum m c = search (fields-add, fields_told m)
+measure_fields-overflow_add-sum m c = search (fields-add, fields_told m (goal.at.measure_fields-overflow_add-sum m c).Joined-place-lt-STRING)
 
 pub measure_fields-overflow_sub-left : goal.measure_fields-overflow_sub-left
 measure_fields-overflow_sub-left m c = search some_left
@@ -112,7 +118,7 @@ pub measure_fields-loop-left-smaller : goal.measure_fields-loop-left-smaller
 measure_fields-loop-left-smaller m c = search less-left
 
 pub measure_fields-loop-left-preserved : goal.measure_fields-loop-left-preserved
-measure_fields-loop-left-preserved m c = search (fields-next, fields_told m)
+measure_fields-loop-left-preserved m c = search (fields-next, fields_told m (goal.at.measure_fields-loop-left-preserved m c).Joined-place-lt-STRING)
 
 pub measure_fields-pair-requires : goal.measure_fields-pair-requires
 measure_fields-pair-requires m c = search (goes-low, fields-high)
