@@ -1,7 +1,6 @@
 -- The cycle of `putting` meets its contracts: what each call asks, and each return, is one law, in the order of the code, with the need's name
 -- behind it. The measure is the depth, and in it the rank of the member; the loops' invariants are `ArrayPaints` and `FieldsPaints`. Assumes nothing.
 use mathlib.Core.Path.{◌∙◌}
-use mathlib.Core.Logic.{⊎_elim}
 use Prim.Native.Nat.{ℕ, ◌-◌}
 use Rattle.putting.proofs.Placed.{KeptHere, SeenHere, child-stands, child-two, child-behind, child-slot, child-count, child-fewer, slot-in}
 use Rattle.putting.proofs.Placed.{bit_in, seen-null, number_in, number_small, number_fits, seen-number, text-can, text-kept, value-can}
@@ -15,41 +14,48 @@ use Rattle.putting.proofs.Valued.{list-can, list_held, keys-stand, keys-can, hea
 use Rattle.measuring.proofs.Chosen.{child-rank}
 use Rattle.putting.proofs.+puts.Goals as goal
 use Rattle.putting.proofs.+puts.Goals.{put_array-Joined-kind-lt-LIST, put_array-Joined-get2-eq-NULL, put_fields-Joined-kind-lt-LIST, put_fields-Joined-get2-eq-NULL}
+use Rattle.putting.proofs.+puts.Goals.{put_array-then-get2-eq-NULL, put_array-else-get2-eq-NULL+then-kind-lt-STRING, put_array-else-get2-eq-NULL+else-kind-lt-STRING, put_array-then-kind-lt-LIST, put_array-else-kind-lt-LIST, put_fields-then-get2-eq-NULL, put_fields-else-get2-eq-NULL+then-kind-lt-STRING, put_fields-else-get2-eq-NULL+else-kind-lt-STRING, put_fields-then-kind-lt-LIST, put_fields-else-kind-lt-LIST}
 
 -- the branches of an element that is held elsewhere meet: its contents stand, be it a text or a container
 array-kept : (m : ℕ) → (c : put_array-Joined-kind-lt-LIST m)
     → KeptHere c.loop-i.invariant.next c.if-kind-lt-LIST.out c.if-kind-lt-LIST.p
-array-kept m c = ⊎_elim (λ w. search text-kept) (λ w. search value-kept) c.if-kind-lt-LIST.branch
+array-kept m c = elim c.if-kind-lt-LIST.branch [
+    put_array-then-kind-lt-LIST w ↦ search text-kept
+  | put_array-else-kind-lt-LIST w ↦ search value-kept ]
 
 -- the branches of a turn meet: all of the element but its slot stands, be it null, a number or held elsewhere
 array_seen : (m : ℕ) → (c : put_array-Joined-get2-eq-NULL m)
     → SeenHere c.loop-i.invariant.next c.if-get2-eq-NULL.out c.if-get2-eq-NULL.x c.if-get2-eq-NULL.at c.if-get2-eq-NULL.cur
-array_seen m c =
-    let a = c.loop-i.invariant in
-    ⊎_elim (λ w. search seen-null)
-    (⊎_elim (λ w. search (seen-number a.next, array-width a w.1.taken))
-    (λ w. search (
-      seen-kept a.next,
-      array-kept m (record { before = record { before = record { before = c.before; if1 = w.0 }; if2 = w.1 }; if3 = w.2 }),
-    )))
-    c.if-get2-eq-NULL.branch
+array_seen m c = let a = c.loop-i.invariant in
+    elim c.if-get2-eq-NULL.branch [
+      put_array-then-get2-eq-NULL w ↦ search seen-null
+    | put_array-else-get2-eq-NULL+then-kind-lt-STRING w ↦ search (seen-number a.next, array-width a w.if-kind-lt-STRING.true)
+    | put_array-else-get2-eq-NULL+else-kind-lt-STRING w ↦
+      let k : KeptHere a.next w.if-kind-lt-LIST.out w.if-kind-lt-LIST.p =
+      elim w.if-kind-lt-LIST.branch [
+        put_array-then-kind-lt-LIST v ↦ search text-kept
+      | put_array-else-kind-lt-LIST v ↦ search value-kept ] in
+      search (seen-kept a.next, k) ]
 
 -- and so it is with a field
 fields-kept : (m : ℕ) → (c : put_fields-Joined-kind-lt-LIST m)
     → KeptHere c.loop-i.invariant.next c.if-kind-lt-LIST.out c.if-kind-lt-LIST.p
-fields-kept m c = ⊎_elim (λ w. search text-kept) (λ w. search value-kept) c.if-kind-lt-LIST.branch
+fields-kept m c = elim c.if-kind-lt-LIST.branch [
+    put_fields-then-kind-lt-LIST w ↦ search text-kept
+  | put_fields-else-kind-lt-LIST w ↦ search value-kept ]
 
 fields-seen : (m : ℕ) → (c : put_fields-Joined-get2-eq-NULL m)
     → SeenHere c.loop-i.invariant.next c.if-get2-eq-NULL.out c.if-get2-eq-NULL.x c.if-get2-eq-NULL.at c.if-get2-eq-NULL.cur
-fields-seen m c =
-    let a = c.loop-i.invariant in
-    ⊎_elim (λ w. search seen-null)
-    (⊎_elim (λ w. search (seen-number a.next))
-    (λ w. search (
-      seen-kept a.next,
-      fields-kept m (record { before = record { before = record { before = c.before; if1 = w.0 }; if2 = w.1 }; if3 = w.2 }),
-    )))
-    c.if-get2-eq-NULL.branch
+fields-seen m c = let a = c.loop-i.invariant in
+    elim c.if-get2-eq-NULL.branch [
+      put_fields-then-get2-eq-NULL w ↦ search seen-null
+    | put_fields-else-get2-eq-NULL+then-kind-lt-STRING w ↦ search (seen-number a.next)
+    | put_fields-else-get2-eq-NULL+else-kind-lt-STRING w ↦
+      let k : KeptHere a.next w.if-kind-lt-LIST.out w.if-kind-lt-LIST.p =
+      elim w.if-kind-lt-LIST.branch [
+        put_fields-then-kind-lt-LIST v ↦ search text-kept
+      | put_fields-else-kind-lt-LIST v ↦ search value-kept ] in
+      search (seen-kept a.next, k) ]
 
 pub put_array-put_front-requires : goal.put_array-put_front-requires
 put_array-put_front-requires m c = search array-front
@@ -96,13 +102,13 @@ pub put_array-put_value-p-requires : goal.put_array-put_value-p-requires
 put_array-put_value-p-requires m c = search (element-rank, value-can c.loop-i.invariant.next)
 
 pub put_array-held_slot-x-requires : goal.put_array-held_slot-x-requires
-put_array-held_slot-x-requires m c = (array-kept m (goal.at.put_array-held_slot-x-requires m c).put_array-Joined-kind-lt-LIST).seat
+put_array-held_slot-x-requires m c = (array-kept m (goal.at.put_array-held_slot-x-requires m c).Joined-kind-lt-LIST).seat
 
 pub put_array-held_end-cur-requires : goal.put_array-held_end-cur-requires
-put_array-held_end-cur-requires m c = seat-end (array-kept m (goal.at.put_array-held_end-cur-requires m c).put_array-Joined-kind-lt-LIST).seat
+put_array-held_end-cur-requires m c = seat-end (array-kept m (goal.at.put_array-held_end-cur-requires m c).Joined-kind-lt-LIST).seat
 
 pub put_array-put_slot-requires : goal.put_array-put_slot-requires
-put_array-put_slot-requires m c = search (slot-in c.loop-i.invariant.next, (array_seen m (goal.at.put_array-put_slot-requires m c).put_array-Joined-get2-eq-NULL).long)
+put_array-put_slot-requires m c = search (slot-in c.loop-i.invariant.next, (array_seen m (goal.at.put_array-put_slot-requires m c).Joined-get2-eq-NULL).long)
 
 pub put_array-overflow_add-slot-in-loop-i : goal.put_array-overflow_add-slot-in-loop-i
 put_array-overflow_add-slot-in-loop-i m c = search (child-slot c.loop-i.invariant.next)
@@ -114,7 +120,7 @@ pub put_array-loop-i-smaller : goal.put_array-loop-i-smaller
 put_array-loop-i-smaller m c = search child-fewer
 
 pub put_array-loop-i-preserved : goal.put_array-loop-i-preserved
-put_array-loop-i-preserved m c = search (array-goes, array_seen m (goal.at.put_array-loop-i-preserved m c).put_array-Joined-get2-eq-NULL)
+put_array-loop-i-preserved m c = search (array-goes, array_seen m (goal.at.put_array-loop-i-preserved m c).Joined-get2-eq-NULL)
 
 pub put_array-returns : goal.put_array-returns
 put_array-returns m c = search array-done
@@ -168,13 +174,13 @@ pub put_fields-put_value-p-requires : goal.put_fields-put_value-p-requires
 put_fields-put_value-p-requires m c = search (field-falls, value-can c.loop-i.invariant.next)
 
 pub put_fields-held_slot-x-requires : goal.put_fields-held_slot-x-requires
-put_fields-held_slot-x-requires m c = (fields-kept m (goal.at.put_fields-held_slot-x-requires m c).put_fields-Joined-kind-lt-LIST).seat
+put_fields-held_slot-x-requires m c = (fields-kept m (goal.at.put_fields-held_slot-x-requires m c).Joined-kind-lt-LIST).seat
 
 pub put_fields-held_end-cur-requires : goal.put_fields-held_end-cur-requires
-put_fields-held_end-cur-requires m c = seat-end (fields-kept m (goal.at.put_fields-held_end-cur-requires m c).put_fields-Joined-kind-lt-LIST).seat
+put_fields-held_end-cur-requires m c = seat-end (fields-kept m (goal.at.put_fields-held_end-cur-requires m c).Joined-kind-lt-LIST).seat
 
 pub put_fields-put8-requires : goal.put_fields-put8-requires
-put_fields-put8-requires m c = search (slot-in, (fields-seen m (goal.at.put_fields-put8-requires m c).put_fields-Joined-get2-eq-NULL).long)
+put_fields-put8-requires m c = search (slot-in, (fields-seen m (goal.at.put_fields-put8-requires m c).Joined-get2-eq-NULL).long)
 
 pub put_fields-overflow_add-slot-in-loop-i : goal.put_fields-overflow_add-slot-in-loop-i
 put_fields-overflow_add-slot-in-loop-i m c = search child-slot
@@ -186,7 +192,7 @@ pub put_fields-loop-i-smaller : goal.put_fields-loop-i-smaller
 put_fields-loop-i-smaller m c = search child-fewer
 
 pub put_fields-loop-i-preserved : goal.put_fields-loop-i-preserved
-put_fields-loop-i-preserved m c = search (field-goes, fields-seen m (goal.at.put_fields-loop-i-preserved m c).put_fields-Joined-get2-eq-NULL)
+put_fields-loop-i-preserved m c = search (field-goes, fields-seen m (goal.at.put_fields-loop-i-preserved m c).Joined-get2-eq-NULL)
 
 pub put_fields-returns : goal.put_fields-returns
 put_fields-returns m c = search fields-done
@@ -230,16 +236,16 @@ put_value-entry_at-requires-2 m c = search keys-stand
 -- a map's values: its keys were written, and their size
 pub put_value-put_array-requires-2 : goal.put_value-put_array-requires-2
 put_value-put_array-requires-2 m c =
-    let p = c.requires in (
-      value-falls p.1 p.0,
-      values-can p.1 c.entry_at.ensures c.place-kind.ensures c.if-kind-eq-STRUCT.false c.if-kind-eq-LIST.false c.get4-n.ensures
+    (
+      value-falls c.requires c.decreases,
+      values-can c.requires c.entry_at.ensures c.place-kind.ensures c.if-kind-eq-STRUCT.false c.if-kind-eq-LIST.false c.get4-n.ensures
           c.put_array-keys.ensures c.entry_at-2.ensures c.after-values.ensures c.low.ensures c.high-end.ensures
-          (c.put8.auto.0 ∙ c.put_array-keys.auto.1.1.1.1.1.1.0),
+          (c.put8.auto.b ∙ c.put_array-keys.auto.out),
     )
 
 -- and they stand behind them
 pub put_value-returns : goal.put_value-returns
 put_value-returns m c =
-    map-held c.requires.1 c.entry_at.ensures c.place-kind.ensures c.if-kind-eq-STRUCT.false c.if-kind-eq-LIST.false
+    map-held c.requires c.entry_at.ensures c.place-kind.ensures c.if-kind-eq-STRUCT.false c.if-kind-eq-LIST.false
     c.get4-n.ensures c.put_array-keys.ensures c.entry_at-2.ensures c.after-values.ensures c.low.ensures
     c.high-end.ensures c.shared_slice_known-2-1.given c.put8.ensures c.put_array-2.ensures
