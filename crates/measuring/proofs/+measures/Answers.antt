@@ -20,18 +20,20 @@ array_told : (m : ℕ) → (c : measure_array-Joined-place-lt-STRING m)
     → let a = c.args in
     ChildTold (type_of a.t.now a.c a.depth) a.l.now c.loop-left.pos c.if-place-lt-STRING.r
 array_told m c = elim c.if-place-lt-STRING.branch [
-    measure_array-then-place-lt-STRING w ↦ search leaf-came
+  | measure_array-then-place-lt-STRING w ↦ search leaf-came
   | measure_array-else-place-lt-STRING+then-place-lt-LIST w ↦ search leaf-came
-  | measure_array-else-place-lt-STRING+else-place-lt-LIST w ↦ search child-came ]
+  | measure_array-else-place-lt-STRING+else-place-lt-LIST w ↦ search child-came
+]
 
 fields_told : (m : ℕ) → (c : measure_fields-Joined-place-lt-STRING m)
     → let a = c.args in
     let b = c.loop-left in
     ChildTold (type_of a.t.now b.c a.depth) a.l.now b.pos c.if-place-lt-STRING.r
 fields_told m c = elim c.if-place-lt-STRING.branch [
-    measure_fields-then-place-lt-STRING w ↦ search (leaf-came, field-stands)
+  | measure_fields-then-place-lt-STRING w ↦ search (leaf-came, field-stands)
   | measure_fields-else-place-lt-STRING+then-place-lt-LIST w ↦ search (leaf-came, field-stands)
-  | measure_fields-else-place-lt-STRING+else-place-lt-LIST w ↦ search child-came ]
+  | measure_fields-else-place-lt-STRING+else-place-lt-LIST w ↦ search child-came
+]
 
 pub measure_array-loop-left-init : goal.measure_array-loop-left-init
 measure_array-loop-left-init m c = search (array-start, slice-bytes)

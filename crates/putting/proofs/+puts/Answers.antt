@@ -20,42 +20,48 @@ use Rattle.putting.proofs.+puts.Goals.{put_array-then-get2-eq-NULL, put_array-el
 array-kept : (m : ℕ) → (c : put_array-Joined-kind-lt-LIST m)
     → KeptHere c.loop-i.invariant.next c.if-kind-lt-LIST.out c.if-kind-lt-LIST.p
 array-kept m c = elim c.if-kind-lt-LIST.branch [
-    put_array-then-kind-lt-LIST w ↦ search text-kept
-  | put_array-else-kind-lt-LIST w ↦ search value-kept ]
+  | put_array-then-kind-lt-LIST w ↦ search text-kept
+  | put_array-else-kind-lt-LIST w ↦ search value-kept
+]
 
 -- the branches of a turn meet: all of the element but its slot stands, be it null, a number or held elsewhere
 array_seen : (m : ℕ) → (c : put_array-Joined-get2-eq-NULL m)
     → SeenHere c.loop-i.invariant.next c.if-get2-eq-NULL.out c.if-get2-eq-NULL.x c.if-get2-eq-NULL.at c.if-get2-eq-NULL.cur
 array_seen m c = let a = c.loop-i.invariant in
     elim c.if-get2-eq-NULL.branch [
-      put_array-then-get2-eq-NULL w ↦ search seen-null
-    | put_array-else-get2-eq-NULL+then-kind-lt-STRING w ↦ search (seen-number a.next, array-width a w.if-kind-lt-STRING.true)
-    | put_array-else-get2-eq-NULL+else-kind-lt-STRING w ↦
-      let k : KeptHere a.next w.if-kind-lt-LIST.out w.if-kind-lt-LIST.p =
-      elim w.if-kind-lt-LIST.branch [
-        put_array-then-kind-lt-LIST v ↦ search text-kept
-      | put_array-else-kind-lt-LIST v ↦ search value-kept ] in
-      search (seen-kept a.next, k) ]
+      | put_array-then-get2-eq-NULL w ↦ search seen-null
+      | put_array-else-get2-eq-NULL+then-kind-lt-STRING w ↦ search (seen-number a.next, array-width a w.if-kind-lt-STRING.true)
+      | put_array-else-get2-eq-NULL+else-kind-lt-STRING w ↦
+          let k : KeptHere a.next w.if-kind-lt-LIST.out w.if-kind-lt-LIST.p =
+          elim w.if-kind-lt-LIST.branch [
+            | put_array-then-kind-lt-LIST v ↦ search text-kept
+            | put_array-else-kind-lt-LIST v ↦ search value-kept
+          ] in
+          search (seen-kept a.next, k)
+    ]
 
 -- and so it is with a field
 fields-kept : (m : ℕ) → (c : put_fields-Joined-kind-lt-LIST m)
     → KeptHere c.loop-i.invariant.next c.if-kind-lt-LIST.out c.if-kind-lt-LIST.p
 fields-kept m c = elim c.if-kind-lt-LIST.branch [
-    put_fields-then-kind-lt-LIST w ↦ search text-kept
-  | put_fields-else-kind-lt-LIST w ↦ search value-kept ]
+  | put_fields-then-kind-lt-LIST w ↦ search text-kept
+  | put_fields-else-kind-lt-LIST w ↦ search value-kept
+]
 
 fields-seen : (m : ℕ) → (c : put_fields-Joined-get2-eq-NULL m)
     → SeenHere c.loop-i.invariant.next c.if-get2-eq-NULL.out c.if-get2-eq-NULL.x c.if-get2-eq-NULL.at c.if-get2-eq-NULL.cur
 fields-seen m c = let a = c.loop-i.invariant in
     elim c.if-get2-eq-NULL.branch [
-      put_fields-then-get2-eq-NULL w ↦ search seen-null
-    | put_fields-else-get2-eq-NULL+then-kind-lt-STRING w ↦ search (seen-number a.next)
-    | put_fields-else-get2-eq-NULL+else-kind-lt-STRING w ↦
-      let k : KeptHere a.next w.if-kind-lt-LIST.out w.if-kind-lt-LIST.p =
-      elim w.if-kind-lt-LIST.branch [
-        put_fields-then-kind-lt-LIST v ↦ search text-kept
-      | put_fields-else-kind-lt-LIST v ↦ search value-kept ] in
-      search (seen-kept a.next, k) ]
+      | put_fields-then-get2-eq-NULL w ↦ search seen-null
+      | put_fields-else-get2-eq-NULL+then-kind-lt-STRING w ↦ search (seen-number a.next)
+      | put_fields-else-get2-eq-NULL+else-kind-lt-STRING w ↦
+          let k : KeptHere a.next w.if-kind-lt-LIST.out w.if-kind-lt-LIST.p =
+          elim w.if-kind-lt-LIST.branch [
+            | put_fields-then-kind-lt-LIST v ↦ search text-kept
+            | put_fields-else-kind-lt-LIST v ↦ search value-kept
+          ] in
+          search (seen-kept a.next, k)
+    ]
 
 pub put_array-put_front-requires : goal.put_array-put_front-requires
 put_array-put_front-requires m c = search array-front
@@ -235,13 +241,12 @@ put_value-entry_at-requires-2 m c = search keys-stand
 
 -- a map's values: its keys were written, and their size
 pub put_value-put_array-requires-2 : goal.put_value-put_array-requires-2
-put_value-put_array-requires-2 m c =
-    (
-      value-falls c.requires c.decreases,
-      values-can c.requires c.entry_at.ensures c.place-kind.ensures c.if-kind-eq-STRUCT.false c.if-kind-eq-LIST.false c.get4-n.ensures
-          c.put_array-keys.ensures c.entry_at-2.ensures c.after-values.ensures c.low.ensures c.high-end.ensures
-          (c.put8.auto.b ∙ c.put_array-keys.auto.out),
-    )
+put_value-put_array-requires-2 m c = (
+  value-falls c.requires c.decreases,
+  values-can c.requires c.entry_at.ensures c.place-kind.ensures c.if-kind-eq-STRUCT.false c.if-kind-eq-LIST.false c.get4-n.ensures
+      c.put_array-keys.ensures c.entry_at-2.ensures c.after-values.ensures c.low.ensures c.high-end.ensures
+      (c.put8.auto.b ∙ c.put_array-keys.auto.out),
+)
 
 -- and they stand behind them
 pub put_value-returns : goal.put_value-returns

@@ -13,21 +13,21 @@ pub set_place-requires : goal.set_place-requires
 set_place-requires c = place-there c.requires c.find.ensures c.in-At.is
 
 pub returns-in-NoPlace : goal.returns-in-NoPlace
-returns-in-NoPlace c =     let a = c.args in
+returns-in-NoPlace c = let a = c.args in
     set-nowhere c.requires c.find.ensures (given_means a.g a.bytes.now) c.in-NoPlace.is
 
 pub returns-in-NullBefore : goal.returns-in-NullBefore
-returns-in-NullBefore c =     let a = c.args in
+returns-in-NullBefore c = let a = c.args in
     set-under c.requires c.find.ensures (given_means a.g a.bytes.now) c.in-NullBefore.is
 
 pub returns-in-Broken : goal.returns-in-Broken
-returns-in-Broken c =     let a = c.args in
+returns-in-Broken c = let a = c.args in
     set-broken c.requires c.find.ensures (given_means a.g a.bytes.now) c.in-Broken.is
 
 pub returns-in-Null : goal.returns-in-Null
-returns-in-Null c =     let a = c.args in
+returns-in-Null c = let a = c.args in
     set-at-null c.requires c.find.ensures c.in-Null.is (given_means a.g a.bytes.now) c.set_null.ensures
 
 pub returns-in-At : goal.returns-in-At
-returns-in-At c =     let a = c.args in
+returns-in-At c = let a = c.args in
     set-at-place c.requires c.find.ensures c.in-At.is (given_means a.g a.bytes.now) c.set_place.ensures
