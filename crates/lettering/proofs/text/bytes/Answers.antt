@@ -7,7 +7,7 @@ use Rattle.lettering.proofs.Lengths.{hex-length}
 use Rattle.lettering.proofs.text.bytes.Goals as goal
 
 pub shape_of-out-then-n-eq0 : goal.shape_of-out-then-n-eq0
-shape_of-out-then-n-eq0 c = c.byte.auto.0
+shape_of-out-then-n-eq0 c = c.byte.auto.out
 
 pub returns-then-n-eq0 : goal.returns-then-n-eq0
 returns-then-n-eq0 c = let if1 = c.if-n-eq0 in
@@ -22,7 +22,7 @@ loop-i-preserved c = let loop = c.loop-i in
     let wide = c.wide in
     let hex = c.hex-next in (
       omega arith,
-      hex.auto.0 ∙ loop.invariant.1,
+      hex.auto.out ∙ loop.invariant.1,
       omega (arith, hex.ensures.next, hex-length 2 wide.result),
       hexes-more c.args.row.now
           c.args.start loop.i _ (omega arith) wide.ensures.0 loop.invariant.3 hex.ensures,

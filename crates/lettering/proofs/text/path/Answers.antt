@@ -28,7 +28,7 @@ step_at-requires-in-loop-k c = record { held = omega (arith, c.requires.few); co
 pub dotted-next-requires : goal.dotted-next-requires
 dotted-next-requires c = let step-at = c.step_at in
     let decimal = c.decimal-next in
-    omega (arith, c.requires.room, c.requires.few, decimal.ensures.next, decimal.auto.0, decimal-twenty step-at.result)
+    omega (arith, c.requires.room, c.requires.few, decimal.ensures.next, decimal.auto.out, decimal-twenty step-at.result)
 
 pub overflow_add-k : goal.overflow_add-k
 overflow_add-k c = omega (arith, c.requires.few)
@@ -39,7 +39,7 @@ loop-k-preserved c = let loop = c.loop-k in
     let dotted = c.dotted-next in (
       omega arith,
       omega arith,
-      dotted.auto.0 ∙ loop.invariant.2,
+      dotted.auto.out ∙ loop.invariant.2,
       omega (arith, dotted.ensures.next, decimal-twenty step-at2.result),
       steps-more
           (path_of c.args.path) loop.k _ loop.invariant.0 (rw (length-path c.args.path) (omega arith)) step-at2.ensures loop.invariant.4
@@ -47,7 +47,7 @@ loop-k-preserved c = let loop = c.loop-k in
     )
 
 pub shape_of-out : goal.shape_of-out
-shape_of-out c = c.loop-k.invariant.2 ∙ c.decimal-next.auto.0
+shape_of-out c = c.loop-k.invariant.2 ∙ c.decimal-next.auto.out
 
 pub returns : goal.returns
 returns c = let if1 = c.if-n-eq0 in
