@@ -1,7 +1,7 @@
 // The card tool: a row or a batch on standard input, the leaves as lines of text on standard output, or the picture of a row.
 #![tactic(auto)]
 
-ghost use Rattle.std.specs.Prelude.{◌≡◌, length};
+ghost use Rattle.std.specs.Prelude.{◌≡◌, length, IfOk};
 ghost use Rattle.lettering.specs.Text.{Puts};
 ghost use Rattle.lettering.specs.Held.{Walked};
 ghost use Rattle.leaves.specs.Whole.{card_of};
@@ -9,7 +9,8 @@ ghost use Rattle.card.specs.Output.{refusal, Ready, judged_text, output_of};
 
 use answers::{Outcome, Refusal};
 use lettering::text;
-use libc::{STDERR_FILENO, STDIN_FILENO, STDOUT_FILENO};
+use std::env::{Env, FillError};
+use std::io::{Result, Write};
 
 mod batches;
 mod input;
@@ -24,46 +25,57 @@ fn refused(out: &mut [u8], n: u8) -> usize
 }
 
 // Says where a row is broken that is refused with 7: standard output has the document's one line, and no place.
-fn say_place(r: Refusal) {
+fn say_place<E: Write>(errors: &mut E, r: Refusal) -> Result<()> {
     if answers::refusals::number(r) == 7 {
-        io::write_all(STDERR_FILENO, b"the row is broken at byte ");
-        io::print_decimal(STDERR_FILENO, answers::refusals::place(r) as u64);
-        io::write_all(STDERR_FILENO, b"\n");
+        let place = answers::refusals::place(r);
+        writeln!(errors, "the row is broken at byte {place}")?;
     }
+    Ok(())
 }
 
 // The card of an accepted row, by the table of its schema, which is worked out once.
-fn accepted_text(schema: &[u8], row: &[u8], out: &mut [u8]) -> usize
+fn accepted_text<W: Write>(to: &mut W, schema: &[u8], row: &[u8], out: &mut [u8]) -> Result<usize>
     requires { Ready schema.now row.now × (length out.old ≡ 262144) }
-    ensures { Walked (card_of schema.now row.now) out.old 0 result out.new }
+    ensures { IfOk result (λ r. Walked (card_of schema.now row.now) out.old 0 r out.new) }
 {
     let mut room = [0u64; 512];
     let n = table::build(schema, &mut room);
-    leaves::whole(&room[..n], row, out, 0)
+    leaves::whole(to, &room[..n], row, out, 0)
 }
 
 // The whole row is checked before its first line is made.
-fn row_text(schema: &[u8], row: &[u8], out: &mut [u8]) -> usize
+fn row_text<W: Write, E: Write>(
+    to: &mut W,
+    errors: &mut E,
+    schema: &[u8],
+    row: &[u8],
+    out: &mut [u8],
+) -> Result<usize>
     requires { length out.old ≡ 262144 }
-    ensures { Walked (judged_text schema.now row.now) out.old 0 result out.new }
+    ensures { IfOk result (λ r. Walked (judged_text schema.now row.now) out.old 0 r out.new) }
 {
     match row::check(schema, row) {
-        Outcome::Done => accepted_text(schema, row, out),
+        Outcome::Done => accepted_text(to, schema, row, out),
         Outcome::Refused(r) => {
-            say_place(r);
-            refused(out, answers::refusals::number(r))
+            say_place(errors, r)?;
+            Ok(refused(out, answers::refusals::number(r)))
         }
     }
 }
 
 // What the tool writes for an input, but for what it printed on the way.
-fn card(input: &[u8], out: &mut [u8]) -> usize
+fn card<W: Write, E: Write>(
+    to: &mut W,
+    errors: &mut E,
+    input: &[u8],
+    out: &mut [u8],
+) -> Result<usize>
     requires { length out.old ≡ 262144 }
-    ensures { Walked (output_of input.now) out.old 0 result out.new }
+    ensures { IfOk result (λ r. Walked (output_of input.now) out.old 0 r out.new) }
 {
     match input::take_apart(input) {
-        input::Split::Short => refused(out, 1),
-        input::Split::Parts(end) => row_text(&input[2..end], &input[end..], out),
+        input::Split::Short => Ok(refused(out, 1)),
+        input::Split::Parts(end) => row_text(to, errors, &input[2..end], &input[end..], out),
     }
 }
 
@@ -75,12 +87,13 @@ fn room() -> [u8; 262144]
 }
 
 // 2 bytes, the longest schema that they announce and a byte more than the longest row: a longer input is refused as this much of it is.
-fn print_card() {
+fn print_card(rt: HostRuntime) -> Result<()> {
+    let mut to = rt.stdout();
     let mut buf = [0u8; 81922];
-    let n = io::read_full(STDIN_FILENO, &mut buf);
+    let n = streams::fill(&mut rt.stdin(), &mut buf)?;
     let mut out = room();
-    let k = card(&buf[..n], &mut out);
-    io::write_all(STDOUT_FILENO, &out[..k]);
+    let k = card(&mut to, &mut rt.stderr(), &buf[..n], &mut out)?;
+    to.write_all(&out[..k])
 }
 
 // A batch is judged whole before its first line, so it is held whole: up to 4 MiB, half of the stack that programs commonly have, and a
@@ -91,56 +104,70 @@ fn batch_room() -> [u8; 4194305]
     [0; 4194305]
 }
 
-fn print_cards() {
+// Kept out of its caller, as `print_where` is, so that the card of a row takes none of the batch's memory, nor of the picture's.
+#[inline(never)]
+fn print_cards(rt: HostRuntime) -> Result<()> {
+    let mut to = rt.stdout();
+    let mut errors = rt.stderr();
     let mut buf = batch_room();
-    let n = io::read_full(STDIN_FILENO, &mut buf);
+    let n = streams::fill(&mut rt.stdin(), &mut buf)?;
     if 4194304 < n {
-        io::write_all(STDERR_FILENO, b"the input is longer than 4194304 bytes\n");
-        return;
+        return errors.write_all(b"the input is longer than 4194304 bytes\n");
     }
     let mut out = room();
-    let k = batches::cards(&buf[..n], &mut out);
-    io::write_all(STDOUT_FILENO, &out[..k]);
+    let k = batches::cards(&mut to, &mut errors, &buf[..n], &mut out)?;
+    to.write_all(&out[..k])
 }
 
-fn print_where() {
+#[inline(never)]
+fn print_where(rt: HostRuntime) -> Result<()> {
+    let mut to = rt.stdout();
     let mut buf = [0u8; 81922];
-    let n = io::read_full(STDIN_FILENO, &mut buf);
+    let n = streams::fill(&mut rt.stdin(), &mut buf)?;
     let mut out = room();
-    let k = whereabouts::where_output(&buf[..n], &mut out);
-    io::write_all(STDOUT_FILENO, &out[..k]);
+    let k = whereabouts::where_output(&mut to, &mut rt.stderr(), &buf[..n], &mut out)?;
+    to.write_all(&out[..k])
 }
 
-// A row without an argument, a batch with `--batch` or its short name `-b`, a row's picture with `--where` or `-w`. A function that is called
-// from two places keeps a frame of its own, so that the card of a row takes none of the batch's memory, nor of the picture's.
-fn main() {
-    let count = os::arg_count();
-    if count < 2 {
-        print_card();
-        return;
+// What the tool does.
+#[derive(Clone, Copy)]
+enum Mode {
+    Card,
+    Cards,
+    Where,
+    Nothing,
+}
+
+// A row without an argument, a batch with `--batch` or its short name `-b`, a row's picture with `--where` or `-w`.
+fn mode_named(word: &[u8]) -> Mode {
+    match word {
+        b"--batch" | b"-b" => Mode::Cards,
+        b"--where" | b"-w" => Mode::Where,
+        _ => Mode::Nothing,
     }
+}
+
+// What the one argument asks for, if there is no more than one.
+fn mode_of<E: Env>(env: &E) -> Mode {
     let mut word = [0u8; 8];
-    let n = os::arg(1, &mut word);
-    if count == 2 {
-        if check::same(&word[..n], b"--batch") {
-            print_cards();
-            return;
-        }
-        if check::same(&word[..n], b"-b") {
-            print_cards();
-            return;
-        }
-        if check::same(&word[..n], b"--where") {
-            print_where();
-            return;
-        }
-        if check::same(&word[..n], b"-w") {
-            print_where();
-            return;
-        }
+    match env.arg(2, &mut word) {
+        Err(FillError::NotPresent) => {}
+        _ => return Mode::Nothing,
     }
-    io::write_all(
-        STDERR_FILENO,
-        b"usage: card [-b | --batch | -w | --where]\n",
-    );
+    match env.arg(1, &mut word) {
+        Ok(n) => mode_named(&word[..n]),
+        Err(FillError::NotPresent) => Mode::Card,
+        Err(FillError::TooLong) => Mode::Nothing,
+    }
+}
+
+fn main(rt: HostRuntime) -> Result<()> {
+    match mode_of(&rt) {
+        Mode::Card => print_card(rt),
+        Mode::Cards => print_cards(rt),
+        Mode::Where => print_where(rt),
+        Mode::Nothing => rt
+            .stderr()
+            .write_all(b"usage: card [-b | --batch | -w | --where]\n"),
+    }
 }

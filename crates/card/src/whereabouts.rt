@@ -1,5 +1,5 @@
 // What the tool writes where the picture of a row is asked for.
-ghost use Rattle.std.specs.Prelude.{◌≡◌, length};
+ghost use Rattle.std.specs.Prelude.{◌≡◌, length, IfOk};
 ghost use Rattle.lettering.specs.Held.{Walked};
 ghost use Rattle.picture.specs.Picture.{fault_of, shown};
 ghost use Rattle.card.specs.Output.{Ready};
@@ -7,42 +7,61 @@ ghost use Rattle.card.specs.Whereabouts.{where_text, where_output_of};
 
 use crate::input;
 use answers::Outcome;
+use std::io::{Result, Write};
 
 // The picture of a row, sound or broken, by the table of its schema.
-fn pictured(schema: &[u8], row: &[u8], sound: bool, place: usize, out: &mut [u8]) -> usize
+fn pictured<W: Write>(
+    to: &mut W,
+    schema: &[u8],
+    row: &[u8],
+    sound: bool,
+    place: usize,
+    out: &mut [u8],
+) -> Result<usize>
     requires { Ready schema.now row.now × (length out.old ≡ 262144) }
-    ensures { Walked (shown schema.now row.now (fault_of sound place)) out.old 0 result out.new }
+    ensures { IfOk result (λ r. Walked (shown schema.now row.now (fault_of sound place)) out.old 0 r out.new) }
 {
     let mut room = [0u64; 512];
     let n = table::build(schema, &mut room);
-    picture::charted(&room[..n], row, sound, place, out)
+    picture::charted(to, &room[..n], row, sound, place, out)
 }
 
 // A broken row has its picture too: only one without an accepted schema, or too long, has none.
-fn where_text(schema: &[u8], row: &[u8], out: &mut [u8]) -> usize
+fn where_text<W: Write, E: Write>(
+    to: &mut W,
+    errors: &mut E,
+    schema: &[u8],
+    row: &[u8],
+    out: &mut [u8],
+) -> Result<usize>
     requires { length out.old ≡ 262144 }
-    ensures { Walked (where_text schema.now row.now) out.old 0 result out.new }
+    ensures { IfOk result (λ r. Walked (where_text schema.now row.now) out.old 0 r out.new) }
 {
     match row::check(schema, row) {
-        Outcome::Done => pictured(schema, row, true, 0, out),
+        Outcome::Done => pictured(to, schema, row, true, 0, out),
         Outcome::Refused(r) => {
             let n = answers::refusals::number(r);
             if n != 7 {
-                return crate::refused(out, n);
+                return Ok(crate::refused(out, n));
             }
-            crate::say_place(r);
-            pictured(schema, row, false, answers::refusals::place(r), out)
+            crate::say_place(errors, r)?;
+            pictured(to, schema, row, false, answers::refusals::place(r), out)
         }
     }
 }
 
 // What the tool writes for an input, but for what it printed on the way.
-pub fn where_output(input: &[u8], out: &mut [u8]) -> usize
+pub fn where_output<W: Write, E: Write>(
+    to: &mut W,
+    errors: &mut E,
+    input: &[u8],
+    out: &mut [u8],
+) -> Result<usize>
     requires { length out.old ≡ 262144 }
-    ensures { Walked (where_output_of input.now) out.old 0 result out.new }
+    ensures { IfOk result (λ r. Walked (where_output_of input.now) out.old 0 r out.new) }
 {
     match input::take_apart(input) {
-        input::Split::Short => crate::refused(out, 1),
-        input::Split::Parts(end) => where_text(&input[2..end], &input[end..], out),
+        input::Split::Short => Ok(crate::refused(out, 1)),
+        input::Split::Parts(end) => where_text(to, errors, &input[2..end], &input[end..], out),
     }
 }

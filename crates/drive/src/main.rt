@@ -9,25 +9,40 @@ mod calls_catalogue;
 mod calls_log;
 mod requests;
 
+use std::io::{Read, Result, Write};
+
 // More requests than any run holds: the loop counts them, so that it ends on every input.
 const REQUESTS: u64 = 0xFFFF_FFFF_FFFF_FFFF;
 
-fn run(body: &mut [u8], out: &mut [u8], line: &mut [u8])
+fn run<R: Read, W: Write>(
+    from: &mut R,
+    to: &mut W,
+    body: &mut [u8],
+    out: &mut [u8],
+    line: &mut [u8],
+) -> Result<()>
     requires { 110256 ≤ length body.old }
 {
     let mut left: u64 = REQUESTS;
     while 0 < left {
-        if !requests::next(body, out, line) {
+        if !requests::next(from, to, body, out, line)? {
             break;
         }
         left -= 1;
     }
+    Ok(())
 }
 
-fn main() {
+fn main(rt: HostRuntime) -> Result<()> {
     // The parts of the longest request, the longest output, and a line with that in hex.
     let mut body = [0u8; 110256];
     let mut out = [0u8; 70000];
     let mut line = [0u8; 140100];
-    run(&mut body, &mut out, &mut line);
+    run(
+        &mut rt.stdin(),
+        &mut rt.stdout(),
+        &mut body,
+        &mut out,
+        &mut line,
+    )
 }

@@ -3,7 +3,7 @@ ghost use Rattle.std.specs.Prelude.{◌≤◌, length};
 
 use crate::calls;
 use crate::calls::WORDS;
-use libc::{STDIN_FILENO, STDOUT_FILENO};
+use std::io::{Read, Result, Write};
 
 // The longest parts that a request may have; what it may ask to be lent, `calls` says.
 const SCHEMA: usize = 20000;
@@ -42,16 +42,16 @@ enum Start {
     Request(Head),
 }
 
-fn read_head() -> Start {
+fn read_head<R: Read>(from: &mut R) -> Result<Start> {
     let mut bytes = [0u8; 30];
-    let n = io::read_full(STDIN_FILENO, &mut bytes);
+    let n = streams::fill(from, &mut bytes)?;
     if n == 0 {
-        return Start::Nothing;
+        return Ok(Start::Nothing);
     }
     if n < 30 {
-        return Start::Cut;
+        return Ok(Start::Cut);
     }
-    Start::Request(Head {
+    Ok(Start::Request(Head {
         op: bytes[0],
         schema: words::nums::get4(&bytes, 1),
         second: words::nums::get4(&bytes, 5),
@@ -61,7 +61,7 @@ fn read_head() -> Start {
         by_table: BY_TABLE <= bytes[21],
         kind: bytes[21] % BY_TABLE,
         value: words::nums::get8(&bytes, 22),
-    })
+    }))
 }
 
 // The words from their bytes, and how many there are.
@@ -80,63 +80,76 @@ fn take_words(bytes: &[u8], table: &mut [u64]) -> usize {
 
 // How many words the table behind the head has, which then stand at the start of the lent ones: none where the request is by its schema
 // alone. Their bytes go through the room of the parts, which are read after them.
-fn read_table(by_table: bool, body: &mut [u8], table: &mut [u64]) -> usize
+fn read_table<R: Read>(
+    from: &mut R,
+    by_table: bool,
+    body: &mut [u8],
+    table: &mut [u64],
+) -> Result<usize>
     requires { 110256 ≤ length body.old }
 {
     if !by_table {
-        return 0;
+        return Ok(0);
     }
-    if io::read_full(STDIN_FILENO, &mut body[0..4]) < 4 {
-        return NO_TABLE;
+    if streams::fill(from, &mut body[0..4])? < 4 {
+        return Ok(NO_TABLE);
     }
     let n = words::nums::get4(body, 0);
     if WORDS < n {
-        return NO_TABLE;
+        return Ok(NO_TABLE);
     }
     let end = 8 * n;
-    if io::read_full(STDIN_FILENO, &mut body[0..end]) < end {
-        return NO_TABLE;
+    if streams::fill(from, &mut body[0..end])? < end {
+        return Ok(NO_TABLE);
     }
-    take_words(&body[0..end], table)
+    Ok(take_words(&body[0..end], table))
 }
 
 // The line of a request, written; false where it has none.
-fn write_line(line: &mut [u8], end: usize) -> bool {
+fn write_line<W: Write>(to: &mut W, line: &mut [u8], end: usize) -> Result<bool> {
     if end == 0 {
-        return false;
+        return Ok(false);
     }
     let n = telling::end(line, end);
     if n <= line.len() {
-        io::write_all(STDOUT_FILENO, &line[0..n]);
+        to.write_all(&line[0..n])?;
     }
-    true
+    Ok(true)
 }
 
 // The parts of a request and its line; false where it is beyond the limits, cut short, or of no op.
-fn serve_parts(h: Head, table: &[u64], body: &mut [u8], out: &mut [u8], line: &mut [u8]) -> bool
+fn serve_parts<R: Read, W: Write>(
+    from: &mut R,
+    to: &mut W,
+    h: Head,
+    table: &[u64],
+    body: &mut [u8],
+    out: &mut [u8],
+    line: &mut [u8],
+) -> Result<bool>
     requires { 110256 ≤ length body.old }
 {
     let schema = h.schema;
     if SCHEMA < schema {
-        return false;
+        return Ok(false);
     }
     let second = h.second;
     if SECOND < second {
-        return false;
+        return Ok(false);
     }
     let steps = h.steps;
     if STEPS < steps {
-        return false;
+        return Ok(false);
     }
     let third = h.third;
     if THIRD < third {
-        return false;
+        return Ok(false);
     }
     let second_end = schema + second;
     let steps_end = second_end + 4 * steps;
     let end = steps_end + third;
-    if io::read_full(STDIN_FILENO, &mut body[0..end]) < end {
-        return false;
+    if streams::fill(from, &mut body[0..end])? < end {
+        return Ok(false);
     }
     let whole = &body[..];
     let n = calls::answer(
@@ -149,33 +162,46 @@ fn serve_parts(h: Head, table: &[u64], body: &mut [u8], out: &mut [u8], line: &m
         out,
         line,
     );
-    write_line(line, n)
+    write_line(to, line, n)
 }
 
 // The same, with the table behind the head.
-fn serve(h: Head, body: &mut [u8], out: &mut [u8], line: &mut [u8]) -> bool
+fn serve<R: Read, W: Write>(
+    from: &mut R,
+    to: &mut W,
+    h: Head,
+    body: &mut [u8],
+    out: &mut [u8],
+    line: &mut [u8],
+) -> Result<bool>
     requires { 110256 ≤ length body.old }
 {
     let mut table = [0u64; 1024];
-    let count = read_table(h.by_table, body, &mut table);
+    let count = read_table(from, h.by_table, body, &mut table)?;
     if WORDS < count {
-        return false;
+        return Ok(false);
     }
-    serve_parts(h, &table[0..count], body, out, line)
+    serve_parts(from, to, h, &table[0..count], body, out, line)
 }
 
-fn end_run() -> bool {
-    io::write_all(STDOUT_FILENO, b"end\n");
-    false
+fn end_run<W: Write>(to: &mut W) -> Result<bool> {
+    to.write_all(b"end\n")?;
+    Ok(false)
 }
 
 // Whether the run goes on after one more request.
-pub fn next(body: &mut [u8], out: &mut [u8], line: &mut [u8]) -> bool
+pub fn next<R: Read, W: Write>(
+    from: &mut R,
+    to: &mut W,
+    body: &mut [u8],
+    out: &mut [u8],
+    line: &mut [u8],
+) -> Result<bool>
     requires { 110256 ≤ length body.old }
 {
-    match read_head() {
-        Start::Nothing => false,
-        Start::Cut => end_run(),
-        Start::Request(h) => serve(h, body, out, line) || end_run(),
+    match read_head(from)? {
+        Start::Nothing => Ok(false),
+        Start::Cut => end_run(to),
+        Start::Request(h) => Ok(serve(from, to, h, body, out, line)? || end_run(to)?),
     }
 }

@@ -1,7 +1,7 @@
 // The card of a row that was accepted: a line of text for each of its leaves and nulls.
 #![tactic(auto)]
 
-ghost use Rattle.std.specs.Prelude.{◌≡◌, ◌≤◌, length};
+ghost use Rattle.std.specs.Prelude.{◌≡◌, ◌≤◌, length, IfOk};
 ghost use Rattle.table.specs.Tables.{schema_of};
 ghost use Rattle.answers.specs.Meaning.{meaning};
 ghost use Rattle.answers.specs.Paths.{path_of};
@@ -13,6 +13,7 @@ ghost use Rattle.leaves.specs.Whole.{card_of, card_at, WalkRoom};
 
 use answers::{Answer, Path};
 use reading::{Found, TypeParts};
+use std::io::{Result, Write};
 
 mod lines;
 
@@ -86,36 +87,50 @@ fn show(t: &[u64], row: &[u8], path: Path, out: &mut [u8], at: usize) -> Shown
 
 // A place and all below it: a loop over its children, so that the stack grows with the path's length alone. A schema of eight levels has
 // paths of at most 13 steps, two for a map.
-fn place(t: &[u64], row: &[u8], path: Path, out: &mut [u8], used: usize) -> usize
+fn place<W: Write>(
+    to: &mut W,
+    t: &[u64],
+    row: &[u8],
+    path: Path,
+    out: &mut [u8],
+    used: usize,
+) -> Result<usize>
     requires { WalkRoom t.now row.now path out.old used }
-    ensures { Walked (card_at (schema_of t.now) row.now path) out.old used result out.new }
+    ensures { IfOk result (λ r. Walked (card_at (schema_of t.now) row.now path) out.old used r out.new) }
 {
-    let here = show(t, row, path, out, lettering::spill(out, used));
+    let at = lettering::spill(to, out, used)?;
+    let here = show(t, row, path, out, at);
     let count = here.count;
     let mut next = here.next;
     let n = path.len;
     if 16 <= n {
-        return next;
+        return Ok(next);
     }
     let mut child = path;
     child.len = n + 1;
     let mut i: usize = 0;
     while i < count {
         child.steps[n] = i as u32;
-        next = place(t, row, child, out, next);
+        next = place(to, t, row, child, out, next)?;
         i += 1;
     }
-    next
+    Ok(next)
 }
 
 // The card of an accepted row: its text in the lent bytes behind the used ones, but for what was printed on the way.
-pub fn whole(t: &[u64], row: &[u8], out: &mut [u8], used: usize) -> usize
+pub fn whole<W: Write>(
+    to: &mut W,
+    t: &[u64],
+    row: &[u8],
+    out: &mut [u8],
+    used: usize,
+) -> Result<usize>
     requires { Open t.now row.now × (length out.old ≡ 262144) × (used ≤ 262144) }
-    ensures { Walked (card_of (schema_of t.now) row.now) out.old used result out.new }
+    ensures { IfOk result (λ r. Walked (card_of (schema_of t.now) row.now) out.old used r out.new) }
 {
     let root = Path {
         steps: [0; 16],
         len: 0,
     };
-    place(t, row, root, out, used)
+    place(to, t, row, root, out, used)
 }

@@ -1,7 +1,7 @@
 // The picture of a row: a line for each 8 of its bytes, and a mark under its first wrong byte.
 #![tactic(auto)]
 
-ghost use Rattle.std.specs.Prelude.{◌≡◌, ◌+◌, ◌*◌, ◌≤◌, ◌<◌, length};
+ghost use Rattle.std.specs.Prelude.{◌≡◌, ◌+◌, ◌*◌, ◌≤◌, ◌<◌, length, IfOk};
 ghost use Rattle.words.specs.Bytes.{part, zeros};
 ghost use Rattle.answers.specs.Paths.{path_of};
 ghost use Rattle.table.specs.Tables.{schema_of};
@@ -16,6 +16,7 @@ ghost use Rattle.picture.specs.Picture.{under as under_of, behind as behind_of, 
 
 use answers::Path;
 use lettering::text;
+use std::io::{Result, Write};
 
 fn spaces(out: &mut [u8], at: usize, n: usize) -> usize
     requires { at + n ≤ length out.old }
@@ -200,19 +201,27 @@ fn behind(out: &mut [u8], at: usize, sound: bool, place: usize, n: usize) -> usi
     mark(out, at, place)
 }
 
-fn picture(row: &[u8], chart: &[u32], sound: bool, place: usize, out: &mut [u8]) -> usize
+fn picture<W: Write>(
+    to: &mut W,
+    row: &[u8],
+    chart: &[u32],
+    sound: bool,
+    place: usize,
+    out: &mut [u8],
+) -> Result<usize>
     requires { Long chart.now × (length row.now ≤ 16384) × (length out.old ≡ 262144) }
-    ensures { Walked (picture_of row.now chart.now (fault_of sound place)) out.old 0 result out.new }
+    ensures { IfOk result (λ r. Walked (picture_of row.now chart.now (fault_of sound place)) out.old 0 r out.new) }
 {
     let n = (row.len() + 7) >> 3;
     let mut used = 0;
     let mut u = 0;
     while u < n {
-        let next = line(out, lettering::spill(out, used), row, chart, u);
+        let at = lettering::spill(to, out, used)?;
+        let next = line(out, at, row, chart, u);
         used = under(out, next, sound, place, u);
         u += 1;
     }
-    behind(out, used, sound, place, n)
+    Ok(behind(out, used, sound, place, n))
 }
 
 fn empty_chart() -> [u32; 36864]
@@ -222,11 +231,18 @@ fn empty_chart() -> [u32; 36864]
 }
 
 // For sound and broken rows alike, so that the chart is in this frame alone; t is the table of the row's schema.
-pub fn charted(t: &[u64], row: &[u8], sound: bool, place: usize, out: &mut [u8]) -> usize
+pub fn charted<W: Write>(
+    to: &mut W,
+    t: &[u64],
+    row: &[u8],
+    sound: bool,
+    place: usize,
+    out: &mut [u8],
+) -> Result<usize>
     requires { Open t.now row.now × (length out.old ≡ 262144) }
-    ensures { Walked (shown (schema_of t.now) row.now (fault_of sound place)) out.old 0 result out.new }
+    ensures { IfOk result (λ r. Walked (shown (schema_of t.now) row.now (fault_of sound place)) out.old 0 r out.new) }
 {
     let mut chart = empty_chart();
     chart::draw(t, row, &mut chart);
-    picture(row, &chart, sound, place, out)
+    picture(to, row, &chart, sound, place, out)
 }

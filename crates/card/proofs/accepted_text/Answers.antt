@@ -21,10 +21,8 @@ slice_bounds-whole-end c = let got = made c.requires.0.schema c.build-n.ensures 
     got.size
 
 pub whole-requires : goal.whole-requires
-whole-requires c = let entry = (goal.at.whole-requires c).Start in
-    (made-open entry.requires.0 c.build-n.ensures, entry.requires.1, omega arith)
+whole-requires c = (made-open c.requires.0 c.build-n.ensures, c.requires.1, omega arith)
 
 pub returns : goal.returns
-returns c = let entry = (goal.at.returns c).Start in
-    let got = made entry.requires.0.schema c.build-n.ensures in
-    walked_as (ap (λ (s : List ℕ). card_of s entry.args.row.now) got.says) c.whole.ensures
+returns c = let got = made c.requires.0.schema c.build-n.ensures in
+    walked_as (ap (λ (s : List ℕ). card_of s c.args.row.now) got.says) c.whole.ensures

@@ -4,9 +4,8 @@ use Rattle.card.proofs.Checked.{checked, text-done, text-refused, refusal-walked
 use Rattle.card.proofs.row_text.Goals as goal
 
 pub accepted_text-requires : goal.accepted_text-requires
-accepted_text-requires c = let entry = (goal.at.accepted_text-requires c).Start in
-    let check = c.check in
-    (checked _ _ _ check.ensures c.enum_told-1.given.1, entry.requires)
+accepted_text-requires c = let check = c.check in
+    (checked _ _ _ check.ensures c.enum_told-1.given.1, c.requires)
 
 pub returns-in-Done : goal.returns-in-Done
 returns-in-Done c = let check = c.check in

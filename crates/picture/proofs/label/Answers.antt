@@ -14,7 +14,7 @@ padding-l-requires c = let pre = c.requires in
     let word = c.word-p in
     let args = c.args in
     let few = word-most (bit_and args.w 7) (omega (arith, mask_is args.w 3)) in
-    omega (arith, pre.0, word.ensures.next, word.auto.0, few)
+    omega (arith, pre.0, word.ensures.next, word.auto.out, few)
 
 pub linked-requires : goal.linked-requires
 linked-requires c = let word = c.word-p in
@@ -22,7 +22,7 @@ linked-requires c = let word = c.word-p in
     let pre = c.requires in
     let args = c.args in
     let few = word-most (bit_and args.w 7) (omega (arith, mask_is args.w 3)) in
-    (omega (arith, pre.0, word.ensures.next, word.auto.0, padding.ensures.next, padding.auto.0, few, padding-most args.w), pre.1)
+    (omega (arith, pre.0, word.ensures.next, word.auto.out, padding.ensures.next, padding.auto.out, few, padding-most args.w), pre.1)
 
 pub returns : goal.returns
 returns c = let word = c.word-p in

@@ -17,7 +17,7 @@ label-requires c = let pre = c.requires in
     let spaces' = c.spaces-l in
     let args = c.args in
     let path-at = c.path_at in
-    (omega (arith, pre.0, spaces'.ensures.next, spaces'.auto.0, spaces-length (3 * (8 - args.k) + 2)), path-at.ensures.few)
+    (omega (arith, pre.0, spaces'.ensures.next, spaces'.auto.out, spaces-length (3 * (8 - args.k) + 2)), path-at.ensures.few)
 
 pub returns : goal.returns
 returns c = let what = c.what-w in

@@ -10,7 +10,7 @@ pub byte-b-requires : goal.byte-b-requires
 byte-b-requires c = let pre = c.requires in
     let right = c.right-s in
     let args = c.args in
-    omega (arith, pre.0, right.ensures.next, right.auto.0, right-length 5 (8 * args.u))
+    omega (arith, pre.0, right.ensures.next, right.auto.out, right-length 5 (8 * args.u))
 
 pub spaced-l-requires : goal.spaced-l-requires
 spaced-l-requires c = let args = c.args in
@@ -20,7 +20,7 @@ spaced-l-requires c = let args = c.args in
     let byte = c.byte-b in
     let f = on-line-fits (length args.row.now) args.u pre.2 in
     let e = on_line.ensures in (
-      omega (arith, pre.0, right.ensures.next, right.auto.0, right-length 5 (8 * args.u), byte.ensures.next, byte.auto.0, e, f.0),
+      omega (arith, pre.0, right.ensures.next, right.auto.out, right-length 5 (8 * args.u), byte.ensures.next, byte.auto.out, e, f.0),
       rw e f.1,
     )
 
@@ -38,12 +38,12 @@ labelled-end-requires c = let far = (goal.at.labelled-end-requires c).After-righ
         arith,
         pre.0,
         right.ensures.next,
-        right.auto.0,
+        right.auto.out,
         right-length 5 (8 * args.u),
         byte.ensures.next,
-        byte.auto.0,
+        byte.auto.out,
         spaced.ensures.next,
-        spaced.auto.0,
+        spaced.auto.out,
         spaced-most args.row.now args.u _ e pre.2,
       ),
       pre.1,
@@ -65,15 +65,15 @@ byte-requires c = let far = (goal.at.byte-requires c).After-byte-arg-1 in
       arith,
       pre.0,
       right.ensures.next,
-      right.auto.0,
+      right.auto.out,
       right-length 5 (8 * args.u),
       byte.ensures.next,
-      byte.auto.0,
+      byte.auto.out,
       spaced.ensures.next,
-      spaced.auto.0,
+      spaced.auto.out,
       spaced-most args.row.now args.u _ on_line.ensures pre.2,
       labelled.ensures.next,
-      labelled.auto.0,
+      labelled.auto.out,
       labelled-most on_line.result (what_at m args.u) (steps_at m args.u) (steps-most m args.u),
     )
 

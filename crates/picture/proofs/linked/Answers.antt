@@ -13,7 +13,7 @@ pub path-requires : goal.path-requires
 path-requires c = let pre = c.requires in
     let link = c.link-next in
     let args = c.args in
-    record { room = omega (arith, pre.0, link.ensures.next, link.auto.0, link-most args.w); few = pre.1 }
+    record { room = omega (arith, pre.0, link.ensures.next, link.auto.out, link-most args.w); few = pre.1 }
 
 pub returns : goal.returns
 returns c = let if1 = c.if-path-eq0 in

@@ -24,7 +24,7 @@ put-requires : tie.Need-put-requires
 put-requires c κs =
     let spaces = c.before.before.before.before.spaces in
     let args = c.before.before.before.before.before.before.before.args in
-    omega (arith, spaces.ensures.next, spaces.auto.0, spaces-length (7 + 3 * bit_and args.place 7), mask_is args.place 3)
+    omega (arith, spaces.ensures.next, spaces.auto.out, spaces-length (7 + 3 * bit_and args.place 7), mask_is args.place 3)
 
 same_length : tie.Need-same-length
 same_length c = search rules

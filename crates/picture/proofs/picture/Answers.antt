@@ -31,7 +31,7 @@ under-used-requires c = let loop = c.before.before.before.before.before.before.b
     let spill = c.spill in
     let d = loop.invariant in
     let few = line-most args.row.now args.chart.now loop.u (omega (arith, loop-test.true)) in
-    omega (arith, d.room, d.long, spill.ensures.few, line.ensures.next, line.auto.0, few)
+    omega (arith, d.room, d.long, spill.ensures.few, line.ensures.next, line.auto.out, few)
 
 pub overflow_add-u : goal.overflow_add-u
 overflow_add-u c = let far = (goal.at.overflow_add-u c).After-shared_slice_known-2-1 in
@@ -48,13 +48,13 @@ loop-u-preserved c = let line = c.line-next in
     let loop = c.before.before.before.before.before.before.before.before.before.before.before.loop in
     let loop-test = c.before.before.before.before.before.before.before.before.before.before.loop-test in
     let spill = c.spill in
-    drawn-next loop.invariant loop-test.true spill.ensures line.ensures line.auto.0 under.ensures under.auto.0
+    drawn-next loop.invariant loop-test.true spill.ensures line.ensures line.auto.out under.ensures under.auto.out
 
 pub behind-requires : goal.behind-requires
 behind-requires c = let d = c.loop-u.invariant in omega (arith, d.room, d.within, d.long)
 
 pub shape_of-out : goal.shape_of-out
-shape_of-out c = c.behind.auto.0 ∙ c.loop-u.invariant.long
+shape_of-out c = c.behind.auto.out ∙ c.loop-u.invariant.long
 
 pub returns : goal.returns
 returns c = let loop = c.loop-u in

@@ -10,7 +10,7 @@ pub loop-i-init : goal.loop-i-init
 loop-i-init c = (omega arith, refl, omega arith, spaced-none _ c.args.row.now _ c.args.start)
 
 pub hex-next-requires : goal.hex-next-requires
-hex-next-requires c = omega (arith, c.byte-digits.ensures.next, c.byte-digits.auto.0)
+hex-next-requires c = omega (arith, c.byte-digits.ensures.next, c.byte-digits.auto.out)
 
 pub loop-i-preserved : goal.loop-i-preserved
 loop-i-preserved c = let l = c.loop-i in
@@ -18,7 +18,7 @@ loop-i-preserved c = let l = c.loop-i in
     let h = c.hex-next in
     let a = c.args in (
       omega arith,
-      h.auto.0 ∙ b.auto.0 ∙ l.invariant.1,
+      h.auto.out ∙ b.auto.out ∙ l.invariant.1,
       omega (arith, b.ensures.next, h.ensures.next, hex-length 2 c.wide.result),
       spaced-more a.row.now a.start l.i _ (omega arith) c.wide.ensures.0 l.invariant.3 b.ensures h.ensures,
     )

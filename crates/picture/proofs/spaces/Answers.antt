@@ -11,7 +11,7 @@ loop-i-init c = (omega arith, refl, omega arith, spaces-none _ _)
 pub loop-i-preserved : goal.loop-i-preserved
 loop-i-preserved c = let byte = c.byte-next in
     let loop = c.loop-i in
-    (omega arith, byte.auto.0 ∙ loop.invariant.1, omega (arith, byte.ensures.next), spaces-more _ loop.invariant.3 byte.ensures)
+    (omega arith, byte.auto.out ∙ loop.invariant.1, omega (arith, byte.ensures.next), spaces-more _ loop.invariant.3 byte.ensures)
 
 pub shape_of-out : goal.shape_of-out
 shape_of-out c = c.loop-i.invariant.1

@@ -12,14 +12,16 @@ pub loop-i-init : goal.loop-i-init
 loop-i-init c = (omega arith, refl)
 
 pub returns-then-t-at : goal.returns-then-t-at
-returns-then-t-at c = other_byte c.get2-n.ensures c.requires c.args.s.now c.loop-i.i (omega arith) c.if-t-at.true
+returns-then-t-at c = let l = c.loop-i in
+    other_byte c.get2-n.ensures c.requires c.args.s.now l.i (omega arith) c.if-t-at.true
 
 pub loop-i-preserved : goal.loop-i-preserved
-loop-i-preserved c = (
+loop-i-preserved c = let l = c.loop-i in (
   omega arith,
-  next-byte c.get2-n.ensures c.requires c.args.s.now c.loop-i.i (omega arith) (omega arith) c.loop-i.invariant.1 c.if-t-at.false,
+  next-byte c.get2-n.ensures c.requires c.args.s.now l.i (omega arith) (omega arith) l.invariant.1 c.if-t-at.false,
 )
 
 pub returns : goal.returns
-returns c = let e : c.loop-i.i ≡ c.get2-n.result = omega arith in
-    all-bytes c.get2-n.ensures c.requires c.args.s.now (omega arith) (rw e at c.loop-i.invariant.1)
+returns c = let l = c.loop-i in
+    let e : l.i ≡ c.get2-n.result = omega arith in
+    all-bytes c.get2-n.ensures c.requires c.args.s.now (omega arith) (rw e at l.invariant.1)

@@ -4,4 +4,4 @@ use Rattle.answers.proofs.PathLaws.{path-at}
 use Rattle.answers.proofs.paths.step_at.Goals as goal
 
 pub returns : goal.returns
-returns c = sym (path-at c.args.t1 c.args.k c.requires.counts)
+returns c = sym (path-at c.args.p c.args.k c.requires.counts)

@@ -23,11 +23,9 @@ slice_bounds-rows_text-end c = let got = made (batch-judged _ _ c.requires.0) c.
     got.size
 
 pub rows_text-requires : goal.rows_text-requires
-rows_text-requires c = let entry = (goal.at.rows_text-requires c).Start in
-    let got = made (batch-judged _ _ c.requires.0) c.build-n.ensures in
-    (got.table, rw got.says entry.requires.0, entry.requires.1)
+rows_text-requires c = let got = made (batch-judged _ _ c.requires.0) c.build-n.ensures in
+    (got.table, rw got.says c.requires.0, c.requires.1)
 
 pub returns : goal.returns
-returns c = let entry = (goal.at.returns c).Start in
-    let got = made (batch-judged _ _ entry.requires.0) c.build-n.ensures in
-    walked_as (ap (λ (s : List ℕ). rows_text s 0 (rows_of entry.args.b.now)) got.says) c.rows_text.ensures
+returns c = let got = made (batch-judged _ _ c.requires.0) c.build-n.ensures in
+    walked_as (ap (λ (s : List ℕ). rows_text s 0 (rows_of c.args.b.now)) got.says) c.rows_text.ensures

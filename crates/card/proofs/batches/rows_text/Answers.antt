@@ -58,7 +58,7 @@ whole-used-requires c = let l = c.before.before.before.before.before.before.befo
     let entry = c.before.before.before.before.before.before.before.before.before.before.before.before.before.before in
     let h = c.heading-next in (
       record { table = entry.requires.0; short = (next (goal.at.whole-used-requires c).In-loop-at).ready.short },
-      h.auto.0 ∙ l.invariant.1.long ∙ l.invariant.1.room,
+      h.auto.out ∙ l.invariant.1.long ∙ l.invariant.1.room,
       omega (arith, h.ensures.next, heading-most l.n, c.spill.ensures.few),
     )
 
@@ -76,7 +76,7 @@ loop-at-preserved c = let l = c.before.before.before.before.before.before.before
     let h = c.heading-next in
     let w = c.whole-used in
     let S = c.spill.ensures in
-    (passed-next l.invariant.0 x.stands, written_next l.invariant.1 x S h.ensures h.auto.0 w.ensures w.auto.1.1.0)
+    (passed-next l.invariant.0 x.stands, written_next l.invariant.1 x S h.ensures h.auto.out w.ensures w.auto.1.1.0)
 
 pub shape_of-out : goal.shape_of-out
 shape_of-out c = c.loop-at.invariant.1.long

@@ -21,11 +21,9 @@ slice_bounds-charted-end c = let got = made c.requires.0.schema c.build-n.ensure
     got.size
 
 pub charted-requires : goal.charted-requires
-charted-requires c = let entry = (goal.at.charted-requires c).Start in
-    (made-open entry.requires.0 c.build-n.ensures, entry.requires.1)
+charted-requires c = (made-open c.requires.0 c.build-n.ensures, c.requires.1)
 
 pub returns : goal.returns
-returns c = let entry = (goal.at.returns c).Start in
-    let a = entry.args in
-    let got = made entry.requires.0.schema c.build-n.ensures in
+returns c = let a = c.args in
+    let got = made c.requires.0.schema c.build-n.ensures in
     walked_as (ap (λ (s : List ℕ). shown s a.row.now (fault_of a.sound a.place)) got.says) c.charted.ensures

@@ -36,7 +36,7 @@ pub loop-j-preserved : goal.loop-j-preserved
 loop-j-preserved c = let claim = c.claim in
     let l = c.loop-j in
     let padding = c.padding in
-    (omega arith, claim.auto.0 ∙ l.invariant.1, turn _ _ _ l.invariant.2 (byte-turn _ _ _ _ _ padding.ensures _ _ claim.ensures))
+    (omega arith, claim.auto.chart ∙ l.invariant.1, turn _ _ _ l.invariant.2 (byte-turn _ _ _ _ _ padding.ensures _ _ claim.ensures))
 
 pub shape_of-chart : goal.shape_of-chart
 shape_of-chart c = c.loop-j.invariant.1 ∙ sym c.requires.long

@@ -70,7 +70,7 @@ loop-j-preserved c = let a = c.args in
     let each = c.slots_on_line-each in
     let path = q ∙ ap (λ (u : List ℕ). u ++ (each.result * l.j ∷ [])) (sym front) in (
       omega arith,
-      claim.auto.0 ∙ l.invariant.1,
+      claim.auto.chart ∙ l.invariant.1,
       l.invariant.2,
       λ i. set-set l.child.steps p.len _ i ∙ l.invariant.3 i,
       turn _ _ _ l.invariant.4

@@ -7,7 +7,7 @@ pub child_lines-requires : goal.child_lines-requires
 child_lines-requires c = let g = c.requires in
     let get8 = c.get8-n in
     let claim = c.claim in
-    list-child-room g _ get8.ensures.is _ _ c.slot_width.ensures (claim.auto.0 ∙ g.long)
+    list-child-room g _ get8.ensures.is _ _ c.slot_width.ensures (claim.auto.chart ∙ g.long)
 
 pub returns-then-v-eq0 : goal.returns-then-v-eq0
 returns-then-v-eq0 c = let g = c.requires in

@@ -13,7 +13,6 @@ overflow_cast-m-2 c = let mark = c.mark-m in
     record { fits = omega (arith, mark-small _ mark.ensures) }
 
 pub returns : goal.returns
-returns c = let entry = (goal.at.returns c).Start in
-    let mark = c.mark-m in
+returns c = let mark = c.mark-m in
     let byte = c.byte-next in
-    mark-puts entry.requires.0 mark.ensures byte.ensures c.byte.ensures
+    mark-puts c.requires.0 mark.ensures byte.ensures c.byte.ensures

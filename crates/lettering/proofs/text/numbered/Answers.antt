@@ -6,10 +6,9 @@ use Rattle.lettering.proofs.Lengths.{decimal-twenty}
 use Rattle.lettering.proofs.text.numbered.Goals as goal
 
 pub byte-requires : goal.byte-requires
-byte-requires c = let entry = (goal.at.byte-requires c).Start in
-    let put = c.put-next in
+byte-requires c = let put = c.put-next in
     let decimal = c.decimal-end in
-    omega (arith, entry.requires, put.ensures.next, put.auto.0, decimal.ensures.next, decimal.auto.0, decimal-twenty entry.args.n)
+    omega (arith, c.requires, put.ensures.next, put.auto.out, decimal.ensures.next, decimal.auto.out, decimal-twenty c.args.n)
 
 pub returns : goal.returns
 unfolding numbered

@@ -19,44 +19,39 @@ pub decimal-next-requires : goal.decimal-next-requires
 decimal-next-requires c = omega (arith, c.requires.room)
 
 pub loop-k-init : goal.loop-k-init
-loop-k-init c = let entry = (goal.at.loop-k-init c).Start in
-    let if1 = c.if-n-eq0 in
-    (omega arith, omega (arith, if1.false), refl, omega arith, steps-none _ _ (path_of entry.args.path))
+loop-k-init c = let if1 = c.if-n-eq0 in
+    (omega arith, omega (arith, if1.false), refl, omega arith, steps-none _ _ (path_of c.args.path))
 
 pub step_at-requires-in-loop-k : goal.step_at-requires-in-loop-k
-step_at-requires-in-loop-k c = let entry = (goal.at.step_at-requires-in-loop-k c).Start in
-    record { held = omega (arith, entry.requires.few); counts = omega arith }
+step_at-requires-in-loop-k c = record { held = omega (arith, c.requires.few); counts = omega arith }
 
 pub dotted-next-requires : goal.dotted-next-requires
-dotted-next-requires c = let entry = (goal.at.dotted-next-requires c).Start in
-    let step-at = c.step_at in
+dotted-next-requires c = let step-at = c.step_at in
     let decimal = c.decimal-next in
-    omega (arith, entry.requires.room, entry.requires.few, decimal.ensures.next, decimal.auto.0, decimal-twenty step-at.result)
+    omega (arith, c.requires.room, c.requires.few, decimal.ensures.next, decimal.auto.out, decimal-twenty step-at.result)
 
 pub overflow_add-k : goal.overflow_add-k
 overflow_add-k c = omega (arith, c.requires.few)
 
 pub loop-k-preserved : goal.loop-k-preserved
-loop-k-preserved c = let entry = (goal.at.loop-k-preserved c).Start in
-    let loop = c.loop-k in
+loop-k-preserved c = let loop = c.loop-k in
     let step-at2 = c.step_at-in-loop-k in
     let dotted = c.dotted-next in (
       omega arith,
       omega arith,
-      dotted.auto.0 ∙ loop.invariant.2,
+      dotted.auto.out ∙ loop.invariant.2,
       omega (arith, dotted.ensures.next, decimal-twenty step-at2.result),
       steps-more
-          (path_of entry.args.path) loop.k _ loop.invariant.0 (rw (length-path entry.args.path) (omega arith)) step-at2.ensures loop.invariant.4
+          (path_of c.args.path) loop.k _ loop.invariant.0 (rw (length-path c.args.path) (omega arith)) step-at2.ensures loop.invariant.4
           dotted.ensures,
     )
 
 pub shape_of-out : goal.shape_of-out
-shape_of-out c = c.loop-k.invariant.2 ∙ c.decimal-next.auto.0
+shape_of-out c = c.loop-k.invariant.2 ∙ c.decimal-next.auto.out
 
 pub returns : goal.returns
-returns c = let entry = (goal.at.returns c).Start in
-    let if1 = c.if-n-eq0 in
+returns c = let if1 = c.if-n-eq0 in
     let step-at = c.step_at in
     let decimal = c.decimal-next in
-    path-all (path_of entry.args.path) c.loop-k.k _ (rw (length-path entry.args.path) (omega (arith, if1.false)))
-    (rw (length-path entry.args.path) (omega arith)) step-at.ensures decimal.ensures c.loop-k.invariant.4
+    path-all (path_of c.args.path) c.loop-k.k _ (rw (length-path c.args.path) (omega (arith, if1.false)))
+    (rw (length-path c.args.path) (omega arith)) step-at.ensures decimal.ensures c.loop-k.invariant.4

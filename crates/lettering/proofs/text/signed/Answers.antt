@@ -10,27 +10,24 @@ use Rattle.lettering.proofs.Putting.{signed-plain, signed-minus}
 use Rattle.lettering.proofs.text.signed.Goals as goal
 
 pub overflow_add-m : goal.overflow_add-m
-overflow_add-m c = let s = (goal.at.overflow_add-m c).Start in
-    let magnitude = c.magnitude-m in
-    let m : magnitude.result < 2 ^ 63 = rw (magnitude.ensures, to_z-of_z w64 s.args.x s.ranges.x) s.ranges.x.sfits in
+overflow_add-m c = let magnitude = c.magnitude-m in
+    let m : magnitude.result < 2 ^ 63 = rw (magnitude.ensures, to_z-of_z w64 c.args.x c.ranges.x) c.ranges.x.sfits in
     omega arith
 
 pub returns-then-negative : goal.returns-then-negative
-returns-then-negative c = let s = (goal.at.returns-then-negative c).Start in
-    let e = to_z-of_z w64 s.args.x s.ranges.x in
+returns-then-negative c = let e = to_z-of_z w64 c.args.x c.ranges.x in
     let magnitude = c.magnitude-m in
     let negative = c.negative in
     let if1 = c.if-negative in
     let byte = c.byte-next in
     let decimal = c.decimal in
-    signed-minus s.args.x _ (ap is_negative (sym e) ∙ sym negative.ensures ∙ if1.true) (magnitude.ensures ∙ ap mag e) byte.ensures
+    signed-minus c.args.x _ (ap is_negative (sym e) ∙ sym negative.ensures ∙ if1.true) (magnitude.ensures ∙ ap mag e) byte.ensures
     decimal.ensures
 
 pub returns : goal.returns
-returns c = let s = (goal.at.returns c).Start in
-    let e = to_z-of_z w64 s.args.x s.ranges.x in
+returns c = let e = to_z-of_z w64 c.args.x c.ranges.x in
     let magnitude = c.magnitude-m in
     let negative = c.negative in
     let if1 = c.if-negative in
     let decimal2 = c.decimal-2 in
-    signed-plain s.args.x _ (ap is_negative (sym e) ∙ sym negative.ensures ∙ if1.false) (magnitude.ensures ∙ ap mag e) decimal2.ensures
+    signed-plain c.args.x _ (ap is_negative (sym e) ∙ sym negative.ensures ∙ if1.false) (magnitude.ensures ∙ ap mag e) decimal2.ensures
