@@ -3,55 +3,46 @@
 use mathlib.Core.Path.{refl, ◌∙◌}
 use native.Mathlib.Omega.{arith}
 use Rattle.leaves.proofs.Walking.{children-start, child-room, children-next, show-room, shown-within, walked-last, walked_all}
-use Prim.Native.Nat.{◌-◌}
 use Rattle.leaves.proofs.+place.Goals as goal
 
 pub spill-requires : goal.spill-requires
-spill-requires t c = c.requires.1.within
+spill-requires g t c = c.requires.within
 
-pub branch-at-requires : goal.branch-at-requires
-branch-at-requires t c = show-room c.requires.1 c.spill.ensures
-
-pub enum_known-from_residual : goal.enum_known-from_residual
-enum_known-from_residual t c =
-    let spill = c.spill in
-    let show = c.before.before.before.show in
-    walked-last c.requires.1 spill.ensures show.ensures c.if1.true
-
-pub shape_of-out-in_err-at : goal.shape_of-out-in_err-at
-shape_of-out-in_err-at t c =
-    let spill = c.spill in
-    let show = c.before.before.before.show in
-    let pre = c.requires.1 in
-    children-start _ refl pre.steps (shown-within pre spill.ensures show.ensures show.auto.1.1.1.0)
-
-pub returns-in_err-at : goal.returns-in_err-at
-returns-in_err-at t c = record { fits = omega (arith, c.before.before.before.before.before.show.ensures.few) }
+pub show-here-requires : goal.show-here-requires
+show-here-requires g t c = show-room c.requires c.in_ok-at.ensures.spilt
 
 pub returns-then-n-ge16 : goal.returns-then-n-ge16
-returns-then-n-ge16 t c =
-    let pre = c.requires in
-    let if1 = c.if-n-ge16 in
-    let show = c.show-here in
-    (omega (arith, pre.0, if1.false), child-room c.before.before.loop.invariant if1.false pre.1 show.auto.1.1.1.0)
+returns-then-n-ge16 g t c = walked-last c.requires c.in_ok-at.ensures.spilt c.show-here.ensures c.if-n-ge16.true
 
-pub overflow_add-child : goal.overflow_add-child
-overflow_add-child t c = omega (arith, c.show-here.ensures.few)
+pub loop-i-init : goal.loop-i-init
+loop-i-init g t c =
+    let show = c.show-here in
+    children-start _ refl c.requires.steps (shown-within c.requires c.in_ok-at.ensures.spilt show.ensures show.auto.out)
 
 pub overflow_cast-child : goal.overflow_cast-child
-overflow_cast-child t c =
-    let loop = c.loop-i in
-    let loop-test = c.loop-i-test in
-    let place = c.before.before.place in
-    children-next loop.invariant c.if-n-ge16.false loop-test.true place.ensures place.auto.1.1.1.0
+overflow_cast-child g t c = record { fits = omega (arith, c.show-here.ensures.few) }
 
-pub offset_bounds-child-n : goal.offset_bounds-child-n
-offset_bounds-child-n t c = c.loop-i.invariant.long ∙ c.show-here.auto.1.1.1.0
+pub place-requires : goal.place-requires
+place-requires g t c κs e =
+    let if1 = c.if-n-ge16 in
+    let room = child-room c.loop-i.invariant if1.false c.requires c.show-here.auto.out in
+    (omega (arith, if1.false, c.loop-i.invariant.len), (e, room))
 
-pub bounds-child-n : goal.bounds-child-n
-bounds-child-n t c =
-    let pre = c.requires.1 in
-    let spill = c.spill in
+pub overflow_add-i : goal.overflow_add-i
+overflow_add-i g t c = omega (arith, c.show-here.ensures.few)
+
+pub loop-i-preserved : goal.loop-i-preserved
+loop-i-preserved g t c =
+    children-next c.loop-i.invariant c.if-n-ge16.false c.loop-i-test.true c.in_ok-next.ensures c.place.auto.out
+
+pub shape_of-out-in_err-next : goal.shape_of-out-in_err-next
+shape_of-out-in_err-next g t c = c.place.auto.out ∙ c.loop-i.invariant.long ∙ c.show-here.auto.out
+
+pub shape_of-out : goal.shape_of-out
+shape_of-out g t c = c.loop-i.invariant.long ∙ c.show-here.auto.out
+
+pub returns : goal.returns
+returns g t c =
     let show = c.show-here in
-    let walked = walked_all pre spill.ensures show.ensures refl refl c.if-n-ge16.false in
-    walked c.loop-i.invariant c.loop-i-test.false show.auto.1.1.1.0
+    let walked = walked_all c.requires c.in_ok-at.ensures.spilt show.ensures refl refl c.if-n-ge16.false in
+    walked c.loop-i.invariant c.loop-i-test.false show.auto.out

@@ -6,10 +6,10 @@ use Prim.Native.Nat.{◌-◌}
 use Rattle.leaves.proofs.+place.Given as goal
 
 abbrev pub decreases-place : goal.decreases-place
-decreases-place l = 16 - l.row.len
+decreases-place g l = 16 - l.path.len
 
 abbrev pub invariant-loop-i : goal.invariant-loop-i
-invariant-loop-i l = Children (schema_of l.initial.to) l.t l.count l.used l.initial.next l.row l.at l.to l.initial.child l.initial.i l.out
+invariant-loop-i g l = Children (schema_of l.t) l.row l.n l.count l.initial.child l.initial.out l.initial.next l.child l.out l.next l.i
 
 abbrev pub decreases-loop-i : goal.decreases-loop-i
-decreases-loop-i l = l.used - l.out
+decreases-loop-i g l = l.count - l.i

@@ -25,9 +25,8 @@ spaced-l-requires c = let args = c.args in
     )
 
 pub labelled-end-requires : goal.labelled-end-requires
-labelled-end-requires c = let far = (goal.at.labelled-end-requires c).After-right-arg-1 in
-    let args = far.before.before.before.before.before.args in
-    let pre = far.before.before.before.before.before.requires in
+labelled-end-requires c = let args = c.args in
+    let pre = c.requires in
     let on_line = c.on_line-k in
     let right = c.right-s in
     let byte = c.byte-b in
@@ -52,13 +51,12 @@ labelled-end-requires c = let far = (goal.at.labelled-end-requires c).After-righ
     )
 
 pub byte-requires : goal.byte-requires
-byte-requires c = let far = (goal.at.byte-requires c).After-byte-arg-1 in
-    let args = far.before.before.before.before.before.before.before.before.before.args in
-    let pre = far.before.before.before.before.before.before.before.before.before.requires in
-    let right = far.before.before.before.right in
+byte-requires c = let args = c.args in
+    let pre = c.requires in
+    let right = c.right-s in
     let byte = c.byte-b in
     let spaced = c.spaced-l in
-    let on_line = far.before.before.before.before.before.on_line in
+    let on_line = c.on_line-k in
     let labelled = c.labelled-end in
     let m = args.chart.now in
     omega (
@@ -78,11 +76,10 @@ byte-requires c = let far = (goal.at.byte-requires c).After-byte-arg-1 in
     )
 
 pub returns : goal.returns
-returns c = let far = (goal.at.returns c).After-slice_known-3-1 in
-    let args = far.before.before.before.before.before.before.before.before.before.before.before.before.args in
-    let on_line = far.before.before.before.before.before.before.before.before.on_line in
-    let right = far.before.before.before.before.before.before.right in
-    let byte = far.before.before.byte in
+returns c = let args = c.args in
+    let on_line = c.on_line-k in
+    let right = c.right-s in
+    let byte = c.byte-b in
     let spaced = c.spaced-l in
     let labelled = c.labelled-end in
     let byte2 = c.byte in

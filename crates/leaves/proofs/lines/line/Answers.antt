@@ -26,10 +26,9 @@ byte-c-requires c = let pre = c.requires in
     omega (arith, mark-left _ 32771 behind-byte mark.ensures mark.auto.out)
 
 pub contents-end-requires : goal.contents-end-requires
-contents-end-requires c = let far = (goal.at.contents-end-requires c).After-out-2-1 in
-    let pre = far.before.before.before.before.before.before.before.before.before.requires in
-    let path = far.before.before.before.before.before.path in
-    let byte = far.before.byte in
+contents-end-requires c = let pre = c.requires in
+    let path = c.path-p in
+    let byte = c.byte-m in
     let mark = c.mark-s in
     let byte2 = c.byte-c in
     let behind-path = path-left pre path.ensures path.auto.out in
@@ -39,11 +38,10 @@ contents-end-requires c = let far = (goal.at.contents-end-requires c).After-out-
     record { room = omega (arith, behind); short = pre.short; gives = pre.gives; within = pre.within }
 
 pub byte-requires : goal.byte-requires
-byte-requires c = let far = (goal.at.byte-requires c).After-out-3-1 in
-    let pre = far.before.before.before.before.before.before.before.before.before.before.before.before.before.requires in
-    let path = far.before.before.before.before.before.before.before.before.before.path in
-    let byte = far.before.before.before.before.before.byte in
-    let mark = far.before.mark in
+byte-requires c = let pre = c.requires in
+    let path = c.path-p in
+    let byte = c.byte-m in
+    let mark = c.mark-s in
     let byte2 = c.byte-c in
     let contents = c.contents-end in
     let behind-path = path-left pre path.ensures path.auto.out in
@@ -54,11 +52,10 @@ byte-requires c = let far = (goal.at.byte-requires c).After-out-3-1 in
 
 pub returns : goal.returns
 unfolding line
-returns c = let far = (goal.at.returns c).After-byte-c in
-    let path = far.before.before.before.before.before.before.before.before.before.before.before.before.path in
-    let byte = far.before.before.before.before.before.before.before.before.byte in
-    let mark = far.before.before.before.before.mark in
-    let byte2 = far.byte2 in
+returns c = let path = c.path-p in
+    let byte = c.byte-m in
+    let mark = c.mark-s in
+    let byte2 = c.byte-c in
     let contents = c.contents-end in
     let byte3 = c.byte in
     let end = puts_then byte2.ensures (puts_then contents.ensures byte3.ensures) in
