@@ -13,7 +13,6 @@ ghost use Rattle.codes.specs.Words.{Told, Tells};
 use codes::told;
 use lent::batches;
 
-#[unsafe(no_mangle)]
 pub extern "C" fn loaf_table(schema: &[u8], out: &mut [u64]) -> u64
     ensures { Fills
         (tabulate_of schema.now (length out.old)) (tabled_of schema.now out.old)
@@ -22,21 +21,18 @@ pub extern "C" fn loaf_table(schema: &[u8], out: &mut [u64]) -> u64
     codes::length_code(lent::table(schema, out))
 }
 
-#[unsafe(no_mangle)]
 pub extern "C" fn loaf_judge_by(schema: &[u8], table: &[u64]) -> u64
     ensures { result ≡ verdict_code (judge_of (schema_by schema.now table.now)) }
 {
     codes::outcome_code(lent::judge_by(schema, table))
 }
 
-#[unsafe(no_mangle)]
 pub extern "C" fn loaf_check_by(schema: &[u8], table: &[u64], row: &[u8]) -> u64
     ensures { result ≡ verdict_code (check_of (schema_by schema.now table.now) row.now) }
 {
     codes::outcome_code(lent::check_by(schema, table, row))
 }
 
-#[unsafe(no_mangle)]
 pub extern "C" fn loaf_write_by(schema: &[u8], table: &[u64], listing: &[u8], out: &mut [u8]) -> u64
     ensures { Fills
         (write_of (schema_by schema.now table.now) listing.now (length out.old))
@@ -46,7 +42,6 @@ pub extern "C" fn loaf_write_by(schema: &[u8], table: &[u64], listing: &[u8], ou
     codes::length_code(lent::write_by(schema, table, listing, out))
 }
 
-#[unsafe(no_mangle)]
 pub extern "C" fn loaf_list_by(schema: &[u8], table: &[u64], row: &[u8], out: &mut [u8]) -> u64
     ensures { Fills
         (list_of (schema_by schema.now table.now) row.now (length out.old))
@@ -56,7 +51,6 @@ pub extern "C" fn loaf_list_by(schema: &[u8], table: &[u64], row: &[u8], out: &m
     codes::length_code(lent::list_by(schema, table, row, out))
 }
 
-#[unsafe(no_mangle)]
 pub extern "C" fn loaf_read_by(
     schema: &[u8],
     table: &[u64],
@@ -74,7 +68,6 @@ pub extern "C" fn loaf_read_by(
     )
 }
 
-#[unsafe(no_mangle)]
 pub extern "C" fn loaf_set_by(
     schema: &[u8],
     table: &[u64],
@@ -92,7 +85,6 @@ pub extern "C" fn loaf_set_by(
     asking::set_by(schema, table, row, path, kind, value, bytes)
 }
 
-#[unsafe(no_mangle)]
 pub extern "C" fn loaf_batch_fetch_by(
     schema: &[u8],
     table: &[u64],
@@ -108,7 +100,6 @@ pub extern "C" fn loaf_batch_fetch_by(
     told::fetched(answer, batches::fetch_by(schema, table, batch, k))
 }
 
-#[unsafe(no_mangle)]
 pub extern "C" fn loaf_batch_check_by(
     schema: &[u8],
     table: &[u64],
@@ -123,7 +114,6 @@ pub extern "C" fn loaf_batch_check_by(
     told::checked(answer, batches::check_by(schema, table, batch))
 }
 
-#[unsafe(no_mangle)]
 pub extern "C" fn loaf_batch_append_by(
     schema: &[u8],
     table: &[u64],
@@ -140,7 +130,6 @@ pub extern "C" fn loaf_batch_append_by(
     told::appended(answer, batches::append_by(schema, table, room, used, row))
 }
 
-#[unsafe(no_mangle)]
 pub extern "C" fn loaf_batch_read_by(
     schema: &[u8],
     table: &[u64],
@@ -159,7 +148,6 @@ pub extern "C" fn loaf_batch_read_by(
     )
 }
 
-#[unsafe(no_mangle)]
 pub extern "C" fn loaf_batch_set_by(
     schema: &[u8],
     table: &[u64],
