@@ -9,25 +9,25 @@ ghost use Rattle.codes.specs.Words.{Tells};
 
 use codes::{numbers, told};
 
-pub extern "C" fn loaf_catalogue_add(catalogue: &mut [u8], schema: &[u8]) -> u64
+pub fn loaf_catalogue_add(catalogue: &mut [u8], schema: &[u8]) -> u64
     ensures { AddsTo catalogue.old schema.now result catalogue.new }
 {
     numbers::number_code(catalogue::add(catalogue, schema))
 }
 
-pub extern "C" fn loaf_catalogue_add_by(catalogue: &mut [u8], schema: &[u8], table: &[u64]) -> u64
+pub fn loaf_catalogue_add_by(catalogue: &mut [u8], schema: &[u8], table: &[u64]) -> u64
     ensures { AddsTo catalogue.old (schema_by schema.now table.now) result catalogue.new }
 {
     numbers::number_code(catalogue::add_by(catalogue, schema, table))
 }
 
-pub extern "C" fn loaf_catalogue_check(catalogue: &[u8], number: usize, row: &[u8]) -> u64
+pub fn loaf_catalogue_check(catalogue: &[u8], number: usize, row: &[u8]) -> u64
     ensures { result ≡ verdict_code (check_at catalogue.now number row.now) }
 {
     codes::outcome_code(catalogue::check(catalogue, number, row))
 }
 
-pub extern "C" fn loaf_catalogue_write(
+pub fn loaf_catalogue_write(
     catalogue: &[u8],
     number: usize,
     listing: &[u8],
@@ -41,7 +41,7 @@ pub extern "C" fn loaf_catalogue_write(
     codes::length_code(catalogue::write(catalogue, number, listing, out))
 }
 
-pub extern "C" fn loaf_catalogue_list(
+pub fn loaf_catalogue_list(
     catalogue: &[u8],
     number: usize,
     row: &[u8],
@@ -55,7 +55,7 @@ pub extern "C" fn loaf_catalogue_list(
     codes::length_code(catalogue::list(catalogue, number, row, out))
 }
 
-pub extern "C" fn loaf_catalogue_read(
+pub fn loaf_catalogue_read(
     catalogue: &[u8],
     number: usize,
     row: &[u8],
@@ -73,7 +73,7 @@ pub extern "C" fn loaf_catalogue_read(
 }
 
 // A kind and a value as loaf_set takes them.
-pub extern "C" fn loaf_catalogue_set(
+pub fn loaf_catalogue_set(
     catalogue: &[u8],
     number: usize,
     row: &mut [u8],
