@@ -28,9 +28,9 @@ record Later (t : List ℕ) (ss : List (List ℕ)) : Type 0 where
 run_on : {t : List ℕ} {ss : List (List ℕ)} → Holds t ss → (run : List (List ℕ)) → Later (after t run) ss
 unfolding after
 run_on {ss = ss} h [] = record { now = ss; holds = h; begins = begins-self ss }
-run_on h (s ∷ run) =
+run_on {t = t} {ss = ss} h (s ∷ run) =
     let a = added h s in
-    let r = run_on a.holds run in
+    let r = run_on {t = added_of t s} a.holds run in
     record { now = r.now; holds = r.holds; begins = begins-on a.begins r.begins }
 
 -- an empty table holds no schema
