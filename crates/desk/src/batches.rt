@@ -6,8 +6,7 @@ ghost use Rattle.codes.specs.Words.{Told, Tells};
 
 use codes::told;
 
-#[unsafe(no_mangle)]
-pub extern "C" fn loaf_batch_count(batch: &[u8], answer: &mut [u64]) -> u64
+pub fn loaf_batch_count(batch: &[u8], answer: &mut [u64]) -> u64
     ensures { Told 1
         (count_refusal (count_of batch.now)) (count_words (count_of batch.now))
         answer.old result answer.new }
@@ -15,8 +14,7 @@ pub extern "C" fn loaf_batch_count(batch: &[u8], answer: &mut [u64]) -> u64
     told::counted(answer, batch::count(batch))
 }
 
-#[unsafe(no_mangle)]
-pub extern "C" fn loaf_batch_fetch(schema: &[u8], batch: &[u8], k: usize, answer: &mut [u64]) -> u64
+pub fn loaf_batch_fetch(schema: &[u8], batch: &[u8], k: usize, answer: &mut [u64]) -> u64
     ensures { Told 2
         (fetch_refusal (fetch_of schema.now batch.now k)) (fetch_words (fetch_of schema.now batch.now k))
         answer.old result answer.new }
@@ -24,8 +22,7 @@ pub extern "C" fn loaf_batch_fetch(schema: &[u8], batch: &[u8], k: usize, answer
     told::fetched(answer, batch::fetch(schema, batch, k))
 }
 
-#[unsafe(no_mangle)]
-pub extern "C" fn loaf_batch_check(schema: &[u8], batch: &[u8], answer: &mut [u64]) -> u64
+pub fn loaf_batch_check(schema: &[u8], batch: &[u8], answer: &mut [u64]) -> u64
     ensures { Beside
         (check_code (check_of schema.now batch.now)) (check_words (check_of schema.now batch.now))
         answer.old result answer.new }
@@ -33,8 +30,7 @@ pub extern "C" fn loaf_batch_check(schema: &[u8], batch: &[u8], answer: &mut [u6
     told::checked(answer, batch::check(schema, batch))
 }
 
-#[unsafe(no_mangle)]
-pub extern "C" fn loaf_batch_append(
+pub fn loaf_batch_append(
     schema: &[u8],
     room: &mut [u8],
     used: usize,
@@ -49,8 +45,7 @@ pub extern "C" fn loaf_batch_append(
     told::appended(answer, batch::append(schema, room, used, row))
 }
 
-#[unsafe(no_mangle)]
-pub extern "C" fn loaf_batch_read(
+pub fn loaf_batch_read(
     schema: &[u8],
     batch: &[u8],
     k: usize,
@@ -64,8 +59,7 @@ pub extern "C" fn loaf_batch_read(
     told::put_answer(answer, batch::read(schema, batch, k, codes::path_of(path)))
 }
 
-#[unsafe(no_mangle)]
-pub extern "C" fn loaf_batch_set(
+pub fn loaf_batch_set(
     schema: &[u8],
     batch: &mut [u8],
     k: usize,

@@ -9,29 +9,25 @@ ghost use Rattle.codes.specs.Words.{Tells};
 
 use codes::{numbers, told};
 
-#[unsafe(no_mangle)]
-pub extern "C" fn loaf_catalogue_add(catalogue: &mut [u8], schema: &[u8]) -> u64
+pub fn loaf_catalogue_add(catalogue: &mut [u8], schema: &[u8]) -> u64
     ensures { AddsTo catalogue.old schema.now result catalogue.new }
 {
     numbers::number_code(catalogue::add(catalogue, schema))
 }
 
-#[unsafe(no_mangle)]
-pub extern "C" fn loaf_catalogue_add_by(catalogue: &mut [u8], schema: &[u8], table: &[u64]) -> u64
+pub fn loaf_catalogue_add_by(catalogue: &mut [u8], schema: &[u8], table: &[u64]) -> u64
     ensures { AddsTo catalogue.old (schema_by schema.now table.now) result catalogue.new }
 {
     numbers::number_code(catalogue::add_by(catalogue, schema, table))
 }
 
-#[unsafe(no_mangle)]
-pub extern "C" fn loaf_catalogue_check(catalogue: &[u8], number: usize, row: &[u8]) -> u64
+pub fn loaf_catalogue_check(catalogue: &[u8], number: usize, row: &[u8]) -> u64
     ensures { result ≡ verdict_code (check_at catalogue.now number row.now) }
 {
     codes::outcome_code(catalogue::check(catalogue, number, row))
 }
 
-#[unsafe(no_mangle)]
-pub extern "C" fn loaf_catalogue_write(
+pub fn loaf_catalogue_write(
     catalogue: &[u8],
     number: usize,
     listing: &[u8],
@@ -45,8 +41,7 @@ pub extern "C" fn loaf_catalogue_write(
     codes::length_code(catalogue::write(catalogue, number, listing, out))
 }
 
-#[unsafe(no_mangle)]
-pub extern "C" fn loaf_catalogue_list(
+pub fn loaf_catalogue_list(
     catalogue: &[u8],
     number: usize,
     row: &[u8],
@@ -60,8 +55,7 @@ pub extern "C" fn loaf_catalogue_list(
     codes::length_code(catalogue::list(catalogue, number, row, out))
 }
 
-#[unsafe(no_mangle)]
-pub extern "C" fn loaf_catalogue_read(
+pub fn loaf_catalogue_read(
     catalogue: &[u8],
     number: usize,
     row: &[u8],
@@ -79,8 +73,7 @@ pub extern "C" fn loaf_catalogue_read(
 }
 
 // A kind and a value as loaf_set takes them.
-#[unsafe(no_mangle)]
-pub extern "C" fn loaf_catalogue_set(
+pub fn loaf_catalogue_set(
     catalogue: &[u8],
     number: usize,
     row: &mut [u8],

@@ -15,22 +15,19 @@ pub mod catalogues;
 pub mod logs;
 pub mod tables;
 
-#[unsafe(no_mangle)]
-pub extern "C" fn loaf_judge(schema: &[u8]) -> u64
+pub fn loaf_judge(schema: &[u8]) -> u64
     ensures { result ≡ verdict_code (judge_of schema.now) }
 {
     codes::outcome_code(row::judge(schema))
 }
 
-#[unsafe(no_mangle)]
-pub extern "C" fn loaf_check(schema: &[u8], row: &[u8]) -> u64
+pub fn loaf_check(schema: &[u8], row: &[u8]) -> u64
     ensures { result ≡ verdict_code (check_of schema.now row.now) }
 {
     codes::outcome_code(row::check(schema, row))
 }
 
-#[unsafe(no_mangle)]
-pub extern "C" fn loaf_write(schema: &[u8], listing: &[u8], out: &mut [u8]) -> u64
+pub fn loaf_write(schema: &[u8], listing: &[u8], out: &mut [u8]) -> u64
     ensures { Fills
         (write_of schema.now listing.now (length out.old))
         (written_of schema.now listing.now out.old)
@@ -39,8 +36,7 @@ pub extern "C" fn loaf_write(schema: &[u8], listing: &[u8], out: &mut [u8]) -> u
     codes::length_code(row::write(schema, listing, out))
 }
 
-#[unsafe(no_mangle)]
-pub extern "C" fn loaf_list(schema: &[u8], row: &[u8], out: &mut [u8]) -> u64
+pub fn loaf_list(schema: &[u8], row: &[u8], out: &mut [u8]) -> u64
     ensures { Fills
         (list_of schema.now row.now (length out.old))
         (listed_of schema.now row.now out.old)
@@ -49,16 +45,14 @@ pub extern "C" fn loaf_list(schema: &[u8], row: &[u8], out: &mut [u8]) -> u64
     codes::length_code(row::list(schema, row, out))
 }
 
-#[unsafe(no_mangle)]
-pub extern "C" fn loaf_read(schema: &[u8], row: &[u8], path: &[u32], answer: &mut [u64]) -> u64
+pub fn loaf_read(schema: &[u8], row: &[u8], path: &[u32], answer: &mut [u64]) -> u64
     ensures { Tells (read_of schema.now row.now path.now) answer.old result answer.new }
 {
     told::put_answer(answer, row::read(schema, row, codes::path_of(path)))
 }
 
 // A kind as loaf_read tells it, 0 to 5; only a bool, a number or a float looks at the value, and only bytes at the bytes.
-#[unsafe(no_mangle)]
-pub extern "C" fn loaf_set(
+pub fn loaf_set(
     schema: &[u8],
     row: &mut [u8],
     path: &[u32],

@@ -9,8 +9,7 @@ ghost use Rattle.codes.specs.Words.{Told};
 
 use codes::told;
 
-#[unsafe(no_mangle)]
-pub extern "C" fn loaf_log_add(
+pub fn loaf_log_add(
     room: &mut [u8],
     used: usize,
     tick: u32,
@@ -26,8 +25,7 @@ pub extern "C" fn loaf_log_add(
     told::appended(answer, strokes::add(room, used, tick, keys, window))
 }
 
-#[unsafe(no_mangle)]
-pub extern "C" fn loaf_log_read(log: &[u8], out: &mut [u32], answer: &mut [u64]) -> u64
+pub fn loaf_log_read(log: &[u8], out: &mut [u32], answer: &mut [u64]) -> u64
     ensures { AppendsTo
         (read_of log.now (length out.old))
         (read_into log.now out.old)
@@ -36,8 +34,7 @@ pub extern "C" fn loaf_log_read(log: &[u8], out: &mut [u32], answer: &mut [u64])
     told::appended(answer, strokes::read(log, out))
 }
 
-#[unsafe(no_mangle)]
-pub extern "C" fn loaf_log_chord(log: &[u8], n: usize, answer: &mut [u64]) -> u64
+pub fn loaf_log_chord(log: &[u8], n: usize, answer: &mut [u64]) -> u64
     ensures { Told 2
         (chord_refusal (chord_of log.now n)) (chord_words (chord_of log.now n))
         answer.old result answer.new }

@@ -13,8 +13,7 @@ ghost use Rattle.codes.specs.Words.{Told, Tells};
 use codes::told;
 use lent::batches;
 
-#[unsafe(no_mangle)]
-pub extern "C" fn loaf_table(schema: &[u8], out: &mut [u64]) -> u64
+pub fn loaf_table(schema: &[u8], out: &mut [u64]) -> u64
     ensures { Fills
         (tabulate_of schema.now (length out.old)) (tabled_of schema.now out.old)
         result out.new }
@@ -22,22 +21,19 @@ pub extern "C" fn loaf_table(schema: &[u8], out: &mut [u64]) -> u64
     codes::length_code(lent::table(schema, out))
 }
 
-#[unsafe(no_mangle)]
-pub extern "C" fn loaf_judge_by(schema: &[u8], table: &[u64]) -> u64
+pub fn loaf_judge_by(schema: &[u8], table: &[u64]) -> u64
     ensures { result ≡ verdict_code (judge_of (schema_by schema.now table.now)) }
 {
     codes::outcome_code(lent::judge_by(schema, table))
 }
 
-#[unsafe(no_mangle)]
-pub extern "C" fn loaf_check_by(schema: &[u8], table: &[u64], row: &[u8]) -> u64
+pub fn loaf_check_by(schema: &[u8], table: &[u64], row: &[u8]) -> u64
     ensures { result ≡ verdict_code (check_of (schema_by schema.now table.now) row.now) }
 {
     codes::outcome_code(lent::check_by(schema, table, row))
 }
 
-#[unsafe(no_mangle)]
-pub extern "C" fn loaf_write_by(schema: &[u8], table: &[u64], listing: &[u8], out: &mut [u8]) -> u64
+pub fn loaf_write_by(schema: &[u8], table: &[u64], listing: &[u8], out: &mut [u8]) -> u64
     ensures { Fills
         (write_of (schema_by schema.now table.now) listing.now (length out.old))
         (written_of (schema_by schema.now table.now) listing.now out.old)
@@ -46,8 +42,7 @@ pub extern "C" fn loaf_write_by(schema: &[u8], table: &[u64], listing: &[u8], ou
     codes::length_code(lent::write_by(schema, table, listing, out))
 }
 
-#[unsafe(no_mangle)]
-pub extern "C" fn loaf_list_by(schema: &[u8], table: &[u64], row: &[u8], out: &mut [u8]) -> u64
+pub fn loaf_list_by(schema: &[u8], table: &[u64], row: &[u8], out: &mut [u8]) -> u64
     ensures { Fills
         (list_of (schema_by schema.now table.now) row.now (length out.old))
         (listed_of (schema_by schema.now table.now) row.now out.old)
@@ -56,8 +51,7 @@ pub extern "C" fn loaf_list_by(schema: &[u8], table: &[u64], row: &[u8], out: &m
     codes::length_code(lent::list_by(schema, table, row, out))
 }
 
-#[unsafe(no_mangle)]
-pub extern "C" fn loaf_read_by(
+pub fn loaf_read_by(
     schema: &[u8],
     table: &[u64],
     row: &[u8],
@@ -74,8 +68,7 @@ pub extern "C" fn loaf_read_by(
     )
 }
 
-#[unsafe(no_mangle)]
-pub extern "C" fn loaf_set_by(
+pub fn loaf_set_by(
     schema: &[u8],
     table: &[u64],
     row: &mut [u8],
@@ -92,8 +85,7 @@ pub extern "C" fn loaf_set_by(
     asking::set_by(schema, table, row, path, kind, value, bytes)
 }
 
-#[unsafe(no_mangle)]
-pub extern "C" fn loaf_batch_fetch_by(
+pub fn loaf_batch_fetch_by(
     schema: &[u8],
     table: &[u64],
     batch: &[u8],
@@ -108,8 +100,7 @@ pub extern "C" fn loaf_batch_fetch_by(
     told::fetched(answer, batches::fetch_by(schema, table, batch, k))
 }
 
-#[unsafe(no_mangle)]
-pub extern "C" fn loaf_batch_check_by(
+pub fn loaf_batch_check_by(
     schema: &[u8],
     table: &[u64],
     batch: &[u8],
@@ -123,8 +114,7 @@ pub extern "C" fn loaf_batch_check_by(
     told::checked(answer, batches::check_by(schema, table, batch))
 }
 
-#[unsafe(no_mangle)]
-pub extern "C" fn loaf_batch_append_by(
+pub fn loaf_batch_append_by(
     schema: &[u8],
     table: &[u64],
     room: &mut [u8],
@@ -140,8 +130,7 @@ pub extern "C" fn loaf_batch_append_by(
     told::appended(answer, batches::append_by(schema, table, room, used, row))
 }
 
-#[unsafe(no_mangle)]
-pub extern "C" fn loaf_batch_read_by(
+pub fn loaf_batch_read_by(
     schema: &[u8],
     table: &[u64],
     batch: &[u8],
@@ -159,8 +148,7 @@ pub extern "C" fn loaf_batch_read_by(
     )
 }
 
-#[unsafe(no_mangle)]
-pub extern "C" fn loaf_batch_set_by(
+pub fn loaf_batch_set_by(
     schema: &[u8],
     table: &[u64],
     batch: &mut [u8],

@@ -129,6 +129,8 @@ module _ (base bm w : ℕ) where
       ∙ ap (λ y. sets y (cur + length d) D)
       (sets_then (sets Y cur d) slot (slot + w) s₁ S (omega arith) ∙ sets-comm Y slot cur (s₁ ++ S) d (rw (length-append, ls, lS) (omega arith)))
       ∙ sets_then (sets Y slot (s₁ ++ S)) cur (cur + length d) d D refl
+  paint-is [] (c ∷ cs) i slot cur x l f hb hs ho = elim f [ ]
+  paint-is (k ∷ ks) [] i slot cur x l f hb hs ho = elim f [ ]
 
   -- zeros in the bitmap and behind the slots first, then the children
   pub body_is : (h : ℕ) (ks : List Kid) (cs : List Cell) (x x₀ : List ℕ) (B stop start P : ℕ) → AllLawful w ks → AllFit w ks cs

@@ -6,20 +6,15 @@ use Rattle.asking.proofs.set_in_by.Goals as goal
 
 pub unfit_in-requires : goal.unfit_in-requires
 unfit_in-requires c = let k = read-in-known _ _ _ _ c.read_by.ensures in
-    (fetch-known _ _ _ c.before.before.fetch-by.ensures, k.0, k.1)
+    (fetch-known _ _ _ c.fetch_by.ensures, k.0, k.1)
 
 pub outcome_code-requires : goal.outcome_code-requires
 outcome_code-requires c = set-in-known _ _ _ _ _ c.set_by.ensures.answers
 
 pub returns-in-Nothing : goal.returns-in-Nothing
-returns-in-Nothing c = let t = (goal.at.returns-in-Nothing c).After-of_kind in
-    let u = t.before.before in
-    leaves-none-in _ _ u.before.path-of.ensures _ _ _ _ _ (asks_none _ _ u.of-kind.ensures _ t.enum_told.given.1)
-    c.before.before.before.fetch-by.ensures c.read_by.ensures c.unfit_in.ensures
+returns-in-Nothing c = leaves-none-in _ _ c.path_of-p.ensures _ _ _ _ _ (asks_none _ _ c.of_kind.ensures _ c.in-Nothing.is)
+    c.fetch_by.ensures c.read_by.ensures c.unfit_in.ensures
 
 pub returns-in-Of : goal.returns-in-Of
-returns-in-Of c = let t = (goal.at.returns-in-Of c).After-set_by in
-    let u = t.before.before.before in
-    let v = u.before.before in
-    leaves-set-in _ _ v.before.path-of.ensures _ _ _ _ _ t.set-by.result _ _ (asks-for _ _ v.of-kind.ensures _ u.x.given.1)
-    t.set-by.ensures c.outcome_code.ensures
+returns-in-Of c = leaves-set-in _ _ c.path_of-p.ensures _ _ _ _ _ c.set_by.result _ _ (asks-for _ _ c.of_kind.ensures _ c.in-Of.is)
+    c.set_by.ensures c.outcome_code.ensures

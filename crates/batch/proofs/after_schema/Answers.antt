@@ -3,7 +3,7 @@ use Rattle.batch.proofs.Orders.{judged-yes, judged-no}
 use Rattle.batch.proofs.after_schema.Goals as goal
 
 pub returns-in-Done : goal.returns-in-Done
-returns-in-Done c = rw (judged-yes c.args.schema.now c.judge.ensures c.enum_told-1.given.1)
+returns-in-Done c = rw (judged-yes c.args.schema.now c.judge.ensures c.in-Done.is)
 
 pub returns-in-Refused : goal.returns-in-Refused
-returns-in-Refused c = rw (judged-no c.args.schema.now c.judge.ensures c.enum_told-in-Refused-1.given.1)
+returns-in-Refused c = rw (judged-no c.args.schema.now c.judge.ensures c.in-Refused.is)

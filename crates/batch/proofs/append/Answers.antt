@@ -10,23 +10,22 @@ pub returns-then-room-used : goal.returns-then-room-used
 returns-then-room-used c = append-broken _ _ _ _ (lent_none _ _ c.if-room-used.true) c.after_schema.ensures
 
 pub slice_bounds-count-end-2 : goal.slice_bounds-count-end-2
-slice_bounds-count-end-2 c = sym (length-take-le _ _ c.before.if1.false)
+slice_bounds-count-end-2 c = sym (length-take-le _ _ c.if-room-used.false)
 
 pub returns-in-Refused : goal.returns-in-Refused
-returns-in-Refused c = let n = count_none c.enum_told-in-Refused-1.given.1 c.count.ensures in
-    append-broken _ _ _ _ (lent_is _ _ c.before.before.before.before.before.if1.false ∙ n.is) c.after_schema-in-Refused.ensures
+returns-in-Refused c = let n = count_none c.in-Refused.is c.count.ensures in
+    append-broken _ _ _ _ (lent_is _ _ c.if-room-used.false ∙ n.is) c.after_schema-in-Refused.ensures
 
 pub returns-in-Refused-check : goal.returns-in-Refused-check
-returns-in-Refused-check c = let w = count-whole c.enum_told-1.given.1 c.count.ensures in
-    let l = lent_is _ _ c.before.before.before.before.before.before.before.before.if1.false ∙ w.is in
-    append-refused _ _ _ _ l _ (sym (ap outcome_means c.r-1.given.1) ∙ c.check.ensures)
+returns-in-Refused-check c = let w = count-whole c.in-Rows.is c.count.ensures in
+    let l = lent_is _ _ c.if-room-used.false ∙ w.is in
+    append-refused _ _ _ _ l _ (sym (ap outcome_means c.in-Refused-check.is) ∙ c.check.ensures)
 
 pub put_row-requires : goal.put_row-requires
-put_row-requires c = let small = row_small _ _ (sym (ap outcome_means c.enum_told-in-Done-1.given.1) ∙ c.check.ensures) in
-    (c.before.before.before.before.before.before.before.before.if1.false, small)
+put_row-requires c = let small = row_small _ _ (sym (ap outcome_means c.in-Done.is) ∙ c.check.ensures) in
+    (c.if-room-used.false, small)
 
 pub returns : goal.returns
-returns c = let t = (goal.at.returns c).In-Done in
-    let w = count-whole t.before.before.before.enum_told.given.1 t.before.before.before.before.before.count.ensures in
-    let l = lent_is _ _ t.before.before.before.before.before.before.before.if1.false ∙ w.is in
-    append-put _ _ _ _ l (sym (ap outcome_means t.enum-told3.given.1) ∙ t.before.before.check.ensures) c.put_row.ensures
+returns c = let w = count-whole c.in-Rows.is c.count.ensures in
+    let l = lent_is _ _ c.if-room-used.false ∙ w.is in
+    append-put _ _ _ _ l (sym (ap outcome_means c.in-Done.is) ∙ c.check.ensures) c.put_row.ensures

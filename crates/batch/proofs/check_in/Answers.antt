@@ -10,10 +10,10 @@ pub slice_bounds-check_rows-end : goal.slice_bounds-check_rows-end
 slice_bounds-check_rows-end c = (got c.build-n.ensures c.if-n-eq0.false).room
 
 pub slice_bounds-check_rows-end-2 : goal.slice_bounds-check_rows-end-2
-slice_bounds-check_rows-end-2 c = (got c.before.before.before.before.build.ensures c.before.if1.false).size
+slice_bounds-check_rows-end-2 c = (got c.build-n.ensures c.if-n-eq0.false).size
 
 pub check_rows-requires : goal.check_rows-requires
-check_rows-requires c = (got c.before.before.before.before.build.ensures c.before.if1.false).table
+check_rows-requires c = (got c.build-n.ensures c.if-n-eq0.false).table
 
 pub returns : goal.returns
-returns c = check-by (got c.before.before.before.before.before.build.ensures c.before.before.if1.false) _ c.check_rows.ensures
+returns c = check-by (got c.build-n.ensures c.if-n-eq0.false) _ c.check_rows.ensures

@@ -39,10 +39,9 @@ refuse_row-requires c = passed-next c.loop-at.invariant.0
 
 pub returns-in-Refused : goal.returns-in-Refused
 returns-in-Refused c = let l = c.loop-at in
-    let t = (goal.at.returns-in-Refused c).Else-end-eq0 in
-    let s = stands_of t.before.frame-end.ensures t.if1.false in
+    let s = stands_of c.frame_end-end.ensures c.if-end-eq0.false in
     let a = c.requires.accepted in
-    let v = sym (ap outcome_means c.r-1.given.1) ∙ c.check.ensures in
+    let v = sym (ap outcome_means c.in-Refused.is) ∙ c.check.ensures in
     c.refuse_row.ensures ∙ order-refused a l.invariant.1 l.invariant.0 s _ v
 
 pub overflow_add-n : goal.overflow_add-n
@@ -57,7 +56,7 @@ pub loop-at-preserved : goal.loop-at-preserved
 loop-at-preserved c = let l = c.loop-at in
     let s = stands_of c.frame_end-end.ensures c.if-end-eq0.false in
     let a = c.requires.accepted in
-    let v = sym (ap outcome_means c.enum_told-1.given.1) ∙ c.check.ensures in
+    let v = sym (ap outcome_means c.in-Done.is) ∙ c.check.ensures in
     (passed-next l.invariant.0 s, order-next a l.invariant.1 l.invariant.0 s v)
 
 pub returns : goal.returns

@@ -7,7 +7,7 @@ pub overflow_add-n : goal.overflow_add-n
 overflow_add-n c = omega (arith, passed-few c.requires, c.requires.high)
 
 pub returns-in-Rows : goal.returns-in-Rows
-returns-in-Rows c = let w = count-whole c.enum_told-1.given.1 c.count_on.ensures in rw w.is
+returns-in-Rows c = let w = count-whole c.in-Rows.is c.count_on.ensures in rw w.is
 
 pub returns-in-Refused : goal.returns-in-Refused
-returns-in-Refused c = let w = count_none c.enum_told-in-Refused-1.given.1 c.count_on.ensures in rw w.is
+returns-in-Refused c = let w = count_none c.in-Refused.is c.count_on.ensures in rw w.is

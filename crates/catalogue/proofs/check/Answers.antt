@@ -6,20 +6,19 @@ use Rattle.catalogue.proofs.Found.{is-broken, is-past, is_at, found}
 use Rattle.catalogue.proofs.check.Goals as goal
 
 pub slice_bounds-check-count : goal.slice_bounds-check-count
-slice_bounds-check-count c = let y = is_at _ _ c.start-1.given.1 c.find.ensures in omega (arith, y.forward, y.within)
+slice_bounds-check-count c = let y = is_at _ _ c.in-At.is c.find.ensures in omega (arith, y.forward, y.within)
 
 pub slice_bounds-check-start : goal.slice_bounds-check-start
-slice_bounds-check-start c = let y = is_at _ _ c.start-1.given.1 c.find.ensures in omega (arith, y.forward, y.within)
+slice_bounds-check-start c = let y = is_at _ _ c.in-At.is c.find.ensures in omega (arith, y.forward, y.within)
 
 pub slice_bounds-check-end : goal.slice_bounds-check-end
-slice_bounds-check-end c = let y = is_at _ _ c.start-1.given.1 c.find.ensures in omega (arith, y.forward, y.within)
+slice_bounds-check-end c = let y = is_at _ _ c.in-At.is c.find.ensures in omega (arith, y.forward, y.within)
 
 pub returns-in-Broken : goal.returns-in-Broken
-returns-in-Broken c = is-broken _ _ c.enum_told-1.given.1 c.find.ensures (K.check _)
+returns-in-Broken c = is-broken _ _ c.in-Broken.is c.find.ensures (K.check _)
 
 pub returns-in-Past : goal.returns-in-Past
-returns-in-Past c = is-past _ _ c.enum_told-in-Past-1.given.1 c.find.ensures (K.check _)
+returns-in-Past c = is-past _ _ c.in-Past.is c.find.ensures (K.check _)
 
 pub returns-in-At : goal.returns-in-At
-returns-in-At c = let d = (goal.at.returns-in-At c).In-At in
-    c.check.ensures ∙ found (is_at _ _ d.before.start.given.1 d.before.before.before.find.ensures) (K.check _)
+returns-in-At c = c.check.ensures ∙ found (is_at _ _ c.in-At.is c.find.ensures) (K.check _)

@@ -10,7 +10,7 @@ pub bounds-catalogue-0 : goal.bounds-catalogue-0
 bounds-catalogue-0 c = omega (arith, enters-size c.requires)
 
 pub overflow_cast-count : goal.overflow_cast-count
-overflow_cast-count c = let f = (c.slice_known-2-1.given 0).fits in search rules
+overflow_cast-count c = let f = (c.type_inv.catalogue 0).fits in search rules
 
 pub returns-then-count-eq-MOST : goal.returns-then-count-eq-MOST
 returns-then-count-eq-MOST c = enters-full c.requires c.if-count-eq-MOST.true
@@ -19,14 +19,12 @@ pub put2-requires : goal.put2-requires
 put2-requires c = let y = c.requires in omega (arith, enters-room y c.if-count-eq-MOST.false, enters-size y)
 
 pub overflow_add-end : goal.overflow_add-end
-overflow_add-end c = let d = (goal.at.overflow_add-end c).Else-count-eq-MOST in
-    let y = d.before.before.before.before.requires in
-    omega (arith, enters-room y d.if1.false, enters-size y)
+overflow_add-end c = let y = c.requires in
+    omega (arith, enters-room y c.if-count-eq-MOST.false, enters-size y)
 
 pub copy-requires : goal.copy-requires
-copy-requires c = let d = (goal.at.copy-requires c).Else-count-eq-MOST in
-    let y = d.before.before.before.before.requires in
-    (omega (arith, enters-room y d.if1.false, c.put2.auto.0), omega arith)
+copy-requires c = let y = c.requires in
+    (omega (arith, enters-room y c.if-count-eq-MOST.false, c.put2.auto.b), omega arith)
 
 pub overflow_add-catalogue : goal.overflow_add-catalogue
 overflow_add-catalogue c = omega (arith, enters-few c.requires)
@@ -36,12 +34,8 @@ overflow_cast-catalogue c = record { fits = omega (arith, enters-few c.requires)
 
 pub bounds-catalogue-0-2 : goal.bounds-catalogue-0-2
 bounds-catalogue-0-2 c = let y = c.requires in
-    omega (arith, enters-size y, c.copy.auto.0, c.put2.auto.0)
-
-pub shape_of-catalogue : goal.shape_of-catalogue
-shape_of-catalogue c = simp length-set (c.copy.auto.0 ∙ c.put2.auto.0)
+    omega (arith, enters-size y, c.copy.auto.out, c.put2.auto.b)
 
 pub returns : goal.returns
-returns c = let d = (goal.at.returns c).Else-count-eq-MOST in
-    enters-new d.before.before.before.before.requires d.if1.false c.put2.ensures
+returns c = enters-new c.requires c.if-count-eq-MOST.false c.put2.ensures
     c.copy.ensures

@@ -13,17 +13,15 @@ pub bounds-catalogue-0 : goal.bounds-catalogue-0
 bounds-catalogue-0 c = let y = judged-some _ _ _ c.judge-end.ensures c.if-end-eq0.false in omega (arith, y.lies.size)
 
 pub overflow_cast-count : goal.overflow_cast-count
-overflow_cast-count c = let f = (c.shared_slice_known-3-1.given 0).fits in search rules
+overflow_cast-count c = let f = (c.type_inv.catalogue 0).fits in search rules
 
 pub number-k-requires : goal.number-k-requires
 number-k-requires c = (judged-some _ _ _ c.judge-end.ensures c.if-end-eq0.false).lies
 
 pub returns-then-k-count : goal.returns-then-k-count
-returns-then-k-count c = let d = (goal.at.returns-then-k-count c).Else-end-eq0 in
-    stands-old (judged-some _ _ _ d.before.judge.ensures d.if1.false) (slice-bytes d.before.before.before.shared-slice-known.given) _
+returns-then-k-count c = stands-old (judged-some _ _ _ c.judge-end.ensures c.if-end-eq0.false) (slice-bytes c.type_inv.catalogue) _
     c.number-k.ensures c.if-k-count.true
 
 pub returns : goal.returns
-returns c = let d = (goal.at.returns c).Else-end-eq0 in
-    stands-behind (judged-some _ _ _ d.before.judge.ensures d.if1.false) (slice-bytes d.before.before.before.shared-slice-known.given) _
+returns c = stands-behind (judged-some _ _ _ c.judge-end.ensures c.if-end-eq0.false) (slice-bytes c.type_inv.catalogue) _
     c.number-k.ensures c.if-k-count.false

@@ -6,20 +6,19 @@ use Rattle.catalogue.proofs.Found.{is-broken, is-past, is_at, found}
 use Rattle.catalogue.proofs.read.Goals as goal
 
 pub slice_bounds-read-count : goal.slice_bounds-read-count
-slice_bounds-read-count c = let y = is_at _ _ c.start-1.given.1 c.find.ensures in omega (arith, y.forward, y.within)
+slice_bounds-read-count c = let y = is_at _ _ c.in-At.is c.find.ensures in omega (arith, y.forward, y.within)
 
 pub slice_bounds-read-start : goal.slice_bounds-read-start
-slice_bounds-read-start c = let y = is_at _ _ c.start-1.given.1 c.find.ensures in omega (arith, y.forward, y.within)
+slice_bounds-read-start c = let y = is_at _ _ c.in-At.is c.find.ensures in omega (arith, y.forward, y.within)
 
 pub slice_bounds-read-end : goal.slice_bounds-read-end
-slice_bounds-read-end c = let y = is_at _ _ c.start-1.given.1 c.find.ensures in omega (arith, y.forward, y.within)
+slice_bounds-read-end c = let y = is_at _ _ c.in-At.is c.find.ensures in omega (arith, y.forward, y.within)
 
 pub returns-in-Broken : goal.returns-in-Broken
-returns-in-Broken c = is-broken _ _ c.enum_told-1.given.1 c.find.ensures (K.read _ _)
+returns-in-Broken c = is-broken _ _ c.in-Broken.is c.find.ensures (K.read _ _)
 
 pub returns-in-Past : goal.returns-in-Past
-returns-in-Past c = is-past _ _ c.enum_told-in-Past-1.given.1 c.find.ensures (K.read _ _)
+returns-in-Past c = is-past _ _ c.in-Past.is c.find.ensures (K.read _ _)
 
 pub returns-in-At : goal.returns-in-At
-returns-in-At c = let d = (goal.at.returns-in-At c).In-At in
-    c.read.ensures ∙ found (is_at _ _ d.before.start.given.1 d.before.before.before.find.ensures) (K.read _ _)
+returns-in-At c = c.read.ensures ∙ found (is_at _ _ c.in-At.is c.find.ensures) (K.read _ _)

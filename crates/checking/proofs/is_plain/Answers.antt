@@ -1,7 +1,5 @@
 -- `checking::is_plain` meets its contract: its loop is that of check_fields as long as nothing is out of order. Assumes nothing.
 use mathlib.Core.Path.{refl}
-use mathlib.Core.Logic.{⊎_elim}
-use Prim.Native.Nat.{◌-◌}
 use borrow.Author.Rules.{rules}
 use borrow.Author.Tests.{not-false}
 use Rattle.words.proofs.Numbers.{slice-bytes}
@@ -13,9 +11,10 @@ use Rattle.checking.proofs.Plain.{plain-add, plain_word, plain-start, plain-whol
 use Rattle.checking.proofs.Plain.{plain-slot-mul, plain-slot, plain-less, plain-null, plain-above, plain-fixed, plain-behind, plain-within}
 use Rattle.checking.proofs.Plain.{plain-padded, plain-text}
 use Rattle.checking.proofs.is_plain.Goals as goal
+use Rattle.checking.proofs.is_plain.Goals.{else-nulls-i-eq0-via-then-nulls-i-eq0+else-get8-top-ne0, else-nulls-i-eq0-via-else-nulls-i-eq0}
 
 pub returns-then-b-ne0 : goal.returns-then-b-ne0
-returns-then-b-ne0 c = absurd (clash e refl)
+returns-then-b-ne0 c e = absurd (clash e refl)
 
 pub overflow_mul-n : goal.overflow_mul-n
 overflow_mul-n c = search struct-mul
@@ -24,13 +23,13 @@ pub overflow_add-n : goal.overflow_add-n
 overflow_add-n c = search plain-add
 
 pub returns-then-b-n : goal.returns-then-b-n
-returns-then-b-n c = absurd (clash e refl)
+returns-then-b-n c e = absurd (clash e refl)
 
 pub get8-nulls-requires : goal.get8-nulls-requires
 get8-nulls-requires c = search plain_word
 
 pub returns-then-nulls-n-ne0 : goal.returns-then-nulls-n-ne0
-returns-then-nulls-n-ne0 c = absurd (clash e refl)
+returns-then-nulls-n-ne0 c e = absurd (clash e refl)
 
 pub overflow_mul-cur : goal.overflow_mul-cur
 overflow_mul-cur c = search struct-mul
@@ -63,7 +62,7 @@ pub overflow_shr-get8-then-nulls-i-eq0 : goal.overflow_shr-get8-then-nulls-i-eq0
 overflow_shr-get8-then-nulls-i-eq0 c = search plain-above
 
 pub returns-then-get8-top-ne0 : goal.returns-then-get8-top-ne0
-returns-then-get8-top-ne0 c = absurd (clash e refl)
+returns-then-get8-top-ne0 c e = absurd (clash e refl)
 
 pub overflow_add-i : goal.overflow_add-i
 overflow_add-i c = search loop-on
@@ -72,10 +71,13 @@ pub loop-i-smaller-then-k-lt-STRING : goal.loop-i-smaller-then-k-lt-STRING
 loop-i-smaller-then-k-lt-STRING c = search plain-less
 
 pub loop-i-preserved-then-k-lt-STRING : goal.loop-i-preserved-then-k-lt-STRING
-loop-i-preserved-then-k-lt-STRING c = ⊎_elim (λ q. search plain-fixed) (λ q. search (plain-null, fixed-leaf)) c.else-nulls-i-eq0.branch
+loop-i-preserved-then-k-lt-STRING c = elim c.else-nulls-i-eq0.branch [
+  | else-nulls-i-eq0-via-then-nulls-i-eq0+else-get8-top-ne0 w ↦ search plain-fixed
+  | else-nulls-i-eq0-via-else-nulls-i-eq0 w ↦ search (plain-null, fixed-leaf)
+]
 
 pub returns-then-k-ge-LIST : goal.returns-then-k-ge-LIST
-returns-then-k-ge-LIST c = absurd (clash e refl)
+returns-then-k-ge-LIST c e = absurd (clash e refl)
 
 pub overflow_shr-nulls-in-loop-i : goal.overflow_shr-nulls-in-loop-i
 overflow_shr-nulls-in-loop-i c = search plain-shift
@@ -93,7 +95,7 @@ pub offset_at-requires : goal.offset_at-requires
 offset_at-requires c = search loop-slot
 
 pub returns-then-offset_at-cur : goal.returns-then-offset_at-cur
-returns-then-offset_at-cur c = absurd (clash e refl)
+returns-then-offset_at-cur c e = absurd (clash e refl)
 
 pub size_at-requires : goal.size_at-requires
 size_at-requires c = search loop-slot
@@ -102,7 +104,7 @@ pub overflow_add-end : goal.overflow_add-end
 overflow_add-end c = search stop-fits
 
 pub returns-then-b-end : goal.returns-then-b-end
-returns-then-b-end c = absurd (clash e refl)
+returns-then-b-end c e = absurd (clash e refl)
 
 pub pad_size-next-requires : goal.pad_size-next-requires
 pad_size-next-requires c = search stop-small
@@ -112,14 +114,14 @@ looks_spelled-requires c = let a = c.loop-i.invariant in
     (search rules, search (plain-padded a))
 
 pub returns-then-not-looks_spelled : goal.returns-then-not-looks_spelled
-returns-then-not-looks_spelled c = absurd (clash e refl)
+returns-then-not-looks_spelled c e = absurd (clash e refl)
 
 pub pad_clear-requires : goal.pad_clear-requires
 pad_clear-requires c = let a = c.loop-i.invariant in
     (search (plain-behind a), search (plain-within a), search stop-small, search)
 
 pub returns-then-not-pad_clear : goal.returns-then-not-pad_clear
-returns-then-not-pad_clear c = absurd (clash e refl)
+returns-then-not-pad_clear c e = absurd (clash e refl)
 
 pub overflow_add-i-in-loop-i : goal.overflow_add-i-in-loop-i
 overflow_add-i-in-loop-i c = search loop-on
@@ -128,14 +130,10 @@ pub loop-i-smaller : goal.loop-i-smaller
 loop-i-smaller c = search plain-less
 
 pub loop-i-preserved : goal.loop-i-preserved
-loop-i-preserved c = let s = (goal.at.loop-i-preserved c).After-pad_size-next in
-    let p = s.before.before.before.before.before.before in
-    plain-text p.before.before.before.before.before.loop.invariant p.before.before.before.before.loop-test.true
-    p.before.before.before.entry_at.ensures p.before.before.place.ensures p.before.if4.false p.if7.false
-    s.before.before.before.before.before.if8.false s.before.before.before.before.offset_at.ensures s.before.before.before.if9.false
-    s.before.before.size-at.ensures s.before.if10.false s.pad-size.ensures
-    (c.looks_spelled.ensures (not-false _ c.if-not-looks_spelled.false-raw)) c.pad_clear.ensures
-    c.if-not-pad_clear.false-raw
+loop-i-preserved c =
+    plain-text c.loop-i.invariant c.loop-i-test.true c.entry_at-w.ensures c.place-k.ensures c.if-k-lt-STRING.false c.if-k-ge-LIST.false
+    c.if-nulls-i-ne0.false c.offset_at.ensures c.if-offset_at-cur.false c.size_at.ensures c.if-b-end.false c.pad_size-next.ensures
+    (c.looks_spelled.ensures (not-false _ c.if-not-looks_spelled.false-raw)) c.pad_clear.ensures c.if-not-pad_clear.false-raw
 
 pub returns : goal.returns
 returns c = search plain-whole

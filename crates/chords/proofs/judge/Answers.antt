@@ -12,11 +12,11 @@ pub check-requires : goal.check-requires
 check-requires c = table_is
 
 pub judge_nulls-requires : goal.judge_nulls-requires
-judge_nulls-requires c = done-checked _ c.check.ensures c.enum_told-1.given.1
-    (slice-bytes c.shared_slice_known-1.given)
+judge_nulls-requires c = done-checked _ c.check.ensures c.in-Done.is
+    (slice-bytes c.type_inv.row)
 
 pub returns-in-Done : goal.returns-in-Done
-returns-in-Done c = c.judge_nulls.ensures ∙ done-nulls _ c.check.ensures c.enum_told-1.given.1
+returns-in-Done c = c.judge_nulls.ensures ∙ done-nulls _ c.check.ensures c.in-Done.is
 
 pub returns-in-Refused : goal.returns-in-Refused
-returns-in-Refused c = refused-row _ c.check.ensures c.r-1.given.1
+returns-in-Refused c = refused-row _ c.check.ensures c.in-Refused.is

@@ -19,18 +19,15 @@ lacks-requires c = begins-in c.requires 0 (omega arith) (sym c.is_null.ensures �
     c.offset_at-first.ensures
 
 pub returns-then-lacks : goal.returns-then-lacks
-returns-then-lacks c = let t = (goal.at.returns-then-lacks c).Else-is_null in
-    first-lacks t.before.before.before.requires (sym t.before.is-null.ensures ∙ t.if1.false) c.offset_at-first.ensures
+returns-then-lacks c = first-lacks c.requires (sym c.is_null.ensures ∙ c.if-is_null.false) c.offset_at-first.ensures
     (sym c.lacks.ensures ∙ c.if-lacks.true)
 
 pub is_null-requires-2 : goal.is_null-requires-2
 is_null-requires-2 c = omega (arith, long c.requires)
 
 pub returns-then-is_null-2 : goal.returns-then-is_null-2
-returns-then-is_null-2 c = let u = (goal.at.returns-then-is_null-2 c).Else-lacks in
-    let t = u.before.before.before in
-    second-null t.before.before.before.requires (sym t.before.is-null.ensures ∙ t.if1.false) u.before.before.offset_at.ensures
-    (sym u.before.lacks.ensures ∙ u.if2.false)
+returns-then-is_null-2 c = second-null c.requires (sym c.is_null.ensures ∙ c.if-is_null.false) c.offset_at-first.ensures
+    (sym c.lacks.ensures ∙ c.if-lacks.false)
     (sym c.is_null-2.ensures ∙ c.if-is_null-2.true)
 
 pub offset_at-second-requires : goal.offset_at-second-requires
@@ -41,21 +38,15 @@ lacks-requires-2 c = begins-in c.requires 1 (omega arith)
     (sym c.is_null-2.ensures ∙ c.if-is_null-2.false) c.offset_at-second.ensures
 
 pub returns-then-lacks-2 : goal.returns-then-lacks-2
-returns-then-lacks-2 c = let v = (goal.at.returns-then-lacks-2 c).Else-is_null-2 in
-    let u = v.before.before in
-    let t = u.before.before.before in
-    second-lacks t.before.before.before.requires (sym t.before.is-null.ensures ∙ t.if1.false) u.before.before.offset_at.ensures
-    (sym u.before.lacks.ensures ∙ u.if2.false)
-    (sym v.before.is-null2.ensures ∙ v.if3.false)
+returns-then-lacks-2 c = second-lacks c.requires (sym c.is_null.ensures ∙ c.if-is_null.false) c.offset_at-first.ensures
+    (sym c.lacks.ensures ∙ c.if-lacks.false)
+    (sym c.is_null-2.ensures ∙ c.if-is_null-2.false)
     c.offset_at-second.ensures
     (sym c.lacks-2.ensures ∙ c.if-lacks-2.true)
 
 pub returns : goal.returns
-returns c = let v = (goal.at.returns c).Else-is_null-2 in
-    let u = v.before.before in
-    let t = u.before.before.before in
-    none-lacks t.before.before.before.requires (sym t.before.is-null.ensures ∙ t.if1.false) u.before.before.offset_at.ensures
-    (sym u.before.lacks.ensures ∙ u.if2.false)
-    (sym v.before.is-null2.ensures ∙ v.if3.false)
+returns c = none-lacks c.requires (sym c.is_null.ensures ∙ c.if-is_null.false) c.offset_at-first.ensures
+    (sym c.lacks.ensures ∙ c.if-lacks.false)
+    (sym c.is_null-2.ensures ∙ c.if-is_null-2.false)
     c.offset_at-second.ensures
     (sym c.lacks-2.ensures ∙ c.if-lacks-2.false)

@@ -9,20 +9,10 @@ use Rattle.compare.proofs.Closing.{Starts, follow-start, own-struct, place_in, f
 use Rattle.compare.proofs.Refusing.{HolderIs, own-mark, own-holder, own-shallow, own-beyond, own-some, own-few, own-entry, own-left}
 use Rattle.compare.proofs.Refusing.{other-some, other-left, follow-struct, follow-other}
 use Rattle.compare.proofs.gives.Goals as goal
-use Rattle.compare.proofs.gives.Goals.{Else-t-fields, Else-fields-gt128, After-wrapping_sub_u64-w, At-loop-lines, Then-is_leaf, Else-is_leaf, After-wide-c, After-mark_at-m}
-
--- earlier places
-abbrev entry : tie.At-loop invariant-loop2 decreases-loop2 invariant-loop decreases-loop → tie.Start invariant-loop2 decreases-loop2 invariant-loop decreases-loop
-entry c = c.before.before.before.before.before.before.before.before.before.before.before.before.before.before.before
-
-abbrev loop-at : tie.After-wrapping-sub-u64 invariant-loop2 decreases-loop2 invariant-loop decreases-loop → tie.At-loop invariant-loop2 decreases-loop2 invariant-loop decreases-loop
-loop-at c = c.before.before
+use Rattle.compare.proofs.gives.Goals.{Else-t-fields, Else-fields-gt128, After-wrapping_sub_u64-w, Then-is_leaf, Else-is_leaf, After-mark_at-m}
 
 -- what is known at a place, said once
-starts : (c : Else-t-fields)
-    → let a = c.args in
-    Starts a.s.now a.t.now c.mark_at.result
-    c.wide-fields.result
+starts : (c : Else-t-fields) → Starts c.args.s.now c.args.t.now c.mark_at.result c.wide-fields.result
 starts c = record {
   short = c.if-len-gt1024.false;
   five = c.if-len-lt5.false;
@@ -37,69 +27,34 @@ starts c = record {
 }
 
 -- the root's fields are few, and so are the words
-few-fields : (c : Else-fields-gt128)
-    → (c.wide-fields.result ≤ 128)
-    × (length c.args.t.now ≤ 512)
-few-fields c = let e = c.before.before.before.before.before.before.before in (c.if-fields-gt128.false, omega (arith, e.if3.false, e.before.before.if1.false))
+few-fields : (c : Else-fields-gt128) → (c.wide-fields.result ≤ 128) × (length c.args.t.now ≤ 512)
+few-fields c = (c.if-fields-gt128.false, omega (arith, c.if-len-all.false, c.if-len-gt1024.false))
 
 takes : (c : After-wrapping_sub_u64-w)
-    → let a = (entry (loop-at c)).args in
-    let l = (loop-at c).loop in
-    Takes a.s.now a.t.now l.frames l.d l.i l.extra l.n l.base l.left c.wrapping_sub_u64-w.result
-takes c = record { faces = (loop-at c).loop.invariant; entry = c.wrapping_sub_u64-w.ensures; below = omega (arith, c.wrapping_sub_u64-w.type-inv) }
+    → let l = c.loop-lines in Takes c.args.s.now c.args.t.now l.frames l.d l.i l.extra l.n l.base l.left c.wrapping_sub_u64-w.result
+takes c = record {
+  faces = c.loop-lines.invariant;
+  entry = c.wrapping_sub_u64-w.ensures.value;
+  below = omega (arith, c.wrapping_sub_u64-w.type_inv);
+}
 
-bytes : (c : At-loop-lines) (j : ℕ) → get_or (entry c).args.s.now j 0 < 256
-bytes c j = omega (
-  arith,
-  (c.shared_slice_known-1.given j).fits,
-)
+is_one : (c : Then-is_leaf) → is_leaf c.wrapping_sub_u64-w.result ≡ true
+is_one c = sym c.is_leaf.ensures ∙ c.if-is_leaf.true
 
-abbrev word_at : tie.After-is-leaf invariant-loop2 decreases-loop2 invariant-loop decreases-loop → tie.After-wrapping-sub-u64 invariant-loop2 decreases-loop2 invariant-loop decreases-loop
-word_at c = c.before.before
-
-is_one : (c : Then-is_leaf) → is_leaf (word_at c.before).wrapping-sub-u64.result ≡ true
-is_one c = sym c.before.is_IsLeaf.ensures ∙ c.if-is_leaf.true
-
-is_none : (c : Else-is_leaf) → is_leaf (word_at c.before).wrapping-sub-u64.result ≡ false
-is_none c = sym c.before.is_IsLeaf.ensures ∙ c.if-is_leaf.false
-
--- from behind a leaf's mark, and from behind another's
-abbrev one_at : tie.After-mark-at2 invariant-loop2 decreases-loop2 invariant-loop decreases-loop → tie.Then9 invariant-loop2 decreases-loop2 invariant-loop decreases-loop
-one_at c = c.before
-
-abbrev leaf-word : tie.Then9 invariant-loop2 decreases-loop2 invariant-loop decreases-loop → tie.After-wrapping-sub-u64 invariant-loop2 decreases-loop2 invariant-loop decreases-loop
-leaf-word c = word_at c.before
-
-abbrev none-at : tie.After-mark-at3 invariant-loop2 decreases-loop2 invariant-loop decreases-loop → tie.Else9 invariant-loop2 decreases-loop2 invariant-loop decreases-loop
-none-at c = c.before.before
-
-abbrev held_word : tie.After-mark-at3 invariant-loop2 decreases-loop2 invariant-loop decreases-loop → tie.After-wrapping-sub-u64 invariant-loop2 decreases-loop2 invariant-loop decreases-loop
-held_word c = word_at (none-at c).before
-
-abbrev held-loop : tie.After-mark-at3 invariant-loop2 decreases-loop2 invariant-loop decreases-loop → tie.At-loop invariant-loop2 decreases-loop2 invariant-loop decreases-loop
-held-loop c = loop-at (held_word c)
-
--- from a struct's count, and from where a container is opened
-abbrev wide-mark : tie.After-wide2 invariant-loop2 decreases-loop2 invariant-loop decreases-loop → tie.After-mark-at3 invariant-loop2 decreases-loop2 invariant-loop decreases-loop
-wide-mark c = c.before.before.before.before
-
-wide-struct : (c : After-wide-c) → (wide-mark c).mark-at3.result ≡ 28530
-wide-struct c = c.if-m-eq-STRUCT_MARK.true
-
-abbrev at-struct : tie.Else20 invariant-loop2 decreases-loop2 invariant-loop decreases-loop → tie.At-loop invariant-loop2 decreases-loop2 invariant-loop decreases-loop
-at-struct c = held-loop (wide-mark c.before.before.before.before)
-
-abbrev at_other : tie.Else23 invariant-loop2 decreases-loop2 invariant-loop decreases-loop → tie.At-loop invariant-loop2 decreases-loop2 invariant-loop decreases-loop
-at_other c = held-loop c.before.before.before.before.before
+is_none : (c : Else-is_leaf) → is_leaf c.wrapping_sub_u64-w.result ≡ false
+is_none c = sym c.is_leaf.ensures ∙ c.if-is_leaf.false
 
 -- of a schema's own table the entry is then a container's
 holder : (c : After-mark_at-m)
-    → let a = (entry (held-loop c)).args in
-    let l = (held-loop c).loop in
-    Own a.s.now a.t.now
-    → HolderIs a.s.now a.t.now l.frames l.d l.i l.extra l.n (held_word c).wrapping-sub-u64.result
-    c.mark_at-m.result
-holder c o = own-holder (takes (held_word c)) c.mark_at-m.ensures o (is_none (none-at c))
+    → let l = c.loop-lines in
+    Own c.args.s.now c.args.t.now
+    → HolderIs c.args.s.now c.args.t.now l.frames l.d l.i l.extra l.n c.wrapping_sub_u64-w.result c.mark_at-m.result
+holder c o =
+    own-holder {s = c.args.s.now} (record {
+      faces = c.loop-lines.invariant;
+      entry = c.wrapping_sub_u64-w.ensures.value;
+      below = omega (arith, c.wrapping_sub_u64-w.type_inv);
+    }) c.mark_at-m.ensures o (sym c.is_leaf.ensures ∙ c.if-is_leaf.false)
 
 pub returns-then-len-gt1024 : goal.returns-then-len-gt1024
 returns-then-len-gt1024 c = λ o. let r = own_root o in omega (arith, r.short, c.if-len-gt1024.true)
@@ -127,8 +82,7 @@ mark_at-requires c = omega (arith, c.if-len-lt5.false)
 
 pub returns-then-mark_at-ne-STRUCT_MARK : goal.returns-then-mark_at-ne-STRUCT_MARK
 returns-then-mark_at-ne-STRUCT_MARK c = λ o.
-    let e = (goal.at.returns-then-mark_at-ne-STRUCT_MARK c).Else-len-lt5 in
-    c.if-mark_at-ne-STRUCT_MARK.true (own-struct o e.before.if1.false (omega (arith, e.if2.false)) c.mark_at.ensures)
+    c.if-mark_at-ne-STRUCT_MARK.true (own-struct o c.if-len-gt1024.false (omega (arith, c.if-len-lt5.false)) c.mark_at.ensures)
 
 pub returns-then-fields-eq0 : goal.returns-then-fields-eq0
 returns-then-fields-eq0 c = λ o. let r = own_root o in omega (arith, r.some, c.wide-fields.ensures.0, c.if-fields-eq0.true)
@@ -171,31 +125,29 @@ unfolding leaves_of
 is_leaf-requires c = refl
 
 pub overflow_mul-i : goal.overflow_mul-i
-overflow_mul-i c = omega (arith, small (loop-at (word_at (goal.at.overflow_mul-i c).After-is_leaf)).loop.inv.follows, word_in (loop-at (word_at (goal.at.overflow_mul-i c).After-is_leaf)).loop.inv)
+overflow_mul-i c = omega (arith, small c.loop-lines.invariant.follows, word_in c.loop-lines.invariant)
 
 pub overflow_add-i : goal.overflow_add-i
-overflow_add-i c = omega (arith, small (loop-at (word_at (goal.at.overflow_add-i c).After-is_leaf)).loop.inv.follows, word_in (loop-at (word_at (goal.at.overflow_add-i c).After-is_leaf)).loop.inv)
+overflow_add-i c = omega (arith, small c.loop-lines.invariant.follows, word_in c.loop-lines.invariant)
 
 pub mark_at-requires-then-is_leaf : goal.mark_at-requires-then-is_leaf
-mark_at-requires-then-is_leaf c = mark-in (loop-at (word_at (goal.at.mark_at-requires-then-is_leaf c).After-is_leaf)).loop.inv
+mark_at-requires-then-is_leaf c = mark-in c.loop-lines.invariant
 
 pub returns-then-mark_at-w : goal.returns-then-mark_at-w
 returns-then-mark_at-w c = λ o.
-    let e = leaf-word (one_at (goal.at.returns-then-mark_at-w c).After-mark_at-then-is_leaf) in
-    c.if-mark_at-w.true (own-mark (takes e) c.mark_at-then-is_leaf.ensures o ∙ sym (mask_is e.wrapping-sub-u64.result 16))
+    c.if-mark_at-w.true (own-mark (takes (goal.at.returns-then-mark_at-w c).After-wrapping_sub_u64-w) c.mark_at-then-is_leaf.ensures o ∙ sym (mask_is c.wrapping_sub_u64-w.result 16))
 
 pub overflow_add-i-then-is_leaf : goal.overflow_add-i-then-is_leaf
-overflow_add-i-then-is_leaf c = omega (arith, small (loop-at (leaf-word (one_at (goal.at.overflow_add-i-then-is_leaf c).After-mark_at-then-is_leaf))).loop.inv.follows, word_in (loop-at (leaf-word (one_at (goal.at.overflow_add-i-then-is_leaf c).After-mark_at-then-is_leaf))).loop.inv)
+overflow_add-i-then-is_leaf c = omega (arith, small c.loop-lines.invariant.follows, word_in c.loop-lines.invariant)
 
 pub overflow_add-base : goal.overflow_add-base
-overflow_add-base c = omega (arith, small (loop-at (leaf-word (one_at (goal.at.overflow_add-base c).After-mark_at-then-is_leaf))).loop.inv.follows, word_in (loop-at (leaf-word (one_at (goal.at.overflow_add-base c).After-mark_at-then-is_leaf))).loop.inv)
+overflow_add-base c = omega (arith, small c.loop-lines.invariant.follows, word_in c.loop-lines.invariant)
 
 pub overflow_sub-n : goal.overflow_sub-n
-overflow_sub-n c = (loop-at (leaf-word (one_at (goal.at.overflow_sub-n c).After-mark_at-then-is_leaf))).loop.inv.some
+overflow_sub-n c = c.loop-lines.invariant.some
 
 pub loop-n-init : goal.loop-n-init
-loop-n-init c = let e = leaf-word (one_at (goal.at.loop-n-init c).After-mark_at-then-is_leaf) in
-    follow-leaf (takes e) (is_one (goal.at.loop-n-init c).Then-is_leaf) c.mark_at-then-is_leaf.ensures (c.if-mark_at-w.false ∙ mask_is e.wrapping-sub-u64.result 16)
+loop-n-init c = follow-leaf (takes (goal.at.loop-n-init c).After-wrapping_sub_u64-w) (is_one (goal.at.loop-n-init c).Then-is_leaf) c.mark_at-then-is_leaf.ensures (c.if-mark_at-w.false ∙ mask_is c.wrapping_sub_u64-w.result 16)
 
 pub returns-then-left-eq1 : goal.returns-then-left-eq1
 returns-then-left-eq1 c = tells c.loop-n.invariant c.loop-n-test.true c.if-d-eq0.true c.if-left-eq1.true
@@ -219,8 +171,7 @@ bounds-t-p c = place_in c.loop-n.invariant c.loop-n-test.true
 
 pub returns-then-t-p : goal.returns-then-t-p
 returns-then-t-p c = λ o.
-    let e = (goal.at.returns-then-t-p c).Else-d-eq0 in
-    c.if-t-p.true (own-end e.before.before.loop2.invariant e.before.loop2-test.true o e.if11.false)
+    c.if-t-p.true (own-end c.loop-n.invariant c.loop-n-test.true o c.if-d-eq0.false)
 
 pub overflow_sub-d : goal.overflow_sub-d
 overflow_sub-d c = omega (arith, c.if-d-eq0.false)
@@ -232,55 +183,51 @@ pub loop-n-smaller : goal.loop-n-smaller
 loop-n-smaller c = omega (arith, c.if-d-eq0.false)
 
 pub loop-n-preserved : goal.loop-n-preserved
-loop-n-preserved c = let e = (goal.at.loop-n-preserved c).Else-d-eq0 in
-    let p = e.before.before in
-    let frames = (loop-at (leaf-word (one_at p.before.before))).loop.frames in
-    rw (mask_is (get_or frames p.loop2.d 0) 8) (follow-pop p.loop2.invariant e.before.loop2-test.true e.if11.false c.if-t-p.false)
+loop-n-preserved c = let frames = c.loop-lines.frames in
+    rw (mask_is (get_or frames c.loop-n.d 0) 8) (follow-pop c.loop-n.invariant c.loop-n-test.true c.if-d-eq0.false c.if-t-p.false)
 
 pub loop-lines-smaller-then-is_leaf : goal.loop-lines-smaller-then-is_leaf
-loop-lines-smaller-then-is_leaf c = omega (arith, word_in (loop-at (leaf-word (one_at (goal.at.loop-lines-smaller-then-is_leaf c).After-mark_at-then-is_leaf))).loop.inv)
+loop-lines-smaller-then-is_leaf c = omega (arith, word_in c.loop-lines.invariant)
 
 pub loop-lines-preserved-then-is_leaf : goal.loop-lines-preserved-then-is_leaf
 loop-lines-preserved-then-is_leaf c = record { follows = c.loop-n.invariant; some = omega (arith, c.loop-n-test.false) }
 
 pub returns-then-d-eq6 : goal.returns-then-d-eq6
 returns-then-d-eq6 c = λ o.
-    let e = word_at (goal.at.returns-then-d-eq6 c).After-is_leaf in
-    let h = own-shallow (takes e) (bytes (loop-at e)) o (is_none (goal.at.returns-then-d-eq6 c).Else-is_leaf) in
+    let h = own-shallow (takes (goal.at.returns-then-d-eq6 c).After-wrapping_sub_u64-w) (λ j. omega (arith, c.type_inv.s j)) o (is_none (goal.at.returns-then-d-eq6 c).Else-is_leaf) in
     omega (arith, h, c.if-d-eq6.true)
 
 pub overflow_mul-i-in-loop-lines : goal.overflow_mul-i-in-loop-lines
-overflow_mul-i-in-loop-lines c = omega (arith, small (loop-at (word_at (goal.at.overflow_mul-i-in-loop-lines c).After-is_leaf)).loop.inv.follows, word_in (loop-at (word_at (goal.at.overflow_mul-i-in-loop-lines c).After-is_leaf)).loop.inv)
+overflow_mul-i-in-loop-lines c = omega (arith, small c.loop-lines.invariant.follows, word_in c.loop-lines.invariant)
 
 pub overflow_add-i-in-loop-lines : goal.overflow_add-i-in-loop-lines
-overflow_add-i-in-loop-lines c = omega (arith, small (loop-at (word_at (goal.at.overflow_add-i-in-loop-lines c).After-is_leaf)).loop.inv.follows, word_in (loop-at (word_at (goal.at.overflow_add-i-in-loop-lines c).After-is_leaf)).loop.inv)
+overflow_add-i-in-loop-lines c = omega (arith, small c.loop-lines.invariant.follows, word_in c.loop-lines.invariant)
 
 pub mark_at-m-requires : goal.mark_at-m-requires
-mark_at-m-requires c = mark-in (loop-at (word_at (goal.at.mark_at-m-requires c).After-is_leaf)).loop.inv
+mark_at-m-requires c = mark-in c.loop-lines.invariant
 
 pub returns-then-extra-most : goal.returns-then-extra-most
 returns-then-extra-most c = λ o. own-beyond (holder (goal.at.returns-then-extra-most c).After-mark_at-m o) c.if-m-eq-STRUCT_MARK.true c.if-extra-most.true
 
 pub overflow_mul-i-then-m-eq-STRUCT_MARK : goal.overflow_mul-i-then-m-eq-STRUCT_MARK
-overflow_mul-i-then-m-eq-STRUCT_MARK c = omega (arith, small (held-loop (goal.at.overflow_mul-i-then-m-eq-STRUCT_MARK c).After-mark_at-m).loop.inv.follows, word_in (held-loop (goal.at.overflow_mul-i-then-m-eq-STRUCT_MARK c).After-mark_at-m).loop.inv)
+overflow_mul-i-then-m-eq-STRUCT_MARK c = omega (arith, small c.loop-lines.invariant.follows, word_in c.loop-lines.invariant)
 
 pub overflow_add-i-then-m-eq-STRUCT_MARK : goal.overflow_add-i-then-m-eq-STRUCT_MARK
-overflow_add-i-then-m-eq-STRUCT_MARK c = omega (arith, small (held-loop (goal.at.overflow_add-i-then-m-eq-STRUCT_MARK c).After-mark_at-m).loop.inv.follows, word_in (held-loop (goal.at.overflow_add-i-then-m-eq-STRUCT_MARK c).After-mark_at-m).loop.inv)
+overflow_add-i-then-m-eq-STRUCT_MARK c = omega (arith, small c.loop-lines.invariant.follows, word_in c.loop-lines.invariant)
 
 pub overflow_add-i-then-m-eq-STRUCT_MARK-2 : goal.overflow_add-i-then-m-eq-STRUCT_MARK-2
-overflow_add-i-then-m-eq-STRUCT_MARK-2 c = omega (arith, small (held-loop (goal.at.overflow_add-i-then-m-eq-STRUCT_MARK-2 c).After-mark_at-m).loop.inv.follows, word_in (held-loop (goal.at.overflow_add-i-then-m-eq-STRUCT_MARK-2 c).After-mark_at-m).loop.inv)
+overflow_add-i-then-m-eq-STRUCT_MARK-2 c = omega (arith, small c.loop-lines.invariant.follows, word_in c.loop-lines.invariant)
 
 pub bounds-s-i : goal.bounds-s-i
-bounds-s-i c = let f = (held-loop (goal.at.bounds-s-i c).After-mark_at-m).loop.inv in
+bounds-s-i c = let f = c.loop-lines.invariant in
     omega (arith, word_in f, f.follows.beyond, c.if-extra-most.false)
 
 pub returns-then-c-eq0 : goal.returns-then-c-eq0
-returns-then-c-eq0 c = λ o. own-some (holder (wide-mark (goal.at.returns-then-c-eq0 c).After-wide-c) o) (wide-struct (goal.at.returns-then-c-eq0 c).After-wide-c) c.wide-c.ensures.0 c.if-c-eq0.true
+returns-then-c-eq0 c = λ o. own-some (holder (goal.at.returns-then-c-eq0 c).After-mark_at-m o) c.if-m-eq-STRUCT_MARK.true c.wide-c.ensures.0 c.if-c-eq0.true
 
 pub returns-then-c-gt128 : goal.returns-then-c-gt128
 returns-then-c-gt128 c = λ o.
-    let e = (goal.at.returns-then-c-gt128 c).After-wide-c in
-    let r = own-few (holder (wide-mark e) o) (wide-struct e) e.wide2.ensures.0 in
+    let r = own-few (holder (goal.at.returns-then-c-gt128 c).After-mark_at-m o) c.if-m-eq-STRUCT_MARK.true c.wide-c.ensures.0 in
     omega (arith, r, c.if-c-gt128.true)
 
 pub overflow_mul-c : goal.overflow_mul-c
@@ -291,102 +238,95 @@ overflow_add-c c = omega (arith, c.if-c-gt128.false)
 
 pub returns-then-w-c : goal.returns-then-w-c
 returns-then-w-c c = λ o.
-    let e = (goal.at.returns-then-w-c c).After-wide-c in
-    c.if-w-c.true (mask_is (held_word (wide-mark e)).wrapping-sub-u64.result 54 ∙ own-entry (holder (wide-mark e) o) (wide-struct e) e.wide2.ensures.0)
+    c.if-w-c.true (mask_is c.wrapping_sub_u64-w.result 54 ∙ own-entry (holder (goal.at.returns-then-w-c c).After-mark_at-m o) c.if-m-eq-STRUCT_MARK.true c.wide-c.ensures.0)
 
 pub returns-then-left-c : goal.returns-then-left-c
 returns-then-left-c c = λ o.
-    let e = (goal.at.returns-then-left-c c).After-wide-c in
-    let r = own-left (holder (wide-mark e) o) (wide-struct e) e.wide2.ensures.0 (held-loop (wide-mark e)).loop.inv.follows.asked in
+    let r = own-left (holder (goal.at.returns-then-left-c c).After-mark_at-m o) c.if-m-eq-STRUCT_MARK.true c.wide-c.ensures.0 c.loop-lines.invariant.follows.asked in
     omega (arith, r, c.if-left-c.true)
 
 pub overflow_sub-left-then-m-eq-STRUCT_MARK : goal.overflow_sub-left-then-m-eq-STRUCT_MARK
 overflow_sub-left-then-m-eq-STRUCT_MARK c = omega (arith, c.if-left-c.false)
 
 pub overflow_add-extra : goal.overflow_add-extra
-overflow_add-extra c = omega (arith, small (at-struct (goal.at.overflow_add-extra c).Else-left-c).loop.invariant.follows, word_in (at-struct (goal.at.overflow_add-extra c).Else-left-c).loop.invariant)
+overflow_add-extra c = omega (arith, small c.loop-lines.invariant.follows, word_in c.loop-lines.invariant)
 
 pub overflow_add-d : goal.overflow_add-d
-overflow_add-d c = omega (arith, small (at-struct (goal.at.overflow_add-d c).Else-left-c).loop.invariant.follows, word_in (at-struct (goal.at.overflow_add-d c).Else-left-c).loop.invariant)
+overflow_add-d c = omega (arith, small c.loop-lines.invariant.follows, word_in c.loop-lines.invariant)
 
 pub overflow_mul-frames : goal.overflow_mul-frames
-overflow_mul-frames c = omega (arith, small (at-struct (goal.at.overflow_mul-frames c).Else-left-c).loop.invariant.follows, word_in (at-struct (goal.at.overflow_mul-frames c).Else-left-c).loop.invariant)
+overflow_mul-frames c = omega (arith, small c.loop-lines.invariant.follows, word_in c.loop-lines.invariant)
 
 pub overflow_sub-frames : goal.overflow_sub-frames
-overflow_sub-frames c = (at-struct (goal.at.overflow_sub-frames c).Else-left-c).loop.invariant.some
+overflow_sub-frames c = c.loop-lines.invariant.some
 
 pub overflow_add-frames : goal.overflow_add-frames
-overflow_add-frames c = omega (arith, small (at-struct (goal.at.overflow_add-frames c).Else-left-c).loop.invariant.follows, word_in (at-struct (goal.at.overflow_add-frames c).Else-left-c).loop.invariant)
+overflow_add-frames c = omega (arith, small c.loop-lines.invariant.follows, word_in c.loop-lines.invariant)
 
 pub offset_bounds-frames-d-then-m-eq-STRUCT_MARK : goal.offset_bounds-frames-d-then-m-eq-STRUCT_MARK
-offset_bounds-frames-d-then-m-eq-STRUCT_MARK c = omega (arith, small (at-struct (goal.at.offset_bounds-frames-d-then-m-eq-STRUCT_MARK c).Else-left-c).loop.invariant.follows, word_in (at-struct (goal.at.offset_bounds-frames-d-then-m-eq-STRUCT_MARK c).Else-left-c).loop.invariant)
+offset_bounds-frames-d-then-m-eq-STRUCT_MARK c = omega (arith, small c.loop-lines.invariant.follows, word_in c.loop-lines.invariant)
 
 pub bounds-frames-d-then-m-eq-STRUCT_MARK : goal.bounds-frames-d-then-m-eq-STRUCT_MARK
-bounds-frames-d-then-m-eq-STRUCT_MARK c = omega (arith, small (at-struct (goal.at.bounds-frames-d-then-m-eq-STRUCT_MARK c).Else-left-c).loop.invariant.follows, (wide-mark (goal.at.bounds-frames-d-then-m-eq-STRUCT_MARK c).After-wide-c).before.if14.left)
+bounds-frames-d-then-m-eq-STRUCT_MARK c = omega (arith, small c.loop-lines.invariant.follows, c.if-d-eq6.false)
 
 pub overflow_add-i-then-m-eq-STRUCT_MARK-3 : goal.overflow_add-i-then-m-eq-STRUCT_MARK-3
-overflow_add-i-then-m-eq-STRUCT_MARK-3 c = omega (arith, small (at-struct (goal.at.overflow_add-i-then-m-eq-STRUCT_MARK-3 c).Else-left-c).loop.invariant.follows, word_in (at-struct (goal.at.overflow_add-i-then-m-eq-STRUCT_MARK-3 c).Else-left-c).loop.invariant)
+overflow_add-i-then-m-eq-STRUCT_MARK-3 c = omega (arith, small c.loop-lines.invariant.follows, word_in c.loop-lines.invariant)
 
 pub overflow_add-base-then-m-eq-STRUCT_MARK : goal.overflow_add-base-then-m-eq-STRUCT_MARK
-overflow_add-base-then-m-eq-STRUCT_MARK c = omega (arith, small (at-struct (goal.at.overflow_add-base-then-m-eq-STRUCT_MARK c).Else-left-c).loop.invariant.follows, word_in (at-struct (goal.at.overflow_add-base-then-m-eq-STRUCT_MARK c).Else-left-c).loop.invariant)
+overflow_add-base-then-m-eq-STRUCT_MARK c = omega (arith, small c.loop-lines.invariant.follows, word_in c.loop-lines.invariant)
 
 pub loop-lines-smaller-then-m-eq-STRUCT_MARK : goal.loop-lines-smaller-then-m-eq-STRUCT_MARK
-loop-lines-smaller-then-m-eq-STRUCT_MARK c = omega (arith, word_in (at-struct (goal.at.loop-lines-smaller-then-m-eq-STRUCT_MARK c).Else-left-c).loop.invariant)
+loop-lines-smaller-then-m-eq-STRUCT_MARK c = omega (arith, word_in c.loop-lines.invariant)
 
 pub loop-lines-preserved-then-m-eq-STRUCT_MARK : goal.loop-lines-preserved-then-m-eq-STRUCT_MARK
-loop-lines-preserved-then-m-eq-STRUCT_MARK c = let e = (goal.at.loop-lines-preserved-then-m-eq-STRUCT_MARK c).After-wide-c in
-    follow-struct (takes (held_word (wide-mark e))) (wide-mark e).mark-at3.ensures (wide-mark e).before.if14.false (omega (arith, c.if-left-c.false))
-    c.if-c-eq0.false (wide-struct e) e.before.before.if16.false e.wide2.ensures.0 c.if-c-gt128.false
-    (sym (mask_is (held_word (wide-mark e)).wrapping-sub-u64.result 54) ∙ c.if-w-c.false)
+loop-lines-preserved-then-m-eq-STRUCT_MARK c = follow-struct (takes (goal.at.loop-lines-preserved-then-m-eq-STRUCT_MARK c).After-wrapping_sub_u64-w) c.mark_at-m.ensures c.if-d-eq6.false (omega (arith, c.if-left-c.false))
+    c.if-c-eq0.false c.if-m-eq-STRUCT_MARK.true c.if-extra-most.false c.wide-c.ensures.0 c.if-c-gt128.false
+    (sym (mask_is c.wrapping_sub_u64-w.result 54) ∙ c.if-w-c.false)
 
 pub returns-then-m-w : goal.returns-then-m-w
 returns-then-m-w c = λ o.
-    let e = held_word (goal.at.returns-then-m-w c).After-mark_at-m in
-    c.if-m-w.true (own-mark (takes e) c.mark_at-m.ensures o ∙ sym (mask_is e.wrapping-sub-u64.result 16))
+    c.if-m-w.true (own-mark (takes (goal.at.returns-then-m-w c).After-wrapping_sub_u64-w) c.mark_at-m.ensures o ∙ sym (mask_is c.wrapping_sub_u64-w.result 16))
 
 pub returns-then-c-eq0-2 : goal.returns-then-c-eq0-2
 returns-then-c-eq0-2 c = λ o.
-    let e = (goal.at.returns-then-c-eq0-2 c).After-mark_at-m in
-    other-some (holder e o) c.if-m-eq-STRUCT_MARK.false c.held_by-c.ensures c.if-c-eq0-2.true
+    other-some (holder (goal.at.returns-then-c-eq0-2 c).After-mark_at-m o) c.if-m-eq-STRUCT_MARK.false c.held_by-c.ensures c.if-c-eq0-2.true
 
 pub returns-then-left-c-2 : goal.returns-then-left-c-2
 returns-then-left-c-2 c = λ o.
-    let e = (goal.at.returns-then-left-c-2 c).After-mark_at-m in
-    let f = (held-loop e).loop.invariant.follows in
-    let r = other-left (holder e o) c.if-m-eq-STRUCT_MARK.false c.held_by-c.ensures f.asked in
+    let f = c.loop-lines.invariant.follows in
+    let r = other-left (holder (goal.at.returns-then-left-c-2 c).After-mark_at-m o) c.if-m-eq-STRUCT_MARK.false c.held_by-c.ensures f.asked in
     omega (arith, r, c.if-left-c-2.true)
 
 pub overflow_sub-left-in-loop-lines : goal.overflow_sub-left-in-loop-lines
 overflow_sub-left-in-loop-lines c = omega (arith, c.if-left-c-2.false)
 
 pub overflow_add-d-in-loop-lines : goal.overflow_add-d-in-loop-lines
-overflow_add-d-in-loop-lines c = omega (arith, small (at_other (goal.at.overflow_add-d-in-loop-lines c).Else-left-c-2).loop.invariant.follows, word_in (at_other (goal.at.overflow_add-d-in-loop-lines c).Else-left-c-2).loop.invariant)
+overflow_add-d-in-loop-lines c = omega (arith, small c.loop-lines.invariant.follows, word_in c.loop-lines.invariant)
 
 pub overflow_mul-frames-in-loop-lines : goal.overflow_mul-frames-in-loop-lines
-overflow_mul-frames-in-loop-lines c = omega (arith, small (at_other (goal.at.overflow_mul-frames-in-loop-lines c).Else-left-c-2).loop.invariant.follows, word_in (at_other (goal.at.overflow_mul-frames-in-loop-lines c).Else-left-c-2).loop.invariant)
+overflow_mul-frames-in-loop-lines c = omega (arith, small c.loop-lines.invariant.follows, word_in c.loop-lines.invariant)
 
 pub overflow_sub-frames-in-loop-lines : goal.overflow_sub-frames-in-loop-lines
-overflow_sub-frames-in-loop-lines c = (at_other (goal.at.overflow_sub-frames-in-loop-lines c).Else-left-c-2).loop.invariant.some
+overflow_sub-frames-in-loop-lines c = c.loop-lines.invariant.some
 
 pub overflow_add-frames-in-loop-lines : goal.overflow_add-frames-in-loop-lines
-overflow_add-frames-in-loop-lines c = omega (arith, small (at_other (goal.at.overflow_add-frames-in-loop-lines c).Else-left-c-2).loop.invariant.follows, word_in (at_other (goal.at.overflow_add-frames-in-loop-lines c).Else-left-c-2).loop.invariant)
+overflow_add-frames-in-loop-lines c = omega (arith, small c.loop-lines.invariant.follows, word_in c.loop-lines.invariant)
 
 pub offset_bounds-frames-d-in-loop-lines : goal.offset_bounds-frames-d-in-loop-lines
-offset_bounds-frames-d-in-loop-lines c = omega (arith, small (at_other (goal.at.offset_bounds-frames-d-in-loop-lines c).Else-left-c-2).loop.invariant.follows, word_in (at_other (goal.at.offset_bounds-frames-d-in-loop-lines c).Else-left-c-2).loop.invariant)
+offset_bounds-frames-d-in-loop-lines c = omega (arith, small c.loop-lines.invariant.follows, word_in c.loop-lines.invariant)
 
 pub bounds-frames-d-in-loop-lines : goal.bounds-frames-d-in-loop-lines
-bounds-frames-d-in-loop-lines c = omega (arith, small (at_other (goal.at.bounds-frames-d-in-loop-lines c).Else-left-c-2).loop.invariant.follows, c.if-d-eq6.false)
+bounds-frames-d-in-loop-lines c = omega (arith, small c.loop-lines.invariant.follows, c.if-d-eq6.false)
 
 pub overflow_add-i-in-loop-lines-2 : goal.overflow_add-i-in-loop-lines-2
-overflow_add-i-in-loop-lines-2 c = omega (arith, small (at_other (goal.at.overflow_add-i-in-loop-lines-2 c).Else-left-c-2).loop.invariant.follows, word_in (at_other (goal.at.overflow_add-i-in-loop-lines-2 c).Else-left-c-2).loop.invariant)
+overflow_add-i-in-loop-lines-2 c = omega (arith, small c.loop-lines.invariant.follows, word_in c.loop-lines.invariant)
 
 pub overflow_add-base-in-loop-lines : goal.overflow_add-base-in-loop-lines
-overflow_add-base-in-loop-lines c = omega (arith, small (at_other (goal.at.overflow_add-base-in-loop-lines c).Else-left-c-2).loop.invariant.follows, word_in (at_other (goal.at.overflow_add-base-in-loop-lines c).Else-left-c-2).loop.invariant)
+overflow_add-base-in-loop-lines c = omega (arith, small c.loop-lines.invariant.follows, word_in c.loop-lines.invariant)
 
 pub loop-lines-smaller : goal.loop-lines-smaller
-loop-lines-smaller c = omega (arith, word_in (at_other (goal.at.loop-lines-smaller c).Else-left-c-2).loop.invariant)
+loop-lines-smaller c = omega (arith, word_in c.loop-lines.invariant)
 
 pub loop-lines-preserved : goal.loop-lines-preserved
-loop-lines-preserved c = let e = (goal.at.loop-lines-preserved c).After-mark_at-m in
-    follow-other (takes (held_word e)) e.mark-at3.ensures e.before.if14.false (omega (arith, c.if-left-c-2.false)) c.if-c-eq0-2.false
-    (c.if-m-w.false ∙ mask_is (held_word e).wrapping-sub-u64.result 16) c.held_by-c.ensures
+loop-lines-preserved c = follow-other (takes (goal.at.loop-lines-preserved c).After-wrapping_sub_u64-w) c.mark_at-m.ensures c.if-d-eq6.false (omega (arith, c.if-left-c-2.false)) c.if-c-eq0-2.false
+    (c.if-m-w.false ∙ mask_is c.wrapping_sub_u64-w.result 16) c.held_by-c.ensures

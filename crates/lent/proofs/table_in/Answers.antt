@@ -10,9 +10,7 @@ pub returns-then-out-n : goal.returns-then-out-n
 returns-then-out-n c = table-short c.build-n.ensures c.if-n-eq0.false _ c.if-out-n.true
 
 pub copy_words-requires : goal.copy_words-requires
-copy_words-requires c = ((got c.before.before.before.before.before.before.build.ensures c.before.before.before.if1.false).room, c.before.before.if2.false)
+copy_words-requires c = ((got c.build-n.ensures c.if-n-eq0.false).room, c.if-out-n.false)
 
 pub returns : goal.returns
-returns c = let b = c.before.before.before.before.before.before.before.before.before.build in
-    let left = (goal.at.returns c).Else-n-eq0 in
-    table_fits b.ensures left.before.if1.false left.if2.false c.copy_words.ensures
+returns c = table_fits c.build-n.ensures c.if-n-eq0.false c.if-out-n.false c.copy_words.ensures

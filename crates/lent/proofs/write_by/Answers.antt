@@ -13,4 +13,4 @@ write-requires c = let g = c.gives in own-table (owned _ _ g.result g.ensures c.
 pub returns : goal.returns
 returns c = let g = c.gives in
     write-own (owned _ _ g.result g.ensures c.if-not-gives.false-raw)
-    (record { answers = c.write.ensures.0; leaves = c.write.ensures.1 })
+    (record { answers = c.write.ensures.answer; leaves = c.write.ensures.bytes })

@@ -1,10 +1,9 @@
 -- `listing::list_leaves` meets its contract: `AtItem` is its invariant. Assumes nothing.
-use mathlib.Core.Logic.{⊎_elim}
-use Prim.Native.Nat.{◌-◌}
 use Rattle.listing.proofs.Children.{items-head, item-seat, item-null-room, item-more, item_on, item-less}
 use Rattle.listing.proofs.Children.{items-null, items-own, items_kept, items-end}
 use Rattle.listing.proofs.Items.{leaves-few, leaves-first, leaves-start, leaves-leaf}
 use Rattle.listing.proofs.list_leaves.Goals as goal
+use Rattle.listing.proofs.list_leaves.Goals.{then-is_null, else-is_null}
 
 pub get8-n-requires : goal.get8-n-requires
 get8-n-requires c = search items-head
@@ -37,12 +36,14 @@ pub loop-i-smaller : goal.loop-i-smaller
 loop-i-smaller c = search item-less
 
 pub loop-i-preserved : goal.loop-i-preserved
-loop-i-preserved c = let i = c.loop-i.invariant in
+loop-i-preserved c =
+    let i = c.loop-i.invariant in
     let l = c.loop-i-test.true in
     let e = c.is_null.ensures in
-    ⊎_elim (λ w. (i.0, items-null i.1 l e w.5 w.6 w.0.taken w.2.ensures))
-    (λ w. (i.0, items-own i.1 l e w.5 w.6 w.0.left w.2.ensures))
-    c.if-is_null.branch
+    elim c.if-is_null.branch [
+      | then-is_null w ↦ (i.0, items-null i.1 l e w.out-is w.p-is w.if-is_null.true w.put_null-p.ensures)
+      | else-is_null w ↦ (i.0, items-own i.1 l e w.out-is w.p-is w.if-is_null.false w.put_leaf-p.ensures)
+    ]
 
 pub shape_of-out : goal.shape_of-out
 shape_of-out c = search items_kept

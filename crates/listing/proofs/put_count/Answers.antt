@@ -8,13 +8,10 @@ use Rattle.schema.proofs.Table.{mark-two}
 use Rattle.listing.proofs.put_count.Goals as goal
 
 pub overflow_add-end : goal.overflow_add-end
-overflow_add-end c = let e = (goal.at.overflow_add-end c).After-put_mark-at in omega (arith, e.put-mark.ensures.past, mark-two (place_in e.before.before.before.args.w))
+overflow_add-end c = omega (arith, c.put_mark-at.ensures.past, mark-two (place_in c.args.w))
 
 pub returns-then-out-end : goal.returns-then-out-end
-returns-then-out-end c = let e = (goal.at.returns-then-out-end c).After-put_mark-at in
-    and_then e.put-mark.ensures (wrote_none _ _ _ _ _ (length-le 4 e.before.before.before.args.n) refl c.if-out-end.true)
+returns-then-out-end c = and_then c.put_mark-at.ensures (wrote_none _ _ _ _ _ (length-le 4 c.args.n) refl c.if-out-end.true)
 
 pub returns : goal.returns
-returns c = let e = (goal.at.returns c).After-put4 in
-    let f = e.before.before.before.before.before in
-    and_then f.put-mark.ensures (wrote-run _ _ _ _ _ _ (length-le 4 f.before.before.before.args.n) refl e.put4.ensures)
+returns c = and_then c.put_mark-at.ensures (wrote-run _ _ _ _ _ _ (length-le 4 c.args.n) refl c.put4.ensures)

@@ -10,7 +10,5 @@ pub returns-then-out-end : goal.returns-then-out-end
 returns-then-out-end c = wrote_none _ _ _ 2 _ (mark-two (place_in c.args.w)) refl c.if-out-end.true
 
 pub returns : goal.returns
-returns c = let e = (goal.at.returns c).After-put2 in
-    let f = e.before.before.before.before.before in
-    wrote-run _ _ _ _ 2 _ (mark-two (place_in f.args.w)) refl
-    (e.put2.ensures ∙ ap (sets f.args.out.now f.args.pos) (entry-mark f.requires.0 e.before.mark.ensures))
+returns c = wrote-run _ _ _ _ 2 _ (mark-two (place_in c.args.w)) refl
+    (c.put2.ensures ∙ ap (sets c.args.out.now c.args.pos) (entry-mark c.requires.0 c.mark.ensures))

@@ -7,11 +7,7 @@ pub returns-then-out-end : goal.returns-then-out-end
 returns-then-out-end c = text-none c.requires _ c.if-out-end.true
 
 pub copy-requires : goal.copy-requires
-copy-requires c = let e = (goal.at.copy-requires c).After-put_count-p in
-    let f = e.before.before in
-    (text-fits f.before.before.before.requires e.put_count.ensures f.if1.false, omega arith)
+copy-requires c = (text-fits c.requires c.put_count-p.ensures c.if-out-end.false, omega arith)
 
 pub returns : goal.returns
-returns c = let e = (goal.at.returns c).After-copy in
-    let f = e.before.before.before.before in
-    text-run f.before.before.before.before.before.requires f.put_count.ensures e.copy.ensures
+returns c = text-run c.requires c.put_count-p.ensures c.copy.ensures

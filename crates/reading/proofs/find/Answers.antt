@@ -13,10 +13,10 @@ open-opened-requires c = root_stands c.requires.table
 pub along-requires : goal.along-requires
 along-requires c = let a = c.args in
     let pre = c.requires in
-    root-asks a.path pre c.if-n-gt16.false c.«open».ensures
+    root-asks a.path pre c.if-n-gt16.false c.open-opened.ensures
 
 pub returns : goal.returns
 returns c = let a = c.args in
     let pre = c.requires in
     let if1 = c.if-n-gt16 in
-    root-finds a.path pre if1.false c.before.«open».ensures c.along.ensures
+    root-finds a.path pre if1.false c.open-opened.ensures c.along.ensures

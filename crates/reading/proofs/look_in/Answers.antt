@@ -8,30 +8,29 @@ find-requires c = c.requires
 pub answer-requires : goal.answer-requires
 answer-requires c = let pre = c.requires in
     let find = c.find in
-    found-shows pre find.ensures c.p-1.given.1
+    found-shows pre find.ensures c.in-At.is
 
 pub returns-in-NoPlace : goal.returns-in-NoPlace
 returns-in-NoPlace c = let pre = c.requires in
     let find = c.find in
-    read-nowhere pre find.ensures c.enum_told-1.given.1
+    read-nowhere pre find.ensures c.in-NoPlace.is
 
 pub returns-in-NullBefore : goal.returns-in-NullBefore
 returns-in-NullBefore c = let pre = c.requires in
     let find = c.find in
-    read_under pre find.ensures c.enum_told-in-NullBefore-1.given.1
+    read_under pre find.ensures c.in-NullBefore.is
 
 pub returns-in-Broken : goal.returns-in-Broken
 returns-in-Broken c = let pre = c.requires in
     let find = c.find in
-    read-broken pre find.ensures c.place-1.given.1
+    read-broken pre find.ensures c.in-Broken.is
 
 pub returns-in-Null : goal.returns-in-Null
 returns-in-Null c = let pre = c.requires in
     let find = c.find in
-    read-null pre find.ensures c.enum_told-in-Null-1.given.1
+    read-null pre find.ensures c.in-Null.is
 
 pub returns-in-At : goal.returns-in-At
 returns-in-At c = let pre = c.requires in
     let find = c.find in
-    let p = c.p-1 in
-    read_at pre find.ensures p.given.1 c.answer.ensures
+    read_at pre find.ensures c.in-At.is c.answer.ensures

@@ -10,10 +10,10 @@ pub slice_bounds-check-end : goal.slice_bounds-check-end
 slice_bounds-check-end c = (got c.build-n.ensures c.if-n-eq0.false).room
 
 pub slice_bounds-check-end-2 : goal.slice_bounds-check-end-2
-slice_bounds-check-end-2 c = (got c.before.before.before.before.build.ensures c.before.if1.false).size
+slice_bounds-check-end-2 c = (got c.build-n.ensures c.if-n-eq0.false).size
 
 pub check-requires : goal.check-requires
-check-requires c = (got c.before.before.before.before.build.ensures c.before.if1.false).table
+check-requires c = (got c.build-n.ensures c.if-n-eq0.false).table
 
 pub returns : goal.returns
 returns c = search (check-by, got)

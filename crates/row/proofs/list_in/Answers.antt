@@ -10,10 +10,10 @@ pub slice_bounds-list-end : goal.slice_bounds-list-end
 slice_bounds-list-end c = (got c.build-n.ensures c.if-n-eq0.false).room
 
 pub slice_bounds-list-end-2 : goal.slice_bounds-list-end-2
-slice_bounds-list-end-2 c = (got c.before.before.before.before.build.ensures c.before.if1.false).size
+slice_bounds-list-end-2 c = (got c.build-n.ensures c.if-n-eq0.false).size
 
 pub list-requires : goal.list-requires
-list-requires c = (got c.before.before.before.before.before.build.ensures c.before.before.if1.false).table
+list-requires c = (got c.build-n.ensures c.if-n-eq0.false).table
 
 pub returns : goal.returns
 returns c = search (list-by, got)

@@ -10,10 +10,10 @@ pub slice_bounds-read-end : goal.slice_bounds-read-end
 slice_bounds-read-end c = (got c.build-n.ensures c.if-n-eq0.false).room
 
 pub slice_bounds-read-end-2 : goal.slice_bounds-read-end-2
-slice_bounds-read-end-2 c = (got c.before.before.before.before.build.ensures c.before.if1.false).size
+slice_bounds-read-end-2 c = (got c.build-n.ensures c.if-n-eq0.false).size
 
 pub read-requires : goal.read-requires
-read-requires c = (got c.before.before.before.before.build.ensures c.before.if1.false).table
+read-requires c = (got c.build-n.ensures c.if-n-eq0.false).table
 
 pub returns : goal.returns
 returns c = search (read_by, got)

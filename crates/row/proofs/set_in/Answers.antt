@@ -11,10 +11,10 @@ pub slice_bounds-set-end : goal.slice_bounds-set-end
 slice_bounds-set-end c = (got c.build-n.ensures c.if-n-eq0.false).room
 
 pub slice_bounds-set-end-2 : goal.slice_bounds-set-end-2
-slice_bounds-set-end-2 c = (got c.before.before.before.before.build.ensures c.before.if1.false).size
+slice_bounds-set-end-2 c = (got c.build-n.ensures c.if-n-eq0.false).size
 
 pub set-requires : goal.set-requires
-set-requires c = (got c.before.before.before.before.before.build.ensures c.before.before.if1.false).table
+set-requires c = (got c.build-n.ensures c.if-n-eq0.false).table
 
 pub returns : goal.returns
 returns c = search (set-by, got)

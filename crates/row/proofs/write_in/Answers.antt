@@ -10,15 +10,15 @@ pub slice_bounds-write-end : goal.slice_bounds-write-end
 slice_bounds-write-end c = (got c.build-n.ensures c.if-n-eq0.false).room
 
 pub slice_bounds-write-end-2 : goal.slice_bounds-write-end-2
-slice_bounds-write-end-2 c = (got c.before.before.before.before.build.ensures c.before.if1.false).size
+slice_bounds-write-end-2 c = (got c.build-n.ensures c.if-n-eq0.false).size
 
 pub write-requires : goal.write-requires
-write-requires c = (got c.before.before.before.before.before.build.ensures c.before.before.if1.false).table
+write-requires c = (got c.build-n.ensures c.if-n-eq0.false).table
 
 pub returns : goal.returns
-returns c = write-by (got c.before.before.before.before.before.before.before.before.build.ensures
-    c.before.before.before.before.before.if1.false) (record {
-      answers = c.write.ensures.0;
+returns c = write-by (got c.build-n.ensures
+    c.if-n-eq0.false) (record {
+      answers = c.write.ensures.answer;
       leaves =
-          c.write.ensures.1;
+          c.write.ensures.bytes;
     })

@@ -4,48 +4,30 @@ use Rattle.setting.proofs.Settled.{checked-open, null-there, place-there, set-no
 use Rattle.setting.proofs.set_in.Goals as goal
 
 pub find-requires : goal.find-requires
-find-requires c = checked-open c.before.before.before.before.requires
+find-requires c = checked-open c.requires
 
 pub set_null-requires : goal.set_null-requires
-set_null-requires c = let e = (goal.at.set_null-requires c).In-Null-2 in
-    let f = e.before.before in
-    null-there f.before.before.before.before.before.requires f.find.ensures e.x.given.1
+set_null-requires c = null-there c.requires c.find.ensures c.in-Null.is
 
 pub set_place-requires : goal.set_place-requires
-set_place-requires c = let e = (goal.at.set_place-requires c).In-At-2 in
-    let f = e.before.before in
-    place-there f.before.before.before.before.before.requires f.find.ensures e.p.given.1
+set_place-requires c = place-there c.requires c.find.ensures c.in-At.is
 
 pub returns-in-NoPlace : goal.returns-in-NoPlace
-returns-in-NoPlace c = let e = (goal.at.returns-in-NoPlace c).After-find in
-    let f = e.before.before.before.before.before in
-    let a = f.args in
-    set-nowhere f.requires e.find.ensures (given_means a.g a.bytes.now) c.enum_told-1.given.1
+returns-in-NoPlace c = let a = c.args in
+    set-nowhere c.requires c.find.ensures (given_means a.g a.bytes.now) c.in-NoPlace.is
 
 pub returns-in-NullBefore : goal.returns-in-NullBefore
-returns-in-NullBefore c = let e = (goal.at.returns-in-NullBefore c).After-find in
-    let f = e.before.before.before.before.before in
-    let a = f.args in
-    set-under f.requires e.find.ensures (given_means a.g a.bytes.now) c.enum_told-in-NullBefore-1.given.1
+returns-in-NullBefore c = let a = c.args in
+    set-under c.requires c.find.ensures (given_means a.g a.bytes.now) c.in-NullBefore.is
 
 pub returns-in-Broken : goal.returns-in-Broken
-returns-in-Broken c = let e = (goal.at.returns-in-Broken c).After-find in
-    let f = e.before.before.before.before.before in
-    let a = f.args in
-    set-broken f.requires e.find.ensures (given_means a.g a.bytes.now) c.place-1.given.1
+returns-in-Broken c = let a = c.args in
+    set-broken c.requires c.find.ensures (given_means a.g a.bytes.now) c.in-Broken.is
 
 pub returns-in-Null : goal.returns-in-Null
-returns-in-Null c = let e = (goal.at.returns-in-Null c).After-set_null in
-    let f = e.before.before.before in
-    let g = f.before.before in
-    let h = g.before.before.before.before.before in
-    let a = h.args in
-    set-at-null h.requires g.find.ensures f.x.given.1 (given_means a.g a.bytes.now) e.set-null.ensures
+returns-in-Null c = let a = c.args in
+    set-at-null c.requires c.find.ensures c.in-Null.is (given_means a.g a.bytes.now) c.set_null.ensures
 
 pub returns-in-At : goal.returns-in-At
-returns-in-At c = let e = (goal.at.returns-in-At c).After-set_place in
-    let f = e.before.before.before in
-    let g = f.before.before in
-    let h = g.before.before.before.before.before in
-    let a = h.args in
-    set-at-place h.requires g.find.ensures f.p.given.1 (given_means a.g a.bytes.now) e.set-place.ensures
+returns-in-At c = let a = c.args in
+    set-at-place c.requires c.find.ensures c.in-At.is (given_means a.g a.bytes.now) c.set_place.ensures

@@ -11,7 +11,7 @@ pub bounds-t-0 : goal.bounds-t-0
 bounds-t-0 c = let y = judged-some _ _ _ c.judge.ensures c.if-judge-eq0.false in omega (arith, y.lies.size)
 
 pub overflow_cast-t : goal.overflow_cast-t
-overflow_cast-t c = let f = (c.shared_slice_known-2-1.given 0).fits in search rules
+overflow_cast-t c = let f = (c.type_inv.t 0).fits in search rules
 
 pub returns-then-t-k : goal.returns-then-t-k
 returns-then-t-k c = ungiven (judged-some _ _ _ c.judge.ensures c.if-judge-eq0.false) c.if-t-k.true
@@ -21,16 +21,16 @@ start_of-at-requires c = before-short (judged-some _ _ _ c.judge.ensures c.if-ju
 
 pub overflow_add-start : goal.overflow_add-start
 overflow_add-start c = let y = judged-some _ _ _ c.judge.ensures c.if-judge-eq0.false in
-    omega (arith, lies_at y c.if-t-k.false c.start_of_lem.ensures)
+    omega (arith, lies_at y c.if-t-k.false c.start_of-at.ensures)
 
 pub get2-requires : goal.get2-requires
 get2-requires c = let y = judged-some _ _ _ c.judge.ensures c.if-judge-eq0.false in
-    omega (arith, lies_at y c.if-t-k.false c.start_of_lem.ensures, y.lies.size)
+    omega (arith, lies_at y c.if-t-k.false c.start_of-at.ensures, y.lies.size)
 
 pub overflow_add-result : goal.overflow_add-result
 overflow_add-result c = let y = judged-some _ _ _ c.judge.ensures c.if-judge-eq0.false in
-    omega (arith, (found_at y c.if-t-k.false c.before.start_of_lem.ensures c.get2.ensures).within, y.lies.size)
+    omega (arith, (found_at y c.if-t-k.false c.start_of-at.ensures c.get2.ensures).within, y.lies.size)
 
 pub returns : goal.returns
 returns c = let y = judged-some _ _ _ c.judge.ensures c.if-judge-eq0.false in
-    found_at y c.if-t-k.false c.before.start_of_lem.ensures c.get2.ensures
+    found_at y c.if-t-k.false c.start_of-at.ensures c.get2.ensures

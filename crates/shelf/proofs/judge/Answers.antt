@@ -11,7 +11,7 @@ pub returns-then-t-ne-SIZE : goal.returns-then-t-ne-SIZE
 returns-then-t-ne-SIZE c = wrong_size _ c.if-t-ne-SIZE.true
 
 pub overflow_cast-count : goal.overflow_cast-count
-overflow_cast-count c = let f = (c.shared_slice_known-2-1.given 0).fits in search rules
+overflow_cast-count c = let f = (c.type_inv.t 0).fits in search rules
 
 pub returns-then-count-gt-MOST : goal.returns-then-count-gt-MOST
 returns-then-count-gt-MOST c = too_many _ c.if-t-ne-SIZE.false c.if-count-gt-MOST.true
@@ -45,18 +45,16 @@ pub stands_but-requires : goal.stands_but-requires
 stands_but-requires c = seen-short c.loop-i.invariant.0
 
 pub returns-then-not-stands_but : goal.returns-then-not-stands_but
-returns-then-not-stands_but c = let g = (goal.at.returns-then-not-stands_but c).After-get2-n in
-    let l = g.before.before.loop in
-    broken-rules l.invariant.0 g.get2.ensures.is (omega (arith, l.invariant.1)) c.stands_but.ensures (not-true _ c.if-not-stands_but.true-raw)
+returns-then-not-stands_but c = let l = c.loop-i in
+    broken-rules l.invariant.0 c.get2-n.ensures.is (omega (arith, l.invariant.1)) c.stands_but.ensures (not-true _ c.if-not-stands_but.true-raw)
 
 pub overflow_add-i : goal.overflow_add-i
 overflow_add-i c = let l = c.loop-i in omega (arith, l.invariant.0.few, l.invariant.0.ahead)
 
 pub loop-i-preserved : goal.loop-i-preserved
-loop-i-preserved c = let g = (goal.at.loop-i-preserved c).After-get2-n in
-    let l = g.before.before.loop in
+loop-i-preserved c = let l = c.loop-i in
     let s = c.stands_but.ensures in
-    (seen_next l.invariant.0 g.get2.ensures.is (omega (arith, l.invariant.1)) (omega arith) s (not-false _ c.if-not-stands_but.false-raw), l.invariant.1)
+    (seen_next l.invariant.0 c.get2-n.ensures.is (omega (arith, l.invariant.1)) (omega arith) s (not-false _ c.if-not-stands_but.false-raw), l.invariant.1)
 
 pub returns : goal.returns
 returns c = let l = c.loop-i in

@@ -20,12 +20,12 @@ returns-then-is_at c = let l = c.loop-i in
     number-here a.t.now a.s.now l.i l.at _ l.invariant.1 c.is_at.ensures l.invariant.2 c.if-is_at.true a.n (omega arith)
 
 pub get2-requires : goal.get2-requires
-get2-requires c = let l = (goal.at.get2-requires c).At-loop-i in
-    omega (arith, at_lies l.before.before.before.requires l.loop.i l.loop.at (omega arith) l.loop.invariant.1)
+get2-requires c = let l = c.loop-i in
+    omega (arith, at_lies c.requires l.i l.at (omega arith) l.invariant.1)
 
 pub overflow_add-at-in-loop-i : goal.overflow_add-at-in-loop-i
-overflow_add-at-in-loop-i c = let l = (goal.at.overflow_add-at-in-loop-i c).At-loop-i in
-    omega (arith, at_lies l.before.before.before.requires l.loop.i l.loop.at (omega arith) l.loop.invariant.1)
+overflow_add-at-in-loop-i c = let l = c.loop-i in
+    omega (arith, at_lies c.requires l.i l.at (omega arith) l.invariant.1)
 
 pub loop-i-preserved : goal.loop-i-preserved
 loop-i-preserved c = let l = c.loop-i in

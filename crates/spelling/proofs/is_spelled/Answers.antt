@@ -11,9 +11,8 @@ pub ascii8-requires : goal.ascii8-requires
 ascii8-requires c = omega (arith, leb-true)
 
 pub returns-then-ascii8 : goal.returns-then-ascii8
-returns-then-ascii8 c = let s = (goal.at.returns-then-ascii8 c).Start in
-    of-string c.if-k-ne-STRING.false
-    (by_word _ _ _ s.requires.1 c.if-end-at-le8.true (c.ascii8.ensures c.if-ascii8.true))
+returns-then-ascii8 c = of-string c.if-k-ne-STRING.false
+    (by_word _ _ _ c.requires.1 c.if-end-at-le8.true (c.ascii8.ensures c.if-ascii8.true))
 
 pub returns : goal.returns
 returns c = search (of-string, of-text)

@@ -6,4 +6,4 @@ pub returns-then-k-ne-STRING : goal.returns-then-k-ne-STRING
 returns-then-k-ne-STRING c = search of-binary
 
 pub returns : goal.returns
-returns c = of-string c.if-k-ne-STRING.false (c.is_short.ensures e)
+returns c e = of-string c.if-k-ne-STRING.false (c.is_short.ensures e)

@@ -2,11 +2,9 @@
 use mathlib.Core.Path.{refl}
 use Prim.Native.Nat.{◌-◌}
 use Rattle.standing.proofs.Passing.{slots-few, slots-long, slots-first, start_fits}
-use Rattle.standing.proofs.Tabled.{ FieldsPassed, FieldIs, fields-start, fields-all, field-stands, field-map, field-by, field-slot, field-asks, field-on, field-less, fields-fixed, fields-unfit, fields-next,
+use Rattle.standing.proofs.Tabled.{FieldsPassed, FieldIs, fields-start, fields-all, field-stands, field-map, field-by, field-slot, field-asks, field-on, field-less, fields-fixed, fields-unfit, fields-next}
 use Rattle.standing.proofs.unfit_field.Goals as goal
 use Rattle.standing.proofs.unfit_field.Goals.{After-place}
-
-}
 
 -- the field that the loop has come to
 here : (c : After-place) → FieldIs c.loop-i.invariant c.after-at.result c.place.result

@@ -2,10 +2,8 @@
 use mathlib.Core.Path.{refl}
 use mathlib.Core.Bool.{true}
 use Prim.Native.Nat.{◌-◌}
-use Rattle.standing.proofs.Passing.{ Passed, slots-few, slots-behind, slots-fit, slots-long, start_fits, passed_start, passed-all, passed-map, passed-by, passed-slot, passed_on, passed-less, passed-asks, passed-unfit, passed-next,
+use Rattle.standing.proofs.Passing.{Passed, slots-few, slots-behind, slots-fit, slots-long, start_fits, passed_start, passed-all, passed-map, passed-by, passed-slot, passed_on, passed-less, passed-asks, passed-unfit, passed-next}
 use Rattle.standing.proofs.unfit_item.Goals as goal
-
-}
 
 pub bitmap_size-slots-requires : goal.bitmap_size-slots-requires
 bitmap_size-slots-requires c = slots-few c.requires

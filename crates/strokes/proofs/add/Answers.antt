@@ -7,25 +7,25 @@ pub returns-then-room-used : goal.returns-then-room-used
 returns-then-room-used c = adds-long _ _ _ _ c.if-room-used.true
 
 pub slice_bounds-judge_log-end-2 : goal.slice_bounds-judge_log-end-2
-slice_bounds-judge_log-end-2 c = sym (length-take-le _ _ c.before.if1.false)
+slice_bounds-judge_log-end-2 c = sym (length-take-le _ _ c.if-room-used.false)
 
 pub returns-then-window-gt1000 : goal.returns-then-window-gt1000
-returns-then-window-gt1000 c = adds-wide _ _ _ _ c.before.before.before.before.before.before.if1.false
-    (sound-of c.last-1.given.1 c.judge_log.ensures).ends.sound c.if-window-gt1000.true
+returns-then-window-gt1000 c = adds-wide _ _ _ _ c.if-room-used.false
+    (sound-of c.in-Sound.is c.judge_log.ensures).ends.sound c.if-window-gt1000.true
 
 pub add_to-requires : goal.add_to-requires
 add_to-requires c = (
-  c.before.before.before.before.before.before.before.if1.false,
-  (sound-of c.last-1.given.1
+  c.if-room-used.false,
+  (sound-of c.in-Sound.is
       c.judge_log.ensures).ends,
 )
 
 pub returns-else-window-gt1000 : goal.returns-else-window-gt1000
-returns-else-window-gt1000 c = adds-done _ _ _ _ c.before.before.before.before.before.before.before.before.before.before.if1.false
-    (sound-of c.last-1.given.1
+returns-else-window-gt1000 c = adds-done _ _ _ _ c.if-room-used.false
+    (sound-of c.in-Sound.is
     c.judge_log.ensures).ends.sound
     c.if-window-gt1000.false c.add_to.ensures
 
 pub returns-in-Refused : goal.returns-in-Refused
-returns-in-Refused c = adds-refused _ _ _ _ c.before.before.before.before.before.if1.false _
-    (refused-of c.r-1.given.1 c.judge_log.ensures)
+returns-in-Refused c = adds-refused _ _ _ _ c.if-room-used.false _
+    (refused-of c.in-Refused.is c.judge_log.ensures)

@@ -11,37 +11,37 @@ pub slice_bounds-joins-count : goal.slice_bounds-joins-count
 slice_bounds-joins-count c = let t = last_of _ _ _ c.requires.0 c.requires.1 (omega arith) in t.low
 
 pub slice_bounds-joins-start : goal.slice_bounds-joins-start
-slice_bounds-joins-start c = let t = last_of _ _ _ c.before.before.before.requires.0 c.before.before.before.requires.1 (omega arith) in
+slice_bounds-joins-start c = let t = last_of _ _ _ c.requires.0 c.requires.1 (omega arith) in
     omega (arith, t.low)
 
 pub joins-requires : goal.joins-requires
-joins-requires c = (last_of _ _ _ c.before.before.before.before.requires.0 c.before.before.before.before.requires.1 (omega arith)).keeps
+joins-requires c = (last_of _ _ _ c.requires.0 c.requires.1 (omega arith)).keeps
 
 pub returns-then-not-joins : goal.returns-then-not-joins
-returns-then-not-joins c = adds-started (last_of _ _ _ c.before.before.before.before.before.before.before.before.before.before.requires.0
-    c.before.before.before.before.before.before.before.before.before.before.requires.1 (omega arith))
-    c.before.before.before.before.before.before.before.before.before.before.requires.0 c.if-not-joins.true-raw
+returns-then-not-joins c = adds-started (last_of _ _ _ c.requires.0
+    c.requires.1 (omega arith))
+    c.requires.0 c.if-not-joins.true-raw
     c.joins.ensures c.put_one-then-not-joins.ensures
 
 pub slice_bounds-chord_at-count : goal.slice_bounds-chord_at-count
-slice_bounds-chord_at-count c = let t = last_of _ _ _ c.before.before.before.before.before.before.requires.0 c.before.before.before.before.before.before.requires.1
+slice_bounds-chord_at-count c = let t = last_of _ _ _ c.requires.0 c.requires.1
     (omega arith) in
     t.low
 
 pub slice_bounds-chord_at-start : goal.slice_bounds-chord_at-start
-slice_bounds-chord_at-start c = let t = last_of _ _ _ c.before.before.before.before.before.before.before.requires.0
-    c.before.before.before.before.before.before.before.requires.1 (omega arith) in
+slice_bounds-chord_at-start c = let t = last_of _ _ _ c.requires.0
+    c.requires.1 (omega arith) in
     omega (arith, t.low)
 
 pub chord_at-first-requires : goal.chord_at-first-requires
-chord_at-first-requires c = let t = last_of _ _ _ c.before.before.before.before.before.before.before.before.requires.0
-    c.before.before.before.before.before.before.before.before.requires.1 (omega arith) in
+chord_at-first-requires c = let t = last_of _ _ _ c.requires.0
+    c.requires.1 (omega arith) in
     (t.keeps, omega arith, keeps-first t.keeps)
 
 pub returns : goal.returns
-returns c = adds-joined (last_of _ _ _ c.before.before.before.before.before.before.before.before.before.before.before.before.before.requires.0
-    c.before.before.before.before.before.before.before.before.before.before.before.before.before.requires.1 (omega arith))
-    c.before.before.before.before.before.before.before.before.before.before.before.before.before.requires.0
-    c.before.before.before.before.before.before.before.if2.false
-    c.before.before.before.before.before.before.before.before.joins.ensures c.chord_at-first.ensures
+returns c = adds-joined (last_of _ _ _ c.requires.0
+    c.requires.1 (omega arith))
+    c.requires.0
+    c.if-not-joins.false-raw
+    c.joins.ensures c.chord_at-first.ensures
     c.put_two.ensures

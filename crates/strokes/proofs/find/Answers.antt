@@ -37,11 +37,11 @@ slice_bounds-chord_at-end c = let s = seek-stands c.loop-left.invariant c.frame_
 
 pub chord_at-requires : goal.chord_at-requires
 chord_at-requires c = let s = seek-stands c.loop-left.invariant c.frame_end-end.ensures in (
-      seek-keeps c.loop-left.invariant s,
-      omega (arith, c.chords_in-held.ensures.1),
-      seek-stroke
-          c.loop-left.invariant s c.chords_in-held.ensures.0 c.if-left-held.true,
-    )
+  seek-keeps c.loop-left.invariant s,
+  omega (arith, c.chords_in-held.ensures.1),
+  seek-stroke
+      c.loop-left.invariant s c.chords_in-held.ensures.0 c.if-left-held.true,
+)
 
 pub returns-then-left-held : goal.returns-then-left-held
 returns-then-left-held c = let s = seek-stands c.loop-left.invariant

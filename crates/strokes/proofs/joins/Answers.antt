@@ -12,4 +12,4 @@ chord_at-first-requires c = (c.requires, omega arith, keeps-first c.requires)
 
 pub returns : goal.returns
 returns c = joins-free _ _ _ c.is_single.ensures c.if-not-is_single.false-raw c.chord_at-first.ensures (omega arith)
-    (omega arith) (omega arith) c.wrapping_sub_u32.ensures
+    (omega arith) (omega arith) c.wrapping_sub_u32.ensures.value

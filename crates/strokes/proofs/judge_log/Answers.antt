@@ -7,7 +7,7 @@ use Rattle.strokes.proofs.Logs.{walked_start, walked_keeps, walked-fits, walked_
 use Rattle.strokes.proofs.judge_log.Goals as goal
 
 pub loop-at-init : goal.loop-at-init
-loop-at-init c = walked_start (slice-bytes c.shared_slice_known-1.given)
+loop-at-init c = walked_start (slice-bytes c.type_inv.log)
 
 pub frame_end-end-requires : goal.frame_end-end-requires
 frame_end-end-requires c = c.loop-at.invariant.passed.high
@@ -33,7 +33,7 @@ overflow_add-n c = let s = stands_of c.frame_end-end.ensures c.if-end-eq0.false
     omega (arith, passed-fits c.loop-at.invariant.passed s)
 
 pub refuse_row-requires : goal.refuse_row-requires
-refuse_row-requires c = let e = sym (ap outcome_means c.r-1.given.1) ∙ c.judge.ensures in
+refuse_row-requires c = let e = sym (ap outcome_means c.in-Refused.is) ∙ c.judge.ensures in
     walked-refused c.loop-at.invariant
     (stands_of c.frame_end-end.ensures c.if-end-eq0.false) e
 
@@ -55,16 +55,16 @@ slice_bounds-chords_in-end c = let s = stands_of c.frame_end-end.ensures c.if-en
 pub chords_in-count-requires : goal.chords_in-count-requires
 chords_in-count-requires c = walked_keeps c.loop-at.invariant
     (stands_of c.frame_end-end.ensures c.if-end-eq0.false)
-    (sym (ap outcome_means c.enum_told-1.given.1) ∙ c.judge.ensures)
+    (sym (ap outcome_means c.in-Done.is) ∙ c.judge.ensures)
 
 pub overflow_add-count : goal.overflow_add-count
 overflow_add-count c = omega (
-      arith,
-      walked-fits c.loop-at.invariant
-          (stands_of c.frame_end-end.ensures
-          c.if-end-eq0.false),
-      c.chords_in-count.ensures.1,
-    )
+  arith,
+  walked-fits c.loop-at.invariant
+      (stands_of c.frame_end-end.ensures
+      c.if-end-eq0.false),
+  c.chords_in-count.ensures.1,
+)
 
 pub overflow_add-n-in-loop-at : goal.overflow_add-n-in-loop-at
 overflow_add-n-in-loop-at c = let s = stands_of c.frame_end-end.ensures
@@ -80,7 +80,7 @@ pub loop-at-preserved : goal.loop-at-preserved
 loop-at-preserved c = let s = stands_of c.frame_end-end.ensures
     c.if-end-eq0.false in
     let k = walked_keeps c.loop-at.invariant s
-    (sym (ap outcome_means c.enum_told-1.given.1) ∙ c.judge.ensures) in
+    (sym (ap outcome_means c.in-Done.is) ∙ c.judge.ensures) in
     walked_next c.loop-at.invariant s k c.chords_in-count.ensures.0
 
 pub returns : goal.returns

@@ -25,10 +25,10 @@ chord_at-requires-2 c = (
 
 pub put_chord-requires-2 : goal.put_chord-requires-2
 put_chord-requires-2 c = omega (
-      arith,
-      four-of c.args.row.now
-          (has-two _ c.is_single.ensures c.if-is_single.false),
-    )
+  arith,
+  four-of c.args.row.now
+      (has-two _ c.is_single.ensures c.if-is_single.false),
+)
 
 pub returns : goal.returns
 returns c = two-put _ _ _ (has-two _ c.is_single.ensures

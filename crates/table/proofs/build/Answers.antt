@@ -14,19 +14,8 @@ use Rattle.table.proofs.Opening.{base_more, open-fits, base-deeper, push_kept, p
 use Rattle.table.proofs.build.Goals as goal
 use Rattle.table.proofs.build.Goals.{After-mark_at, After-held-fields, At-loop-at, After-line_of-w, Else-w-m, Else-c-eq0, After-wrapping_add_u64}
 
--- earlier places
-abbrev entry : tie.At-loop invariant-loop2 decreases-loop2 invariant-loop decreases-loop → tie.Start invariant-loop2 decreases-loop2 invariant-loop decreases-loop
-entry c = c.before.before.before.before.before.before.before.before.before
-
-abbrev loop-at : tie.After-line-of invariant-loop2 decreases-loop2 invariant-loop decreases-loop → tie.At-loop invariant-loop2 decreases-loop2 invariant-loop decreases-loop
-loop-at c = c.before.before.before.before
-
-abbrev line_at : tie.Else11 invariant-loop2 decreases-loop2 invariant-loop decreases-loop → tie.After-line-of invariant-loop2 decreases-loop2 invariant-loop decreases-loop
-line_at c = c.before.before.before.before.before
-
 -- what is known at a place, said once
-headed : (c : After-mark_at)
-    → let a = c.args in Headed a.s.now a.t.now c.mark_at.result
+headed : (c : After-mark_at) → Headed c.args.s.now c.args.t.now c.mark_at.result
 headed c = record {
   short = c.if-len-gt1024.false;
   three = c.if-len-lt3.false;
@@ -34,52 +23,73 @@ headed c = record {
   mark = c.mark_at.ensures;
 }
 
-rooted : (c : After-held-fields)
-    → let a = c.args in Rooted a.s.now a.t.now
-    c.mark_at.result c.held-fields.result
-rooted c = record { headed = headed c.before.before; struct = c.if-mark_at-ne-STRUCT_MARK.false; held = c.held-fields.ensures }
+rooted : (c : After-held-fields) → Rooted c.args.s.now c.args.t.now c.mark_at.result c.held-fields.result
+rooted c = record {
+  headed = record {
+    short = c.if-len-gt1024.false;
+    three = c.if-len-lt3.false;
+    roomy = c.requires;
+    mark = c.mark_at.ensures;
+  };
+  struct = c.if-mark_at-ne-STRUCT_MARK.false;
+  held = c.held-fields.ensures;
+}
 
-room-kept : (c : At-loop-at) → length c.loop-at.t ≡ length (entry c).args.t.now
-room-kept c = root_kept (rooted c.before.before) c.loop-at.invariant.1
+room-kept : (c : At-loop-at) → length c.loop-at.t ≡ length c.args.t.now
+room-kept c =
+    root_kept {s = c.args.s.now} (record {
+      headed = record {
+        short = c.if-len-gt1024.false;
+        three = c.if-len-lt3.false;
+        roomy = c.requires;
+        mark = c.mark_at.ensures;
+      };
+      struct = c.if-mark_at-ne-STRUCT_MARK.false;
+      held = c.held-fields.ensures;
+    }) c.loop-at.invariant.1
 
 scanned : (c : After-line_of-w)
-    → let l = (loop-at c).loop in
-    Scanned (entry (loop-at c)).args.s.now l.t l.frames l.d l.at l.i l.n l.base
-    c.mark_at-m.result c.Line-of.result
+    → let l = c.loop-at in Scanned c.args.s.now l.t l.frames l.d l.at l.i l.n l.base c.mark_at-m.result c.line_of-w.result
 scanned c = record {
-  looking = (loop-at c).loop.invariant.0;
+  looking = c.loop-at.invariant.0;
   room = c.if-len-at.false;
   mark = c.mark_at-m.ensures;
-  line = c.Line-of.ensures;
+  line = c.line_of-w.ensures;
 }
 
 marked : (c : Else-w-m)
-    → let l = (loop-at c.before).loop in
-    let w = c.before.Line-of.result in
-    Marked (entry (loop-at c.before)).args.s.now l.t l.frames l.d l.at l.i l.n l.base w (w / 268435456)
-marked c = is-marked (scanned c.before) (sym (mask_is c.before.Line-of.result 16) ∙ c.if-w-m.false)
+    → let l = c.loop-at in
+    let w = c.line_of-w.result in
+    Marked c.args.s.now l.t l.frames l.d l.at l.i l.n l.base w (w / 268435456)
+marked c =
+    is-marked {s = c.args.s.now} (record {
+      looking = c.loop-at.invariant.0;
+      room = c.if-len-at.false;
+      mark = c.mark_at-m.ensures;
+      line = c.line_of-w.ensures;
+    }) (sym (mask_is c.line_of-w.result 16) ∙ c.if-w-m.false)
 
 opened : (c : Else-c-eq0)
-    → let l = (loop-at (line_at c)).loop in
-    let w = (line_at c).Line-of.result in
-    OpenHolder (entry (loop-at (line_at c))).args.s.now l.t l.frames l.d l.at l.i l.n l.base w (w / 268435456)
-    c.held-c.result
-opened c = is-opened (marked c.before.before.before.before) c.if-w-lt-CONTAINERS.false c.held-c.ensures
-    c.if-d-eq6.false c.if-c-eq0.false
+    → let l = c.loop-at in
+    let w = c.line_of-w.result in
+    Marked c.args.s.now l.t l.frames l.d l.at l.i l.n l.base w (w / 268435456)
+    → OpenHolder c.args.s.now l.t l.frames l.d l.at l.i l.n l.base w (w / 268435456) c.held-c.result
+opened c m = is-opened m c.if-w-lt-CONTAINERS.false c.held-c.ensures c.if-d-eq6.false c.if-c-eq0.false
 
 leaving : (c : After-wrapping_add_u64)
-    → let a = loop-at c.before.before.before.before.before.before in
+    → let a = c.loop-at in
     let p = c.loop-n in
-    Leaving (entry a).args.s.now p.t a.loop.frames p.d (a.loop.at + 2) (a.loop.i + 1) p.n p.base
-    c.wrapping_add_u64.result
-leaving c = record { going = c.loop-n.invariant.0; none = c.loop-n-test.true; word = c.wrapping_add_u64.ensures }
+    Leaving c.args.s.now p.t a.frames p.d (a.at + 2) (a.i + 1) p.n p.base c.wrapping_add_u64.result
+leaving c = record { going = c.loop-n.invariant.0; none = c.loop-n-test.true; word = c.wrapping_add_u64.ensures.value }
 
 left-kept : (c : After-wrapping_add_u64)
-    → let a = loop-at c.before.before.before.before.before.before in
+    → let a = c.loop-at in
     let p = c.loop-n in
-    length (set p.t (get_or a.loop.frames p.d 0 / 256) c.wrapping_add_u64.result) ≡ length (entry a).args.t.now
-left-kept c = pop_kept (leaving c) (leaf-kept (marked c.before.before.before.before.before) c.loop-n.invariant.1
-    (room-kept (loop-at c.before.before.before.before.before.before)))
+    let w = c.line_of-w.result in
+    Marked c.args.s.now a.t a.frames a.d a.at a.i a.n a.base w (w / 268435456)
+    → length a.t ≡ length c.args.t.now
+    → length (set p.t (get_or a.frames p.d 0 / 256) c.wrapping_add_u64.result) ≡ length c.args.t.now
+left-kept c m k = pop_kept (leaving c) (leaf-kept m c.loop-n.invariant.1 k)
 
 pub returns-then-len-gt1024 : goal.returns-then-len-gt1024
 returns-then-len-gt1024 c = refuse-long c.if-len-gt1024.true
@@ -128,10 +138,10 @@ unfolding lines_of
 line_of-w-requires c = (refl, search mark-small)
 
 pub shape_of-t-then-w-m : goal.shape_of-t-then-w-m
-shape_of-t-then-w-m c = room-kept (loop-at (goal.at.shape_of-t-then-w-m c).After-line_of-w)
+shape_of-t-then-w-m c = room-kept (goal.at.shape_of-t-then-w-m c).At-loop-at
 
 pub returns-then-w-m : goal.returns-then-w-m
-returns-then-w-m c = unmarked (scanned (goal.at.returns-then-w-m c).After-line_of-w) (λ e. c.if-w-m.true (mask_is c.before.Line-of.result 16 ∙ e))
+returns-then-w-m c = unmarked (scanned (goal.at.returns-then-w-m c).After-line_of-w) (λ e. c.if-w-m.true (mask_is c.line_of-w.result 16 ∙ e))
 
 pub overflow_sub-n : goal.overflow_sub-n
 overflow_sub-n c = one_less (marked (goal.at.overflow_sub-n c).Else-w-m)
@@ -179,13 +189,13 @@ pub bounds-t-p-in-loop-n : goal.bounds-t-p-in-loop-n
 bounds-t-p-in-loop-n c = holder_in c.loop-n.invariant.0
 
 pub shape_of-t-then-at-len : goal.shape_of-t-then-at-len
-shape_of-t-then-at-len c = left-kept (goal.at.shape_of-t-then-at-len c).After-wrapping_add_u64
+shape_of-t-then-at-len c = left-kept (goal.at.shape_of-t-then-at-len c).After-wrapping_add_u64 (marked (goal.at.shape_of-t-then-at-len c).Else-w-m) (room-kept (goal.at.shape_of-t-then-at-len c).At-loop-at)
 
 pub returns-then-at-len : goal.returns-then-at-len
 returns-then-at-len c = going_done (leaving (goal.at.returns-then-at-len c).After-wrapping_add_u64) c.if-d-eq0.true c.if-at-len.true
 
 pub shape_of-t-then-d-eq0 : goal.shape_of-t-then-d-eq0
-shape_of-t-then-d-eq0 c = left-kept (goal.at.shape_of-t-then-d-eq0 c).After-wrapping_add_u64
+shape_of-t-then-d-eq0 c = left-kept (goal.at.shape_of-t-then-d-eq0 c).After-wrapping_add_u64 (marked (goal.at.shape_of-t-then-d-eq0 c).Else-w-m) (room-kept (goal.at.shape_of-t-then-d-eq0 c).At-loop-at)
 
 pub returns-then-d-eq0 : goal.returns-then-d-eq0
 returns-then-d-eq0 c = going-over (leaving (goal.at.returns-then-d-eq0 c).After-wrapping_add_u64) c.if-d-eq0.true c.if-at-len.false
@@ -200,7 +210,7 @@ pub loop-n-smaller : goal.loop-n-smaller
 loop-n-smaller c = pop-falls (leaving (goal.at.loop-n-smaller c).After-wrapping_add_u64) c.if-d-eq0.false
 
 pub loop-n-preserved : goal.loop-n-preserved
-loop-n-preserved c = let frames = (loop-at (goal.at.loop-n-preserved c).After-line_of-w).loop.frames in
+loop-n-preserved c = let frames = c.loop-at.frames in
     let p = c.loop-n in
     (rw (mask_is (get_or frames p.d 0) 8) (going-pop (leaving (goal.at.loop-n-preserved c).After-wrapping_add_u64) c.if-d-eq0.false), pop_kept (leaving (goal.at.loop-n-preserved c).After-wrapping_add_u64) p.invariant.1)
 
@@ -210,11 +220,11 @@ loop-at-smaller-then-w-lt-CONTAINERS c = leaf-falls (marked (goal.at.loop-at-sma
 pub loop-at-preserved-then-w-lt-CONTAINERS : goal.loop-at-preserved-then-w-lt-CONTAINERS
 loop-at-preserved-then-w-lt-CONTAINERS c = (
   still c.loop-n.invariant.0 c.loop-n-test.false,
-  leaf-kept (marked (goal.at.loop-at-preserved-then-w-lt-CONTAINERS c).Else-w-m) c.loop-n.invariant.1 (loop-at (goal.at.loop-at-preserved-then-w-lt-CONTAINERS c).After-line_of-w).loop.inv.1,
+  leaf-kept (marked (goal.at.loop-at-preserved-then-w-lt-CONTAINERS c).Else-w-m) c.loop-n.invariant.1 c.loop-at.invariant.1,
 )
 
 pub shape_of-t-then-d-eq6 : goal.shape_of-t-then-d-eq6
-shape_of-t-then-d-eq6 c = room-kept (loop-at (goal.at.shape_of-t-then-d-eq6 c).After-line_of-w)
+shape_of-t-then-d-eq6 c = room-kept (goal.at.shape_of-t-then-d-eq6 c).At-loop-at
 
 pub returns-then-d-eq6 : goal.returns-then-d-eq6
 returns-then-d-eq6 c = going-deep (marked (goal.at.returns-then-d-eq6 c).Else-w-m) c.if-w-lt-CONTAINERS.false c.if-d-eq6.true
@@ -226,7 +236,7 @@ pub held-c-requires : goal.held-c-requires
 held-c-requires c = holding (marked (goal.at.held-c-requires c).Else-w-m) c.if-w-lt-CONTAINERS.false
 
 pub shape_of-t-then-c-eq0 : goal.shape_of-t-then-c-eq0
-shape_of-t-then-c-eq0 c = room-kept (loop-at (goal.at.shape_of-t-then-c-eq0 c).After-line_of-w)
+shape_of-t-then-c-eq0 c = room-kept (goal.at.shape_of-t-then-c-eq0 c).At-loop-at
 
 pub returns-then-c-eq0 : goal.returns-then-c-eq0
 returns-then-c-eq0 c = going-shut (marked (goal.at.returns-then-c-eq0 c).Else-w-m) c.if-w-lt-CONTAINERS.false c.held-c.ensures c.if-c-eq0.true
@@ -235,40 +245,40 @@ pub overflow_add-at-in-loop-at-2 : goal.overflow_add-at-in-loop-at-2
 overflow_add-at-in-loop-at-2 c = end_fits (marked (goal.at.overflow_add-at-in-loop-at-2 c).Else-w-m)
 
 pub behind-at-requires : goal.behind-at-requires
-behind-at-requires c = behind-room (opened (goal.at.behind-at-requires c).Else-c-eq0)
+behind-at-requires c = behind-room (opened (goal.at.behind-at-requires c).Else-c-eq0 (marked (goal.at.behind-at-requires c).Else-w-m))
 
 pub overflow_add-d : goal.overflow_add-d
-overflow_add-d c = deeper (opened (goal.at.overflow_add-d c).Else-c-eq0)
+overflow_add-d c = deeper (opened (goal.at.overflow_add-d c).Else-c-eq0 (marked (goal.at.overflow_add-d c).Else-w-m))
 
 pub overflow_mul-frames : goal.overflow_mul-frames
-overflow_mul-frames c = frame-place (opened (goal.at.overflow_mul-frames c).Else-c-eq0)
+overflow_mul-frames c = frame-place (opened (goal.at.overflow_mul-frames c).Else-c-eq0 (marked (goal.at.overflow_mul-frames c).Else-w-m))
 
 pub overflow_add-frames : goal.overflow_add-frames
-overflow_add-frames c = frame-fits (opened (goal.at.overflow_add-frames c).Else-c-eq0)
+overflow_add-frames c = frame-fits (opened (goal.at.overflow_add-frames c).Else-c-eq0 (marked (goal.at.overflow_add-frames c).Else-w-m))
 
 pub offset_bounds-frames-d-in-loop-at : goal.offset_bounds-frames-d-in-loop-at
-offset_bounds-frames-d-in-loop-at c = deeper-scaled (opened (goal.at.offset_bounds-frames-d-in-loop-at c).Else-c-eq0)
+offset_bounds-frames-d-in-loop-at c = deeper-scaled (opened (goal.at.offset_bounds-frames-d-in-loop-at c).Else-c-eq0 (marked (goal.at.offset_bounds-frames-d-in-loop-at c).Else-w-m))
 
 pub bounds-frames-d-in-loop-at : goal.bounds-frames-d-in-loop-at
-bounds-frames-d-in-loop-at c = deeper-in (opened (goal.at.bounds-frames-d-in-loop-at c).Else-c-eq0)
+bounds-frames-d-in-loop-at c = deeper-in (opened (goal.at.bounds-frames-d-in-loop-at c).Else-c-eq0 (marked (goal.at.bounds-frames-d-in-loop-at c).Else-w-m))
 
 pub overflow_mul-t-in-loop-at : goal.overflow_mul-t-in-loop-at
-overflow_mul-t-in-loop-at c = held-scaled (opened (goal.at.overflow_mul-t-in-loop-at c).Else-c-eq0)
+overflow_mul-t-in-loop-at c = held-scaled (opened (goal.at.overflow_mul-t-in-loop-at c).Else-c-eq0 (marked (goal.at.overflow_mul-t-in-loop-at c).Else-w-m))
 
 pub overflow_add-t-in-loop-at : goal.overflow_add-t-in-loop-at
-overflow_add-t-in-loop-at c = held_fits (opened (goal.at.overflow_add-t-in-loop-at c).Else-c-eq0)
+overflow_add-t-in-loop-at c = held_fits (opened (goal.at.overflow_add-t-in-loop-at c).Else-c-eq0 (marked (goal.at.overflow_add-t-in-loop-at c).Else-w-m))
 
 pub overflow_add-t-in-loop-at-2 : goal.overflow_add-t-in-loop-at-2
 overflow_add-t-in-loop-at-2 c = place-next (marked (goal.at.overflow_add-t-in-loop-at-2 c).Else-w-m)
 
 pub overflow_mul-t-in-loop-at-2 : goal.overflow_mul-t-in-loop-at-2
-overflow_mul-t-in-loop-at-2 c = next-scaled (opened (goal.at.overflow_mul-t-in-loop-at-2 c).Else-c-eq0)
+overflow_mul-t-in-loop-at-2 c = next-scaled (opened (goal.at.overflow_mul-t-in-loop-at-2 c).Else-c-eq0 (marked (goal.at.overflow_mul-t-in-loop-at-2 c).Else-w-m))
 
 pub overflow_sub-t : goal.overflow_sub-t
-overflow_sub-t c = base_more (opened (goal.at.overflow_sub-t c).Else-c-eq0)
+overflow_sub-t c = base_more (opened (goal.at.overflow_sub-t c).Else-c-eq0 (marked (goal.at.overflow_sub-t c).Else-w-m))
 
 pub overflow_add-t-in-loop-at-3 : goal.overflow_add-t-in-loop-at-3
-overflow_add-t-in-loop-at-3 c = open-fits (opened (goal.at.overflow_add-t-in-loop-at-3 c).Else-c-eq0)
+overflow_add-t-in-loop-at-3 c = open-fits (opened (goal.at.overflow_add-t-in-loop-at-3 c).Else-c-eq0 (marked (goal.at.overflow_add-t-in-loop-at-3 c).Else-w-m))
 
 pub offset_bounds-t-i-in-loop-at : goal.offset_bounds-t-i-in-loop-at
 offset_bounds-t-i-in-loop-at c = place-scaled (marked (goal.at.offset_bounds-t-i-in-loop-at c).Else-w-m)
@@ -280,10 +290,10 @@ pub overflow_add-i-in-loop-at : goal.overflow_add-i-in-loop-at
 overflow_add-i-in-loop-at c = place-next (marked (goal.at.overflow_add-i-in-loop-at c).Else-w-m)
 
 pub overflow_add-base-in-loop-at : goal.overflow_add-base-in-loop-at
-overflow_add-base-in-loop-at c = base-deeper (opened (goal.at.overflow_add-base-in-loop-at c).Else-c-eq0)
+overflow_add-base-in-loop-at c = base-deeper (opened (goal.at.overflow_add-base-in-loop-at c).Else-c-eq0 (marked (goal.at.overflow_add-base-in-loop-at c).Else-w-m))
 
 pub loop-at-smaller : goal.loop-at-smaller
-loop-at-smaller c = push-falls (opened (goal.at.loop-at-smaller c).Else-c-eq0) c.behind-at.ensures
+loop-at-smaller c = push-falls (opened (goal.at.loop-at-smaller c).Else-c-eq0 (marked (goal.at.loop-at-smaller c).Else-w-m)) c.behind-at.ensures
 
 pub loop-at-preserved : goal.loop-at-preserved
-loop-at-preserved c = (going-push (opened (goal.at.loop-at-preserved c).Else-c-eq0) c.behind-at.ensures, push_kept (opened (goal.at.loop-at-preserved c).Else-c-eq0) (loop-at (line_at (goal.at.loop-at-preserved c).Else-c-eq0)).loop.inv.1)
+loop-at-preserved c = (going-push (opened (goal.at.loop-at-preserved c).Else-c-eq0 (marked (goal.at.loop-at-preserved c).Else-w-m)) c.behind-at.ensures, push_kept (opened (goal.at.loop-at-preserved c).Else-c-eq0 (marked (goal.at.loop-at-preserved c).Else-w-m)) c.loop-at.invariant.1)

@@ -7,17 +7,17 @@ use Rattle.writing.proofs.write.Goals as goal
 pub returns-then-size-eq0 : goal.returns-then-size-eq0
 returns-then-size-eq0 c = let a = no-listing c.requires c.measure_row-size.ensures
     c.args.out.now c.if-size-eq0.true in
-    (a.answer, a.bytes)
+    record { answer = a.answer; bytes = a.bytes }
 
 pub returns-then-size-gt16384 : goal.returns-then-size-gt16384
 returns-then-size-gt16384 c = let a = too_long c.requires c.measure_row-size.ensures
     c.args.out.now c.if-size-eq0.false c.if-size-gt16384.true in
-    (a.answer, a.bytes)
+    record { answer = a.answer; bytes = a.bytes }
 
 pub returns-then-out-size : goal.returns-then-out-size
 returns-then-out-size c = let a = no_room c.requires c.measure_row-size.ensures
     c.args.out.now c.if-size-eq0.false c.if-size-gt16384.false c.if-out-size.true in
-    (a.answer, a.bytes)
+    record { answer = a.answer; bytes = a.bytes }
 
 pub slice_bounds-put_row-end-2 : goal.slice_bounds-put_row-end-2
 slice_bounds-put_row-end-2 c = sym (length-take-le c.measure_row-size.result
@@ -35,4 +35,4 @@ returns c = let a = all_done c.requires
     c.args.out.now
     c.if-size-eq0.false c.if-size-gt16384.false
     c.if-out-size.false c.put_row.ensures in
-    (a.answer, a.bytes)
+    record { answer = a.answer; bytes = a.bytes }

@@ -1,7 +1,8 @@
 -- `answers::settings::given` meets its contract, case by case. Assumes nothing.
 use mathlib.Core.Path.{◌≡◌, sym, ap, ◌∙◌, subst}
 use mathlib.Core.List.{List}
-use Prim.Native.Nat.{ℕ}
+use Prim.Native.Nat.{ℕ, ◌<◌, ◌^◌}
+use borrow.Author.Rules.{rules}
 use native.Mathlib.Omega.{arith}
 use mir.Syntax.{w64}
 use mir.ValLaws.{to_z-of_z}
@@ -26,7 +27,7 @@ returns-in-Bool c = given-as _ (G.Bool _) (λ u. sym (ap (λ (s : Setting). sett
 
 pub returns-in-Number : goal.returns-in-Number
 returns-in-Number c = given-as _ (G.Number _) (λ u.
-    ap S.signed (to_z-of_z w64 _ (record { sfits = c.in-Number.n-fits }))
+    ap S.signed (to_z-of_z w64 _ (search rules))
     ∙ sym (ap (λ (s : Setting). setting_of s u) c.in-Number.is)) (λ u h. tt)
 
 pub returns-in-Float32 : goal.returns-in-Float32
@@ -35,7 +36,7 @@ returns-in-Float32 c = given-as _ (G.Float32 _) (λ u. ap S.float32 c.bits32.ens
 
 pub returns-in-Float32Nan : goal.returns-in-Float32Nan
 returns-in-Float32Nan c = given-as _ (G.Float32 _) (λ u. sym (ap (λ (s : Setting). setting_of s u) c.in-Float32Nan.is))
-    (λ u h. ?)
+    (λ u h. let fits : c.in-Float32Nan.b < 2 ^ 32 = search rules in omega arith)
 
 pub returns-in-Float64 : goal.returns-in-Float64
 returns-in-Float64 c = given-as _ (G.Float64 _) (λ u. ap S.float64 c.bits64.ensures
@@ -43,7 +44,7 @@ returns-in-Float64 c = given-as _ (G.Float64 _) (λ u. ap S.float64 c.bits64.ens
 
 pub returns-in-Float64Nan : goal.returns-in-Float64Nan
 returns-in-Float64Nan c = given-as _ (G.Float64 _) (λ u. sym (ap (λ (s : Setting). setting_of s u) c.in-Float64Nan.is))
-    (λ u h. ?)
+    (λ u h. let fits : c.in-Float64Nan.b < 2 ^ 64 = search rules in omega arith)
 
 pub returns-in-Bytes : goal.returns-in-Bytes
 returns-in-Bytes c = given-as _ G.Bytes (λ u. sym (ap (λ (s : Setting). setting_of s u) c.in-Bytes.is)) (λ u h. h)

@@ -7,5 +7,4 @@ pub returns-then-room-needed : goal.returns-then-room-needed
 returns-then-room-needed c = put-short _ _ _ _ refl c.if-room-needed.true
 
 pub returns : goal.returns
-returns c = let e = (goal.at.returns c).After-put_size in
-    put-done _ _ _ _ refl e.before.before.if1.false e.put-size.ensures c.copy.ensures
+returns c = put-done _ _ _ _ refl c.if-room-needed.false c.put_size.ensures c.copy.ensures

@@ -6,7 +6,7 @@ use Rattle.batch.proofs.frames.size_at.Goals as goal
 
 pub returns : goal.returns
 returns c = let a = c.args in
-    let h = bytes_of a.b.now (λ i. (c.shared_slice_known-5-1.given i).fits) in
+    let h = bytes_of a.b.now (λ i. (c.type_inv.b i).fits) in
     says a.at h (omega arith) _ _ _ _
     c.wide-x3.ensures.0
     c.wide-x2.ensures.0 c.wide-x1.ensures.0 c.wide-x0.ensures.0

@@ -1,5 +1,4 @@
 -- `checking::lists::check_bools` meets its contract: before element i, what is left leads to the same end. Assumes nothing.
-use Prim.Native.Nat.{◌-◌}
 use Rattle.words.proofs.Numbers.{slice-bytes}
 use Rattle.checking.proofs.Leaves.{bools-start, bools-stop, bools-behind, bools-end, bools-bit, bools-byte, bools-at, bools-told, bools-on}
 use Rattle.checking.proofs.Leaves.{bools-null, bools-wrong, bools-next}

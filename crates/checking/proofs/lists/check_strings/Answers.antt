@@ -19,7 +19,7 @@ told c = search seen
 here : (c : After-pad_size-next)
     → Here c.loop-i.invariant c.offset_at-from.result
     c.size_at.result c.pad_size-next.result
-here c = search told
+here c = search seen
 
 pub no_nulls-full-requires : goal.no_nulls-full-requires
 no_nulls-full-requires c = search nulls-room

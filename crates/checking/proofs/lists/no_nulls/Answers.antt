@@ -1,6 +1,5 @@
 -- `checking::lists::no_nulls` meets its contract: the elements before i are not null. Assumes nothing.
 use mathlib.Core.Path.{refl}
-use Prim.Native.Nat.{◌-◌}
 use borrow.Author.Rules.{rules}
 use Rattle.words.proofs.Numbers.{slice-bytes}
 use Rattle.checking.proofs.Leaves.{clear-start, clear-word, clear-end}

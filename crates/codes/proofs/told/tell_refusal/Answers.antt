@@ -8,7 +8,4 @@ returns-then-number-ne4 c = refusal-alone c.args.r c.refusal_code.ensures
     (λ q. c.if-number-ne4.true (c.number.ensures ∙ q))
 
 pub returns : goal.returns
-returns c = let t = (goal.at.returns c).After-put_word in
-    refusal-told t.before.before.before.before.before.before.args.r c.refusal_code-2.ensures
-    (sym t.before.before.before.before.number.ensures ∙ t.before.before.before.if1.false)
-    t.before.length.ensures t.put_word.ensures
+returns c = refusal-told c.args.r c.refusal_code-2.ensures (sym c.number.ensures ∙ c.if-number-ne4.false) c.length.ensures c.put_word.ensures

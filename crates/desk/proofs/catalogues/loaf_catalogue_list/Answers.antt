@@ -1,16 +1,13 @@
 -- `desk::catalogues::loaf_catalogue_list` meets its contract. Assumes nothing.
 use mathlib.Core.Path.{ap, ◌∙◌}
 use Rattle.codes.specs.Codes.{sized_code}
-use Rattle.words.proofs.Numbers.{bytes_of}
+use Rattle.words.proofs.Numbers.{slice-bytes}
 use Rattle.codes.proofs.ByNumber.{list-at-known}
 use Rattle.desk.proofs.catalogues.loaf_catalogue_list.Goals as goal
 
 pub length_code-requires : goal.length_code-requires
-length_code-requires c = list-at-known _ _ _ _ (bytes_of _ (λ i. (c.shared_slice_known-2-1.given i).fits))
+length_code-requires c = list-at-known _ _ _ _ (slice-bytes c.type_inv.row)
     c.list.ensures.answers
 
 pub returns : goal.returns
-returns c = record {
-  answers = c.length_code.ensures ∙ ap sized_code c.list.ensures.answers;
-  leaves =
-      c.list.ensures.leaves;
+returns c = record { answers = c.length_code.ensures ∙ ap sized_code c.list.ensures.answers; leaves = c.list.ensures.leaves }

@@ -6,5 +6,4 @@ pub put_answer-requires : goal.put_answer-requires
 put_answer-requires c = read-at-known _ _ _ _ c.read.ensures
 
 pub returns : goal.returns
-returns c = let t = (goal.at.returns c).After-read in
-    read-at-as _ _ t.before.path-of.ensures _ _ _ t.read.ensures c.put_answer.ensures
+returns c = read-at-as _ _ c.path_of.ensures _ _ _ c.read.ensures c.put_answer.ensures

@@ -8,7 +8,4 @@ pub length_code-requires : goal.length_code-requires
 length_code-requires c = write-at-known _ _ _ _ c.write.ensures.answers
 
 pub returns : goal.returns
-returns c = record {
-  answers = c.length_code.ensures ∙ ap sized_code c.write.ensures.answers;
-  leaves =
-      c.write.ensures.leaves;
+returns c = record { answers = c.length_code.ensures ∙ ap sized_code c.write.ensures.answers; leaves = c.write.ensures.leaves }

@@ -6,5 +6,4 @@ pub put_answer-requires : goal.put_answer-requires
 put_answer-requires c = read-in-known _ _ _ _ c.read_by.ensures
 
 pub returns : goal.returns
-returns c = let t = (goal.at.returns c).After-read_by in
-    read-in-as t.before.path-of.ensures _ _ _ t.read_by.ensures c.put_answer.ensures
+returns c = read-in-as c.path_of.ensures _ _ _ c.read_by.ensures c.put_answer.ensures

@@ -6,5 +6,4 @@ pub put_answer-requires : goal.put_answer-requires
 put_answer-requires c = read_known _ _ _ c.read_by.ensures
 
 pub returns : goal.returns
-returns c = let t = (goal.at.returns c).After-read_by in
-    read_as t.before.path-of.ensures _ _ t.read_by.ensures c.put_answer.ensures
+returns c = read_as c.path_of.ensures _ _ c.read_by.ensures c.put_answer.ensures

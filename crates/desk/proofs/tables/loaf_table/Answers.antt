@@ -8,7 +8,4 @@ pub length_code-requires : goal.length_code-requires
 length_code-requires c = table-halved _ _ _ c.table.ensures.answers
 
 pub returns : goal.returns
-returns c = record {
-  answers = c.length_code.ensures ∙ ap sized_code c.table.ensures.answers;
-  leaves =
-      c.table.ensures.leaves;
+returns c = record { answers = c.length_code.ensures ∙ ap sized_code c.table.ensures.answers; leaves = c.table.ensures.leaves }

@@ -8,7 +8,4 @@ pub length_code-requires : goal.length_code-requires
 length_code-requires c = write_known _ _ _ c.write_by.ensures.answers
 
 pub returns : goal.returns
-returns c = record {
-  answers = c.length_code.ensures ∙ ap sized_code c.write_by.ensures.answers;
-  leaves =
-      c.write_by.ensures.leaves;
+returns c = record { answers = c.length_code.ensures ∙ ap sized_code c.write_by.ensures.answers; leaves = c.write_by.ensures.leaves }

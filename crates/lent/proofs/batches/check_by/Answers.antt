@@ -11,5 +11,4 @@ pub check_rows-requires : goal.check_rows-requires
 check_rows-requires c = own-table (owned _ _ c.gives.result c.gives.ensures c.if-not-gives.false-raw)
 
 pub returns : goal.returns
-returns c = let e = (goal.at.returns c).Else-not-gives in
-    rows-by (owned _ _ e.before.gives.result e.before.gives.ensures e.if1.false) _ c.check_rows.ensures
+returns c = rows-by (owned _ _ c.gives.result c.gives.ensures c.if-not-gives.false-raw) _ c.check_rows.ensures

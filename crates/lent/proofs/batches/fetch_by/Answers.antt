@@ -13,41 +13,35 @@ pub returns-then-not-gives : goal.returns-then-not-gives
 returns-then-not-gives c = fetch-none (no_row (not-owned _ _ c.gives.result c.gives.ensures c.if-not-gives.true-raw) _ _)
 
 pub slice_bounds-check-count : goal.slice_bounds-check-count
-slice_bounds-check-count c = let r = found_at c.start-1.given.1 c.find.ensures in omega (arith, r.low)
+slice_bounds-check-count c = let r = found_at c.in-At.is c.find.ensures in omega (arith, r.low)
 
 pub slice_bounds-check-start : goal.slice_bounds-check-start
-slice_bounds-check-start c = let r = found_at c.start-1.given.1 c.find.ensures in omega (arith, r.low, r.high)
+slice_bounds-check-start c = let r = found_at c.in-At.is c.find.ensures in omega (arith, r.low, r.high)
 
 pub slice_bounds-check-end : goal.slice_bounds-check-end
-slice_bounds-check-end c = let r = found_at c.start-1.given.1 c.find.ensures in omega (arith, r.low, r.high)
+slice_bounds-check-end c = let r = found_at c.in-At.is c.find.ensures in omega (arith, r.low, r.high)
 
 pub check-requires : goal.check-requires
-check-requires c = let e = (goal.at.check-requires c).Else-not-gives in
-    own-table (owned _ _ e.before.gives.result e.before.gives.ensures e.if1.false)
+check-requires c = own-table (owned _ _ c.gives.result c.gives.ensures c.if-not-gives.false-raw)
 
 pub overflow_sub-result : goal.overflow_sub-result
-overflow_sub-result c = let r = found_at c.start-1.given.1 c.find.ensures in
+overflow_sub-result c = let r = found_at c.in-At.is c.find.ensures in
     omega (arith, r.low)
 
 pub returns-in-Broken : goal.returns-in-Broken
-returns-in-Broken c = let e = (goal.at.returns-in-Broken c).Else-not-gives in
-    let o = owned _ _ e.before.gives.result e.before.gives.ensures e.if1.false in
-    fetch-none (no-row-broken (found-broken c.enum_told-1.given.1 c.find.ensures) (not-one o _))
+returns-in-Broken c = let o = owned _ _ c.gives.result c.gives.ensures c.if-not-gives.false-raw in
+    fetch-none (no-row-broken (found-broken c.in-Broken.is c.find.ensures) (not-one o _))
 
 pub returns-in-Past : goal.returns-in-Past
-returns-in-Past c = let e = (goal.at.returns-in-Past c).Else-not-gives in
-    let o = owned _ _ e.before.gives.result e.before.gives.ensures e.if1.false in
-    fetch-none (no-row-past (found-past c.enum_told-in-Past-1.given.1 c.find.ensures) (not-one o _))
+returns-in-Past c = let o = owned _ _ c.gives.result c.gives.ensures c.if-not-gives.false-raw in
+    fetch-none (no-row-past (found-past c.in-Past.is c.find.ensures) (not-one o _))
 
 pub returns-in-Done : goal.returns-in-Done
-returns-in-Done c = let r = found_at c.start-1.given.1 c.find.ensures in
-    let e = (goal.at.returns-in-Done c).Else-not-gives in
-    let o = owned _ _ e.before.gives.result e.before.gives.ensures e.if1.false in
-    fetch-done _ r (check-own o _ (sym (ap outcome_means c.enum_told-in-Done-1.given.1) ∙ c.check.ensures))
+returns-in-Done c = let r = found_at c.in-At.is c.find.ensures in
+    let o = owned _ _ c.gives.result c.gives.ensures c.if-not-gives.false-raw in
+    fetch-done _ r (check-own o _ (sym (ap outcome_means c.in-Done.is) ∙ c.check.ensures))
 
 pub returns-in-Refused : goal.returns-in-Refused
-returns-in-Refused c = let t = (goal.at.returns-in-Refused c).In-Refused-2 in
-    let r = found_at t.before.before.before.before.before.start.given.1 t.before.before.before.before.before.before.before.find.ensures in
-    let e = t.before.before.before.before.before.before.before.before in
-    let o = owned _ _ e.before.gives.result e.before.gives.ensures e.if1.false in
-    fetch-refused _ r _ (check-own o _ (sym (ap outcome_means t.r.given.1) ∙ t.before.before.check.ensures))
+returns-in-Refused c = let r = found_at c.in-At.is c.find.ensures in
+    let o = owned _ _ c.gives.result c.gives.ensures c.if-not-gives.false-raw in
+    fetch-refused _ r _ (check-own o _ (sym (ap outcome_means c.in-Refused.is) ∙ c.check.ensures))

@@ -45,7 +45,7 @@ pub put8-requires-then-i-n : goal.put8-requires-then-i-n
 put8-requires-then-i-n c = search padded-room
 
 pub shape_of-out-then-i-n : goal.shape_of-out-then-i-n
-shape_of-out-then-i-n c = c.put8-then-i-n.auto.0 ∙ padded-long c.loop-i.invariant
+shape_of-out-then-i-n c = c.put8-then-i-n.auto.b ∙ padded-long c.loop-i.invariant
 
 pub returns-then-i-n : goal.returns-then-i-n
 returns-then-i-n c = search padded-last

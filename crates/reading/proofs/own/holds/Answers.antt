@@ -10,8 +10,7 @@ pub returns-then-k-lt-STRING : goal.returns-then-k-lt-STRING
 returns-then-k-lt-STRING c = leaf-as c.requires c.if-k-lt-STRING.true c.leaf_holds.ensures
 
 pub returns-then-k-lt-LIST : goal.returns-then-k-lt-LIST
-returns-then-k-lt-LIST c = let k = (goal.at.returns-then-k-lt-LIST c).Then-k-lt-LIST in
-    text-as k.before.before.before.before.before.requires k.before.if1.false k.if2.true c.is_spelled.ensures
+returns-then-k-lt-LIST c = text-as c.requires c.if-k-lt-STRING.false c.if-k-lt-LIST.true c.is_spelled.ensures
 
 pub element_width-requires : goal.element_width-requires
 element_width-requires c = rest-list c.requires c.if-k-eq-LIST.true

@@ -4,12 +4,12 @@ use Rattle.reading.proofs.steps.enter.Goals as goal
 
 pub returns-in-Broken : goal.returns-in-Broken
 returns-in-Broken c = let a = c.args in
-    enter-broken a.y a.c _ c.c-1.given.1
+    enter-broken a.y a.c _ c.in-Broken.is
 
 pub returns-in-Null : goal.returns-in-Null
 returns-in-Null c = let a = c.args in
-    enter-null a.y a.c _ c.c-in-Null-1.given.1
+    enter-null a.y a.c _ c.in-Null.is
 
 pub returns-in-At : goal.returns-in-At
 returns-in-At c = let a = c.args in
-    enter-at a.y a.c _ _ _ c.c-in-At-1.given.1
+    enter-at a.y a.c _ _ _ c.in-At.is

@@ -18,13 +18,13 @@ pub returns-in-Nowhere : goal.returns-in-Nowhere
 returns-in-Nowhere c = let loop = c.loop-k in
     let loop-test = c.loop-k-test in
     let kin = c.kin in
-    kin-off loop.invariant.0 loop-test.true refl kin.ensures c.enum_told-1.given.1
+    kin-off loop.invariant.0 loop-test.true refl kin.ensures c.in-Nowhere.is
 
 pub loop-k-preserved : goal.loop-k-preserved
 loop-k-preserved c = let loop = c.loop-k in
     let loop-test = c.loop-k-test in
     let kin = c.kin in
-    (kin-on loop.invariant.0 loop-test.true refl kin.ensures c.y-1.given.1, loop.invariant.1)
+    (kin-on loop.invariant.0 loop-test.true refl kin.ensures c.in-Of.is, loop.invariant.1)
 
 pub returns : goal.returns
 returns c = kin-end c.loop-k.invariant.0 c.loop-k-test.false

@@ -3,20 +3,10 @@ use Rattle.setting.proofs.Written.{leaf-unfit, leaf-nulls, leaf-bits}
 use Rattle.setting.proofs.leaves.set_fixed.Goals as goal
 
 pub returns-in-Unfit : goal.returns-in-Unfit
-returns-in-Unfit c = let e = (goal.at.returns-in-Unfit c).After-leaf_of in
-    let f = e.before.before in
-    leaf-unfit f.requires f.args.g _ e.leaf-of.ensures c.enum_told-1.given.1
+returns-in-Unfit c = leaf-unfit c.requires c.args.g _ c.leaf_of.ensures c.in-Unfit.is
 
 pub returns-in-Null : goal.returns-in-Null
-returns-in-Null c = let e = (goal.at.returns-in-Null c).After-put_null in
-    let f = e.before.before in
-    let g = f.before.before in
-    let h = g.before.before in
-    leaf-nulls h.requires h.args.g _ g.leaf-of.ensures f.enum-told2.given.1 e.put-null.ensures
+returns-in-Null c = leaf-nulls c.requires c.args.g _ c.leaf_of.ensures c.in-Null.is c.put_null.ensures
 
 pub returns-in-Bits : goal.returns-in-Bits
-returns-in-Bits c = let e = (goal.at.returns-in-Bits c).After-put_bits in
-    let f = e.before.before.before in
-    let g = f.before.before in
-    let h = g.before.before in
-    leaf-bits h.requires h.args.g _ g.leaf-of.ensures f.v.given.1 e.put-bits.ensures
+returns-in-Bits c = leaf-bits c.requires c.args.g _ c.leaf_of.ensures c.in-Bits.is c.put_bits.ensures

@@ -4,25 +4,24 @@ use Rattle.setting.proofs.nulls.set_no_text.Goals as goal
 
 pub returns-then-not-is_fit : goal.returns-then-not-is_fit
 returns-then-not-is_fit c = let a = c.args in
-    no-text-unfit _ a.bytes.now a.seat a.row.now a.g c.enum_told-in-Bytes-1.given.1 c.is_fit.ensures c.if-not-is_fit.true-raw
+    no-text-unfit _ a.bytes.now a.seat a.row.now a.g c.in-Bytes.is c.is_fit.ensures c.if-not-is_fit.true-raw
 
 pub returns-in-Null : goal.returns-in-Null
-returns-in-Null c = let e = (goal.at.returns-in-Null c).After-clear in
-    let a = e.before.before.before.before.before.before.args in
-    no-text-null _ a.bytes.now a.seat a.row.now a.g e.before.before.enum_told.given.1 _ e.clear.ensures
+returns-in-Null c = let a = c.args in
+    no-text-null _ a.bytes.now a.seat a.row.now a.g c.in-Null.is _ c.clear.ensures
 
 pub returns-in-Bool : goal.returns-in-Bool
-returns-in-Bool c = let a = c.args in no-text-bool _ a.bytes.now a.seat a.row.now a.g _ c.enum_told-in-Bool-1.given.1
+returns-in-Bool c = let a = c.args in no-text-bool _ a.bytes.now a.seat a.row.now a.g _ c.in-Bool.is
 
 pub returns-in-Number : goal.returns-in-Number
-returns-in-Number c = let a = c.args in no-text-number _ a.bytes.now a.seat a.row.now a.g _ c.enum_told-in-Number-1.given.1
+returns-in-Number c = let a = c.args in no-text-number _ a.bytes.now a.seat a.row.now a.g _ c.in-Number.is
 
 pub returns-in-Float32 : goal.returns-in-Float32
-returns-in-Float32 c = let a = c.args in no-text-float32 _ a.bytes.now a.seat a.row.now a.g _ c.enum_told-in-Float32-1.given.1
+returns-in-Float32 c = let a = c.args in no-text-float32 _ a.bytes.now a.seat a.row.now a.g _ c.in-Float32.is
 
 pub returns-in-Float64 : goal.returns-in-Float64
-returns-in-Float64 c = let a = c.args in no-text-float64 _ a.bytes.now a.seat a.row.now a.g _ c.enum_told-in-Float64-1.given.1
+returns-in-Float64 c = let a = c.args in no-text-float64 _ a.bytes.now a.seat a.row.now a.g _ c.in-Float64.is
 
 pub returns-else-not-is_fit : goal.returns-else-not-is_fit
 returns-else-not-is_fit c = let a = c.args in
-    no-text-bytes _ a.bytes.now a.seat a.row.now a.g c.enum_told-in-Bytes-1.given.1 c.is_fit.ensures c.if-not-is_fit.false-raw
+    no-text-bytes _ a.bytes.now a.seat a.row.now a.g c.in-Bytes.is c.is_fit.ensures c.if-not-is_fit.false-raw

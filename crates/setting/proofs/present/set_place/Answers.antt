@@ -7,21 +7,13 @@ pub set_fixed-requires : goal.set_fixed-requires
 set_fixed-requires c = place-leaf c.requires c.if-x-lt-STRING.true
 
 pub returns-then-x-lt-STRING : goal.returns-then-x-lt-STRING
-returns-then-x-lt-STRING c = let e = (goal.at.returns-then-x-lt-STRING c).After-set_fixed in
-    let f = e.before.before in
-    let g = f.before.before.before.before.before in
-    let a = g.args in
-    place-fixed-set g.requires (given_means a.g a.bytes.now) f.if1.true (e.set-fixed.ensures a.bytes.now)
+returns-then-x-lt-STRING c = let a = c.args in
+    place-fixed-set c.requires (given_means a.g a.bytes.now) c.if-x-lt-STRING.true (c.set_fixed.ensures a.bytes.now)
 
 pub returns-then-x-lt-LIST : goal.returns-then-x-lt-LIST
-returns-then-x-lt-LIST c = let e = (goal.at.returns-then-x-lt-LIST c).After-set_text in
-    let f = e.before.before in
-    let g = f.before.before in
-    let h = g.before.before.before.before.before in
-    let a = h.args in
-    place-text-set h.requires (given_means a.g a.bytes.now) g.if1.false f.if2.true e.set-text.ensures
+returns-then-x-lt-LIST c = let a = c.args in
+    place-text-set c.requires (given_means a.g a.bytes.now) c.if-x-lt-STRING.false c.if-x-lt-LIST.true c.set_text.ensures
 
 pub returns : goal.returns
-returns c = let e = (goal.at.returns c).Start in
-    let a = e.args in
-    place-refused e.requires (given_means a.g a.bytes.now) c.if-x-lt-LIST.false
+returns c = let a = c.args in
+    place-refused c.requires (given_means a.g a.bytes.now) c.if-x-lt-LIST.false

@@ -3,7 +3,5 @@ use Rattle.setting.proofs.Written.{value-stored}
 use Rattle.setting.proofs.puts.put_bits.Goals as goal
 
 pub returns : goal.returns
-returns c = let e = (goal.at.returns c).After-put in
-    let f = e.before.before.before.before in
-    let a = f.before.before.before.args in
-    value-stored a.row.now a.seat a.v f.clear-null.ensures e.put.ensures
+returns c = let a = c.args in
+    value-stored a.row.now a.seat a.v c.clear_null.ensures c.put.ensures

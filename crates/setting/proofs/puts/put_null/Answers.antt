@@ -3,7 +3,5 @@ use Rattle.setting.proofs.Written.{null-stored}
 use Rattle.setting.proofs.puts.put_null.Goals as goal
 
 pub returns : goal.returns
-returns c = let e = (goal.at.returns c).After-clear in
-    let f = e.before.before.before.before in
-    let a = f.before.before.before.args in
-    null-stored a.row.now a.seat f.set-null.ensures e.clear.ensures
+returns c = let a = c.args in
+    null-stored a.row.now a.seat c.set_null.ensures c.clear.ensures

@@ -19,7 +19,7 @@ loop-q-preserved c = let a = c.args in let v = c.loop-q.invariant in
     let l = c.loop-q in (
       omega (arith, v.0),
       omega arith,
-      c.set_null.auto.0 ∙ v.2,
+      c.set_null.auto.b ∙ v.2,
       rw c.set_null.ensures (sym (marked_step l.m a.at l.q a.b c.loop-q-test.true)) ∙ v.3,
     )
 

@@ -16,19 +16,11 @@ pub returns-then-from-ne0 : goal.returns-then-from-ne0
 returns-then-from-ne0 c = search (child-there, place-odd)
 
 pub returns-then-size-le8 : goal.returns-then-size-le8
-returns-then-size-le8 c = let e = (goal.at.returns-then-size-le8 c).Else-from-ne0 in
-    let p = e.before.before in
-    let q = p.before.before in
-    let r = q.before.before in
-    child-there r.is-null.ensures q.before.if1.false (place-unit (slot-bounds q.offset_at.ensures p.size-at.ensures p.before.if2.false)
-    e.if4.false r.before.before.before.requires.whole e.before.if3.false c.if-size-ne0.true
-    (leb-true p.size-at.result 8 c.if-size-le8.true-raw) c.take.ensures)
+returns-then-size-le8 c =
+    child-there c.is_null.ensures c.if-is_null.false (place-unit (slot-bounds c.offset_at-from.ensures c.size_at-size.ensures c.if-from-start.false)
+    c.if-from-ne0.false c.requires.whole c.if-b-end.false c.if-size-ne0.true (leb-true c.size_at-size.result 8 c.if-size-le8.true-raw) c.take.ensures)
 
 pub returns : goal.returns
-returns c = let e = (goal.at.returns c).Else-from-ne0 in
-    let p = e.before.before in
-    let q = p.before.before in
-    let r = q.before.before in
-    child-there r.is-null.ensures q.before.if1.false (place-beside (slot-bounds q.offset_at.ensures p.size-at.ensures p.before.if2.false)
-    e.if4.false r.before.before.before.requires.whole e.before.if3.false c.pad_size.ensures
-    c.admit.ensures)
+returns c =
+    child-there c.is_null.ensures c.if-is_null.false (place-beside (slot-bounds c.offset_at-from.ensures c.size_at-size.ensures c.if-from-start.false)
+    c.if-from-ne0.false c.requires.whole c.if-b-end.false c.pad_size.ensures c.admit.ensures)
