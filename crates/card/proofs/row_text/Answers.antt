@@ -1,19 +1,17 @@
 -- `card::row_text` meets its contract: what is walked was accepted. Assumes nothing.
+use Rattle.std.proofs.lemmas.Result.{IfOk-weaker}
 use Rattle.lettering.proofs.Putting.{walked_as}
 use Rattle.card.proofs.Checked.{checked, text-done, text-refused, refusal-walked}
 use Rattle.card.proofs.row_text.Goals as goal
 
 pub accepted_text-requires : goal.accepted_text-requires
-accepted_text-requires c = let check = c.check in
-    (checked _ _ _ check.ensures c.enum_told-1.given.1, c.requires)
+accepted_text-requires g c = (checked _ _ _ c.check.ensures c.in-Done.is, c.requires)
 
 pub returns-in-Done : goal.returns-in-Done
-returns-in-Done c = let check = c.check in
-    let told = c.enum_told-1 in
-    let accepted-text = c.accepted_text in
-    walked_as (text-done _ _ _ check.ensures told.given.1) accepted-text.ensures
+returns-in-Done g c =
+    let same = text-done _ _ _ c.check.ensures c.in-Done.is in
+    IfOk-weaker c.accepted_text.result _ _ (λ r W. walked_as same W) c.accepted_text.ensures
 
-pub returns-in-Refused : goal.returns-in-Refused
-returns-in-Refused c = let t = (goal.at.returns-in-Refused c).In-Refused-2 in
-    walked_as (text-refused _ _ _ _ _ t.before.before.check.ensures t.r.given.1 c.number.ensures)
-    (refusal-walked _ t.before.before.before.before.before.before.requires c.refused.ensures)
+pub returns-in_ok-say_place-in-Refused : goal.returns-in_ok-say_place-in-Refused
+returns-in_ok-say_place-in-Refused g c =
+    walked_as (text-refused _ _ _ _ _ c.check.ensures c.in-Refused.is c.number.ensures) (refusal-walked _ c.requires c.refused.ensures)

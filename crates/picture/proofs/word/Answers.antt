@@ -34,5 +34,5 @@ pub returns : goal.returns
 unfolding word
 returns c =
     let seven = word-left
-        c.args.w c.requires.0 c.if-w-eq0.false c.if-w-eq1.false c.if-w-eq2.false c.if-w-eq3.false c.if-w-eq4.false c.if-w-eq5.false c.if-w-eq6.false in
+    c.args.w c.requires.0 c.if-w-eq0.false c.if-w-eq1.false c.if-w-eq2.false c.if-w-eq3.false c.if-w-eq4.false c.if-w-eq5.false c.if-w-eq6.false in
     word-is 7 _ seven c.put-2.ensures

@@ -5,6 +5,7 @@ use Prim.Native.Nat.{ℕ}
 use native.Mathlib.Omega.{arith}
 use lib.ListN.{length-replicate}
 use Rattle.batch.specs.Entries.{rows_of}
+use Rattle.std.proofs.lemmas.Result.{IfOk-weaker}
 use Rattle.lettering.proofs.Putting.{walked_as}
 use Rattle.card.specs.Rows.{rows_text}
 use Rattle.card.proofs.Tabled.{schema-fits, made}
@@ -12,20 +13,20 @@ use Rattle.card.proofs.Turns.{batch-judged}
 use Rattle.card.proofs.batches.accepted_text.Goals as goal
 
 pub build-n-requires : goal.build-n-requires
-build-n-requires c = schema-fits _ (batch-judged _ _ c.requires.0) (length-replicate {0} {A = ℕ} 512 0)
+build-n-requires g c = schema-fits _ (batch-judged _ _ c.requires.0) (length-replicate {0} {A = ℕ} 512 0)
 
 pub slice_bounds-room-end : goal.slice_bounds-room-end
-slice_bounds-room-end c = let got = made (batch-judged _ _ c.requires.0) c.build-n.ensures in
-    omega (arith, got.room, c.build-n.auto.1.0, length-replicate {0} {A = ℕ} 512 0)
+slice_bounds-room-end g c = let got = made (batch-judged _ _ c.requires.0) c.build-n.ensures in
+    omega (arith, got.room, c.build-n.auto.t, length-replicate {0} {A = ℕ} 512 0)
 
 pub slice_bounds-rows_text-end : goal.slice_bounds-rows_text-end
-slice_bounds-rows_text-end c = let got = made (batch-judged _ _ c.requires.0) c.build-n.ensures in
+slice_bounds-rows_text-end g c = let got = made (batch-judged _ _ c.requires.0) c.build-n.ensures in
     got.size
 
 pub rows_text-requires : goal.rows_text-requires
-rows_text-requires c = let got = made (batch-judged _ _ c.requires.0) c.build-n.ensures in
+rows_text-requires g c = let got = made (batch-judged _ _ c.requires.0) c.build-n.ensures in
     (got.table, rw got.says c.requires.0, c.requires.1)
 
 pub returns : goal.returns
-returns c = let got = made (batch-judged _ _ c.requires.0) c.build-n.ensures in
-    walked_as (ap (λ (s : List ℕ). rows_text s 0 (rows_of c.args.b.now)) got.says) c.rows_text.ensures
+returns g c = let got = made (batch-judged _ _ c.requires.0) c.build-n.ensures in
+    IfOk-weaker c.rows_text.result _ _ (λ r W. walked_as (ap (λ (s : List ℕ). rows_text s 0 (rows_of c.args.b.now)) got.says) W) c.rows_text.ensures

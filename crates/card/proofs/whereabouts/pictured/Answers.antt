@@ -4,26 +4,27 @@ use mathlib.Core.List.{List}
 use Prim.Native.Nat.{ℕ}
 use native.Mathlib.Omega.{arith}
 use lib.ListN.{length-replicate}
+use Rattle.std.proofs.lemmas.Result.{IfOk-weaker}
 use Rattle.lettering.proofs.Putting.{walked_as}
 use Rattle.picture.specs.Picture.{fault_of, shown}
 use Rattle.card.proofs.Tabled.{schema-fits, made, made-open}
 use Rattle.card.proofs.whereabouts.pictured.Goals as goal
 
 pub build-n-requires : goal.build-n-requires
-build-n-requires c = schema-fits _ c.requires.0.schema (length-replicate {0} {A = ℕ} 512 0)
+build-n-requires g c = schema-fits _ c.requires.0.schema (length-replicate {0} {A = ℕ} 512 0)
 
 pub slice_bounds-room-end : goal.slice_bounds-room-end
-slice_bounds-room-end c = let got = made c.requires.0.schema c.build-n.ensures in
-    omega (arith, got.room, c.build-n.auto.1.0, length-replicate {0} {A = ℕ} 512 0)
+slice_bounds-room-end g c = let got = made c.requires.0.schema c.build-n.ensures in
+    omega (arith, got.room, c.build-n.auto.t, length-replicate {0} {A = ℕ} 512 0)
 
 pub slice_bounds-charted-end : goal.slice_bounds-charted-end
-slice_bounds-charted-end c = let got = made c.requires.0.schema c.build-n.ensures in
+slice_bounds-charted-end g c = let got = made c.requires.0.schema c.build-n.ensures in
     got.size
 
 pub charted-requires : goal.charted-requires
-charted-requires c = (made-open c.requires.0 c.build-n.ensures, c.requires.1)
+charted-requires g c = (made-open c.requires.0 c.build-n.ensures, c.requires.1)
 
 pub returns : goal.returns
-returns c = let a = c.args in
+returns g c = let a = c.args in
     let got = made c.requires.0.schema c.build-n.ensures in
-    walked_as (ap (λ (s : List ℕ). shown s a.row.now (fault_of a.sound a.place)) got.says) c.charted.ensures
+    IfOk-weaker c.charted.result _ _ (λ r W. walked_as (ap (λ (s : List ℕ). shown s a.row.now (fault_of a.sound a.place)) got.says) W) c.charted.ensures

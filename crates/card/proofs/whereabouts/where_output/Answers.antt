@@ -1,4 +1,5 @@
 -- `card::whereabouts::where_output` meets its contract: the input is refused, or its row is shown. Assumes nothing.
+use Rattle.std.proofs.lemmas.Result.{IfOk-weaker}
 use Rattle.lettering.proofs.Putting.{walked_as}
 use Rattle.card.specs.Whereabouts.{where_text, where_output_of}
 use Rattle.card.proofs.Checked.{refusal-walked}
@@ -6,38 +7,35 @@ use Rattle.card.proofs.Apart.{ends-inside, split-short, split_parts}
 use Rattle.card.proofs.whereabouts.where_output.Goals as goal
 
 pub slice_bounds-where_text-count : goal.slice_bounds-where_text-count
-slice_bounds-where_text-count c = let a = c.args.input.now in
-    (ends-inside a _ _ c.take_apart.ensures c.end-1.given.1).0
+slice_bounds-where_text-count g c = let a = c.args.input.now in
+    (ends-inside a _ _ c.take_apart.ensures c.in-Parts.is).0
 
 pub slice_bounds-where_text-start : goal.slice_bounds-where_text-start
-slice_bounds-where_text-start c = let a = c.args.input.now in
-    (ends-inside a _ _ c.take_apart.ensures c.end-1.given.1).0
+slice_bounds-where_text-start g c = let a = c.args.input.now in
+    (ends-inside a _ _ c.take_apart.ensures c.in-Parts.is).0
 
 pub slice_bounds-where_text-end : goal.slice_bounds-where_text-end
-slice_bounds-where_text-end c = let a = c.args.input.now in
-    (ends-inside a _ _ c.take_apart.ensures c.end-1.given.1).1
+slice_bounds-where_text-end g c = let a = c.args.input.now in
+    (ends-inside a _ _ c.take_apart.ensures c.in-Parts.is).1
 
 pub slice_bounds-where_text-count-in-Parts : goal.slice_bounds-where_text-count-in-Parts
-slice_bounds-where_text-count-in-Parts c = let a = c.args.input.now in
-    (ends-inside a _ _ c.take_apart.ensures c.end-1.given.1).1
+slice_bounds-where_text-count-in-Parts g c = let a = c.args.input.now in
+    (ends-inside a _ _ c.take_apart.ensures c.in-Parts.is).1
 
 pub slice_bounds-where_text-start-in-Parts : goal.slice_bounds-where_text-start-in-Parts
-slice_bounds-where_text-start-in-Parts c = let a = c.args.input.now in
-    (ends-inside a _ _ c.take_apart.ensures c.end-1.given.1).1
+slice_bounds-where_text-start-in-Parts g c = let a = c.args.input.now in
+    (ends-inside a _ _ c.take_apart.ensures c.in-Parts.is).1
 
 pub returns-in-Short : goal.returns-in-Short
 unfolding where_output_of
-returns-in-Short c = let take-apart = c.take_apart in
-    let enum-told' = c.enum_told-1 in
+returns-in-Short g c = let take-apart = c.take_apart in
     let pre = c.requires in
     let refused' = c.refused in
-    let short = split-short where_text _ _ take-apart.ensures enum-told'.given.1 in
+    let short = split-short where_text _ _ take-apart.ensures c.in-Short.is in
     walked_as short (refusal-walked 1 pre refused'.ensures)
 
 pub returns-in-Parts : goal.returns-in-Parts
 unfolding where_output_of
-returns-in-Parts c = let take-apart = c.take_apart in
-    let end = c.end-1 in
-    let where-text = c.where_text in
-    let parts = split_parts where_text _ _ take-apart.ensures _ end.given.1 in
-    walked_as parts where-text.ensures
+returns-in-Parts g c = let take-apart = c.take_apart in
+    let parts = split_parts where_text _ _ take-apart.ensures _ c.in-Parts.is in
+    IfOk-weaker c.where_text.result _ _ (λ r W. walked_as parts W) c.where_text.ensures
