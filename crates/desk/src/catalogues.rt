@@ -27,12 +27,7 @@ pub fn loaf_catalogue_check(catalogue: &[u8], number: usize, row: &[u8]) -> u64
     codes::outcome_code(catalogue::check(catalogue, number, row))
 }
 
-pub fn loaf_catalogue_write(
-    catalogue: &[u8],
-    number: usize,
-    listing: &[u8],
-    out: &mut [u8],
-) -> u64
+pub fn loaf_catalogue_write(catalogue: &[u8], number: usize, listing: &[u8], out: &mut [u8]) -> u64
     ensures { Fills
         (write_at catalogue.now number listing.now (length out.old))
         (written_at catalogue.now number listing.now out.old)
@@ -41,12 +36,7 @@ pub fn loaf_catalogue_write(
     codes::length_code(catalogue::write(catalogue, number, listing, out))
 }
 
-pub fn loaf_catalogue_list(
-    catalogue: &[u8],
-    number: usize,
-    row: &[u8],
-    out: &mut [u8],
-) -> u64
+pub fn loaf_catalogue_list(catalogue: &[u8], number: usize, row: &[u8], out: &mut [u8]) -> u64
     ensures { Fills
         (list_at catalogue.now number row.now (length out.old))
         (listed_at catalogue.now number row.now out.old)

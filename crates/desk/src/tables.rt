@@ -100,12 +100,7 @@ pub fn loaf_batch_fetch_by(
     told::fetched(answer, batches::fetch_by(schema, table, batch, k))
 }
 
-pub fn loaf_batch_check_by(
-    schema: &[u8],
-    table: &[u64],
-    batch: &[u8],
-    answer: &mut [u64],
-) -> u64
+pub fn loaf_batch_check_by(schema: &[u8], table: &[u64], batch: &[u8], answer: &mut [u64]) -> u64
     ensures { Beside
         (check_code (B.check_of (schema_by schema.now table.now) batch.now))
         (check_words (B.check_of (schema_by schema.now table.now) batch.now))
