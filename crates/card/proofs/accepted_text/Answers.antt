@@ -26,4 +26,4 @@ whole-requires g c = (made-open c.requires.0 c.build-n.ensures, c.requires.1, om
 
 pub returns : goal.returns
 returns g c = let got = made c.requires.0.schema c.build-n.ensures in
-    IfOk-weaker c.whole.result _ _ (λ r W. walked_as (ap (λ (s : List ℕ). card_of s c.args.row.now) got.says) W) c.whole.ensures
+    IfOk-weaker c.whole.result _ _ (λ r W. walked_as (ap (λ (s : List ℕ). card_of s c.args.row.now) got.says) W) c.whole.ensures.walked
