@@ -1,7 +1,7 @@
 // The card tool: a row or a batch on standard input, the leaves as lines of text on standard output, or the picture of a row.
 #![tactic(auto)]
 
-ghost use Rattle.std.specs.Prelude.{◌≡◌, length, IfOk};
+ghost use Rattle.std.specs.Prelude.{◌≡◌, length, IfOk, ◌≤◌, IsOk};
 ghost use Rattle.lettering.specs.Text.{Puts};
 ghost use Rattle.lettering.specs.Held.{Walked};
 ghost use Rattle.leaves.specs.Whole.{card_of};
@@ -36,7 +36,8 @@ fn say_place<E: Write>(errors: &mut E, r: Refusal) -> Result<()> {
 // The card of an accepted row, by the table of its schema, which is worked out once.
 fn accepted_text<W: Write>(to: &mut W, schema: &[u8], row: &[u8], out: &mut [u8]) -> Result<usize>
     requires { Ready schema.now row.now × (length out.old ≡ 262144) }
-    ensures { IfOk result (λ r. Walked (card_of schema.now row.now) out.old 0 r out.new) }
+    ensures walked { IfOk result (λ r. Walked (card_of schema.now row.now) out.old 0 r out.new) }
+    ensures held { length (card_of schema.now row.now) ≤ 229000 → IsOk result }
 {
     let mut room = [0u64; 512];
     let n = table::build(schema, &mut room);

@@ -1,5 +1,5 @@
 // What the tool writes where the picture of a row is asked for.
-ghost use Rattle.std.specs.Prelude.{◌≡◌, length, IfOk};
+ghost use Rattle.std.specs.Prelude.{◌≡◌, length, IfOk, ◌≤◌, IsOk};
 ghost use Rattle.lettering.specs.Held.{Walked};
 ghost use Rattle.picture.specs.Picture.{fault_of, shown};
 ghost use Rattle.card.specs.Output.{Ready};
@@ -19,7 +19,8 @@ fn pictured<W: Write>(
     out: &mut [u8],
 ) -> Result<usize>
     requires { Ready schema.now row.now × (length out.old ≡ 262144) }
-    ensures { IfOk result (λ r. Walked (shown schema.now row.now (fault_of sound place)) out.old 0 r out.new) }
+    ensures walked { IfOk result (λ r. Walked (shown schema.now row.now (fault_of sound place)) out.old 0 r out.new) }
+    ensures held { length (shown schema.now row.now (fault_of sound place)) ≤ 229000 → IsOk result }
 {
     let mut room = [0u64; 512];
     let n = table::build(schema, &mut room);

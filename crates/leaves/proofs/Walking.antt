@@ -97,6 +97,25 @@ module _ {s row : List ℕ} {n count : ℕ} {p : Path} {out₀ : List ℕ} {next
     within = omega (arith, K.within, K.long);
   }
 
+  -- the text of child i behind those before it, where the whole is held
+  one-more : let f = beneath s row n in let P = take n p.steps in in_order f P i ++ card_at s row (child_at child n i) ≡ in_order f P (i + 1)
+  one-more =
+      let f = beneath s row n in
+      let P = take n p.steps in
+      let d : 16 - child.len ≡ 15 - n = omega (arith, K.len) in
+      let same = child-path child p.steps n i K.steps h K.len K.front in
+      let t : card_at s row (child_at child n i) ≡ f (P ++ (i ∷ [])) = ap₂ (λ (k : ℕ) (x : List ℕ). card_from k s row x) d same in
+      ap (λ (x : List ℕ). in_order f P i ++ x) t ∙ in-order-more f P i
+
+  pub child-fits : i < count → next₀ + length (passed s row n p count) ≤ 229000 → next + length (card_at s row (child_at child n i)) ≤ 229000
+  child-fits l fits =
+      let f = beneath s row n in
+      let P = take n p.steps in
+      let A = K.held fits in
+      let long : length (in_order f P (i + 1)) ≡ length (in_order f P i) + length (card_at s row (child_at child n i)) =
+      ap length (sym one-more) ∙ length-append (in_order f P i) (card_at s row (child_at child n i)) in
+      omega (arith, A.next, in-order-grows f P (i + 1) count (omega arith))
+
   -- one more child
   pub children-next : {out' : List ℕ} {r : ℕ} → i < count → Walked (card_at s row (child_at child n i)) out next r out' → length out' ≡ length out
       → Children s row n count p out₀ next₀ (child_at child n i) out' r (i + 1)
@@ -107,18 +126,7 @@ module _ {s row : List ℕ} {n count : ℕ} {p : Path} {out₀ : List ℕ} {next
     len = K.len;
     steps = length-set child.steps n i ∙ K.steps;
     front = take-set-le n child.steps n i (omega arith) ∙ K.front;
-    held = λ fits.
-        let f = beneath s row n in
-        let P = take n p.steps in
-        let A = K.held fits in
-        let d : 16 - child.len ≡ 15 - n = omega (arith, K.len) in
-        let same = child-path child p.steps n i K.steps h K.len K.front in
-        let t : card_at s row (child_at child n i) ≡ f (P ++ (i ∷ [])) = ap₂ (λ (k : ℕ) (x : List ℕ). card_from k s row x) d same in
-        let long : length (in_order f P (i + 1)) ≡ length (in_order f P i) + length (f (P ++ (i ∷ []))) =
-        ap length (sym (in-order-more f P i)) ∙ length-append (in_order f P i) (f (P ++ (i ∷ []))) in
-        let room : next + length (card_at s row (child_at child n i)) ≤ 229000 =
-        rw t (omega (arith, A.next, in-order-grows f P (i + 1) count (omega arith))) in
-        puts-as (ap (λ (x : List ℕ). in_order f P i ++ x) t ∙ in-order-more f P i) (puts_then A (W.held room));
+    held = λ fits. puts-as one-more (puts_then (K.held fits) (W.held (child-fits l fits)));
   }
 
 module _ {t row out : List ℕ} {path : Path} {used at : ℕ} (q : WalkRoom t row path out used) (S : Spilt used at) where
@@ -143,34 +151,51 @@ module _ {t row out : List ℕ} {path : Path} {used at : ℕ} (q : WalkRoom t ro
     unfolding card_from
     split n p h = let e : 16 - n ≡ suc (15 - n) = omega arith in rw e
 
+    -- the texts of all the children behind the place's own
+    all-below : {n : ℕ} (c : Path) → n ≡ path.len → c.steps ≡ path.steps → n < 16
+        → text_at s row (path_of path) ++ passed s row n c r.count ≡ card_at s row path
+    all-below {n} c en ec h =
+        let f = beneath s row n in
+        let P = take n c.steps in
+        let is : P ≡ path_of path = ap₂ take en ec ∙ sym (path-of path q.few q.steps) in
+        let same : in_order f P r.count ≡ in_order f (path_of path) (below (read_of s row (path_of path))) =
+        ap₂ (λ (x : List ℕ) (m : ℕ). in_order f x m) is G.count in
+        ap (λ (x : List ℕ). text_at s row (path_of path) ++ x) same ∙ split n (path_of path) h
+        ∙ ap (λ (m : ℕ). card_from (16 - m) s row (path_of path)) en
+
+    pub below-fits : {n : ℕ} (c : Path) → n ≡ path.len → c.steps ≡ path.steps → n < 16 → used + length (card_at s row path) ≤ 229000
+        → r.next + length (passed s row n c r.count) ≤ 229000
+    below-fits {n} c en ec h l =
+        let long : length (card_at s row path) ≡ length (text_at s row (path_of path)) + length (passed s row n c r.count) =
+        ap length (sym (all-below c en ec h)) ∙ length-append (text_at s row (path_of path)) (passed s row n c r.count) in
+        let u : used ≤ 229000 = omega arith in
+        let T = at-used S u G.text in
+        omega (arith, T.next)
+
     -- a place and all its children
     pub walked_all : {n : ℕ} {c child : Path} {i next : ℕ} {out'' : List ℕ} → n ≡ path.len → c.steps ≡ path.steps → n < 16
         → Children s row n r.count c out' r.next child out'' next i → r.count ≤ i → length out' ≡ length out
         → Walked (card_at s row path) out used next out''
     walked_all {n} {c} {i = i} en ec h K b e =
-        let f = beneath s row n in
-        let P = take n c.steps in
         let k : i ≡ r.count = omega (arith, K.most) in
-        let is : P ≡ path_of path = ap₂ take en ec ∙ sym (path-of path q.few q.steps) in
-        let same : in_order f P r.count ≡ in_order f (path_of path) (below (read_of s row (path_of path))) =
-        ap₂ (λ (x : List ℕ) (m : ℕ). in_order f x m) is G.count in
-        let whole : text_at s row (path_of path) ++ in_order f P r.count ≡ card_at s row path =
-        ap (λ (x : List ℕ). text_at s row (path_of path) ++ x) same ∙ split n (path_of path) h
-        ∙ ap (λ (m : ℕ). card_from (16 - m) s row (path_of path)) en in
-        let long : length (card_at s row path) ≡ length (text_at s row (path_of path)) + length (in_order f P r.count) =
-        ap length (sym whole) ∙ length-append (text_at s row (path_of path)) (in_order f P r.count) in
         record {
           within = omega (arith, K.within);
           held = λ l.
               let u : used ≤ 229000 = omega arith in
               let T = at-used S u G.text in
-              puts-as whole (puts_then T (puts-as (ap (in_order f P) k) (K.held (omega (arith, T.next)))));
+              puts-as (all-below c en ec h) (puts_then T (puts-as (ap (passed s row n c) k) (K.held (below-fits c en ec h l))));
         }
+
+card-root : (s row : List ℕ) (p : Path) → p.len ≡ 0 → length p.steps ≡ 16 → card_at s row p ≡ card_of s row
+unfolding card_of
+card-root s row p z e =
+    let is = path-of p (omega arith) e ∙ ap (λ (n : ℕ). take n p.steps) z in
+    ap₂ (λ (k : ℕ) (x : List ℕ). card_from k s row x) (ap (λ (n : ℕ). 16 - n) z) is
 
 pub walked-root : (s row : List ℕ) {out out' : List ℕ} {used r : ℕ} (p : Path) → p.len ≡ 0 → length p.steps ≡ 16
     → Walked (card_at s row p) out used r out' → Walked (card_of s row) out used r out'
-unfolding card_of
-walked-root s row p z e W =
-    let is = path-of p (omega arith) e ∙ ap (λ (n : ℕ). take n p.steps) z in
-    let t : card_at s row p ≡ card_from 16 s row [] = ap₂ (λ (k : ℕ) (x : List ℕ). card_from k s row x) (ap (λ (n : ℕ). 16 - n) z) is in
-    rw t at W
+walked-root s row p z e W = rw (card-root s row p z e) at W
+
+pub root-fits : (s row : List ℕ) (used : ℕ) (p : Path) → p.len ≡ 0 → length p.steps ≡ 16
+    → used + length (card_of s row) ≤ 229000 → used + length (card_at s row p) ≤ 229000
+root-fits s row used p z e l = rw (card-root s row p z e) l

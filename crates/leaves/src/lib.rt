@@ -1,7 +1,7 @@
 // The card of a row that was accepted: a line of text for each of its leaves and nulls.
 #![tactic(auto)]
 
-ghost use Rattle.std.specs.Prelude.{◌≡◌, ◌≤◌, length, IfOk};
+ghost use Rattle.std.specs.Prelude.{◌≡◌, ◌+◌, ◌≤◌, length, IfOk, IsOk};
 ghost use Rattle.table.specs.Tables.{schema_of};
 ghost use Rattle.answers.specs.Meaning.{meaning};
 ghost use Rattle.answers.specs.Paths.{path_of};
@@ -96,7 +96,8 @@ fn place<W: Write>(
     used: usize,
 ) -> Result<usize>
     requires { WalkRoom t.now row.now path out.old used }
-    ensures { IfOk result (λ r. Walked (card_at (schema_of t.now) row.now path) out.old used r out.new) }
+    ensures walked { IfOk result (λ r. Walked (card_at (schema_of t.now) row.now path) out.old used r out.new) }
+    ensures held { used + length (card_at (schema_of t.now) row.now path) ≤ 229000 → IsOk result }
 {
     let at = lettering::spill(to, out, used)?;
     let here = show(t, row, path, out, at);
@@ -126,7 +127,8 @@ pub fn whole<W: Write>(
     used: usize,
 ) -> Result<usize>
     requires { Open t.now row.now × (length out.old ≡ 262144) × (used ≤ 262144) }
-    ensures { IfOk result (λ r. Walked (card_of (schema_of t.now) row.now) out.old used r out.new) }
+    ensures walked { IfOk result (λ r. Walked (card_of (schema_of t.now) row.now) out.old used r out.new) }
+    ensures held { used + length (card_of (schema_of t.now) row.now) ≤ 229000 → IsOk result }
 {
     let root = Path {
         steps: [0; 16],

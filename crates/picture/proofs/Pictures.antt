@@ -62,6 +62,10 @@ module _ {row m : List ℕ} {f : Option ℕ} where
             puts-as (lines_more row m f u) (puts_then A (puts_then (at-used S few p) q));
       }
 
+  -- what is held of a picture that is held whole is few enough to wait
+  pub drawn-few : {out₀ out : List ℕ} {u used : ℕ} → Drawn row m f out₀ u used out → length (picture row m f) ≤ 229000 → used ≤ 229000
+  drawn-few {u = u} d l = let A = d.held l in omega (arith, A.next, lines-within row m f u d.passed)
+
   pub drawn-end : {out₀ out out' : List ℕ} {u used r : ℕ} → Drawn row m f out₀ u used out → line_count row ≤ u
       → Puts out used (behind f (line_count row)) r out' → Walked (picture row m f) out₀ 0 r out'
   unfolding picture

@@ -1,7 +1,7 @@
 // The picture of a row: a line for each 8 of its bytes, and a mark under its first wrong byte.
 #![tactic(auto)]
 
-ghost use Rattle.std.specs.Prelude.{◌≡◌, ◌+◌, ◌*◌, ◌≤◌, ◌<◌, length, IfOk};
+ghost use Rattle.std.specs.Prelude.{◌≡◌, ◌+◌, ◌*◌, ◌≤◌, ◌<◌, length, IfOk, IsOk};
 ghost use Rattle.words.specs.Bytes.{part, zeros};
 ghost use Rattle.answers.specs.Paths.{path_of};
 ghost use Rattle.table.specs.Tables.{schema_of};
@@ -210,7 +210,8 @@ fn picture<W: Write>(
     out: &mut [u8],
 ) -> Result<usize>
     requires { Long chart.now × (length row.now ≤ 16384) × (length out.old ≡ 262144) }
-    ensures { IfOk result (λ r. Walked (picture_of row.now chart.now (fault_of sound place)) out.old 0 r out.new) }
+    ensures walked { IfOk result (λ r. Walked (picture_of row.now chart.now (fault_of sound place)) out.old 0 r out.new) }
+    ensures held { length (picture_of row.now chart.now (fault_of sound place)) ≤ 229000 → IsOk result }
 {
     let n = (row.len() + 7) >> 3;
     let mut used = 0;
@@ -240,7 +241,8 @@ pub fn charted<W: Write>(
     out: &mut [u8],
 ) -> Result<usize>
     requires { Open t.now row.now × (length out.old ≡ 262144) }
-    ensures { IfOk result (λ r. Walked (shown (schema_of t.now) row.now (fault_of sound place)) out.old 0 r out.new) }
+    ensures walked { IfOk result (λ r. Walked (shown (schema_of t.now) row.now (fault_of sound place)) out.old 0 r out.new) }
+    ensures held { length (shown (schema_of t.now) row.now (fault_of sound place)) ≤ 229000 → IsOk result }
 {
     let mut chart = empty_chart();
     chart::draw(t, row, &mut chart);

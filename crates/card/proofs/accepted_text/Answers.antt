@@ -3,7 +3,7 @@ use mathlib.Core.Path.{ap}
 use mathlib.Core.List.{List}
 use Prim.Native.Nat.{ℕ}
 use native.Mathlib.Omega.{arith}
-use lib.ListN.{length-replicate}
+use lib.ListN.{length, length-replicate}
 use Rattle.std.proofs.lemmas.Result.{IfOk-weaker}
 use Rattle.lettering.proofs.Putting.{walked_as}
 use Rattle.leaves.specs.Whole.{card_of}
@@ -24,6 +24,12 @@ slice_bounds-whole-end g c = let got = made c.requires.0.schema c.build-n.ensure
 pub whole-requires : goal.whole-requires
 whole-requires g c = (made-open c.requires.0 c.build-n.ensures, c.requires.1, omega arith)
 
-pub returns : goal.returns
-returns g c = let got = made c.requires.0.schema c.build-n.ensures in
-    IfOk-weaker c.whole.result _ _ (λ r W. walked_as (ap (λ (s : List ℕ). card_of s c.args.row.now) got.says) W) c.whole.ensures
+pub returns-clause-walked : goal.returns-clause-walked
+returns-clause-walked g c = let got = made c.requires.0.schema c.build-n.ensures in
+    IfOk-weaker c.whole.result _ _ (λ r W. walked_as (ap (λ (s : List ℕ). card_of s c.args.row.now) got.says) W) c.whole.ensures.walked
+
+pub returns-clause-held : goal.returns-clause-held
+returns-clause-held g c l =
+    let got = made c.requires.0.schema c.build-n.ensures in
+    let same = ap (λ (s : List ℕ). length (card_of s c.args.row.now)) got.says in
+    c.whole.ensures.held (omega (arith, same, l))

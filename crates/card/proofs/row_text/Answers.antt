@@ -10,7 +10,7 @@ accepted_text-requires g c = (checked _ _ _ c.check.ensures c.in-Done.is, c.requ
 pub returns-in-Done : goal.returns-in-Done
 returns-in-Done g c =
     let same = text-done _ _ _ c.check.ensures c.in-Done.is in
-    IfOk-weaker c.accepted_text.result _ _ (λ r W. walked_as same W) c.accepted_text.ensures
+    IfOk-weaker c.accepted_text.result _ _ (λ r W. walked_as same W) c.accepted_text.ensures.walked
 
 pub returns-in_ok-say_place-in-Refused : goal.returns-in_ok-say_place-in-Refused
 returns-in_ok-say_place-in-Refused g c =

@@ -1,8 +1,9 @@
 -- `leaves::place` meets its contract: the measure is how many steps a path may still take; in the loop the texts of the children
 -- passed stand one behind the other. Assumes nothing.
-use mathlib.Core.Path.{refl, ◌∙◌}
+use mathlib.Core.Path.{refl, sym, ◌∙◌}
+use mathlib.Core.Bool.{true≢false}
 use native.Mathlib.Omega.{arith}
-use Rattle.leaves.proofs.Walking.{children-start, child-room, children-next, show-room, shown-within, walked-last, walked_all}
+use Rattle.leaves.proofs.Walking.{children-start, child-room, child-fits, children-next, show-room, shown-within, walked-last, below-fits, walked_all}
 use Rattle.leaves.proofs.+place.Goals as goal
 
 pub spill-requires : goal.spill-requires
@@ -12,7 +13,8 @@ pub show-here-requires : goal.show-here-requires
 show-here-requires g t c = show-room c.requires c.in_ok-at.ensures.spilt
 
 pub returns-then-n-ge16 : goal.returns-then-n-ge16
-returns-then-n-ge16 g t c = walked-last c.requires c.in_ok-at.ensures.spilt c.show-here.ensures c.if-n-ge16.true
+returns-then-n-ge16 g t c =
+    record { walked = walked-last c.requires c.in_ok-at.ensures.spilt c.show-here.ensures c.if-n-ge16.true; held = λ l. refl }
 
 pub loop-i-init : goal.loop-i-init
 loop-i-init g t c =
@@ -33,7 +35,7 @@ overflow_add-i g t c = omega (arith, c.show-here.ensures.few)
 
 pub loop-i-preserved : goal.loop-i-preserved
 loop-i-preserved g t c =
-    children-next c.loop-i.invariant c.if-n-ge16.false c.loop-i-test.true c.in_ok-next.ensures c.place.auto.out
+    children-next c.loop-i.invariant c.if-n-ge16.false c.loop-i-test.true c.in_ok-next.ensures.walked c.place.auto.out
 
 pub shape_of-out-in_err-next : goal.shape_of-out-in_err-next
 shape_of-out-in_err-next g t c = c.place.auto.out ∙ c.loop-i.invariant.long ∙ c.show-here.auto.out
@@ -45,4 +47,10 @@ pub returns : goal.returns
 returns g t c =
     let show = c.show-here in
     let walked = walked_all c.requires c.in_ok-at.ensures.spilt show.ensures refl refl c.if-n-ge16.false in
-    walked c.loop-i.invariant c.loop-i-test.false show.auto.out
+    record { walked = walked c.loop-i.invariant c.loop-i-test.false show.auto.out; held = λ l. refl }
+
+pub returns-in_err-next-clause-held : goal.returns-in_err-next-clause-held
+returns-in_err-next-clause-held g t c l =
+    let fits = below-fits c.requires c.in_ok-at.ensures.spilt c.show-here.ensures c.args.path refl refl c.if-n-ge16.false l in
+    let ok = c.in_err-next.ensures.held (child-fits c.loop-i.invariant c.if-n-ge16.false c.loop-i-test.true fits) in
+    absurd (true≢false (sym ok))

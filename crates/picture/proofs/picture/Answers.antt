@@ -1,7 +1,8 @@
 -- `picture::picture` meets its contract: the lines passed stand one behind the other. Assumes nothing.
+use mathlib.Core.Path.{refl}
 use native.Mathlib.Omega.{arith}
 use Rattle.picture.proofs.Drawing.{line-most}
-use Rattle.picture.proofs.Pictures.{drawn-start, drawn-next, drawn-end}
+use Rattle.picture.proofs.Pictures.{drawn-start, drawn-next, drawn-few, drawn-end}
 use Rattle.picture.proofs.picture.Goals as goal
 
 pub overflow_add-n : goal.overflow_add-n
@@ -41,4 +42,7 @@ pub behind-requires : goal.behind-requires
 behind-requires g c = let d = c.loop-u.invariant in omega (arith, d.room, d.within, d.long)
 
 pub returns : goal.returns
-returns g c = drawn-end c.loop-u.invariant c.loop-u-test.false c.behind.ensures
+returns g c = record { walked = drawn-end c.loop-u.invariant c.loop-u-test.false c.behind.ensures; held = λ l. refl }
+
+pub returns-in_err-at-clause-held : goal.returns-in_err-at-clause-held
+returns-in_err-at-clause-held g c l = let ok = c.in_err-at.ensures.held (drawn-few c.loop-u.invariant l) in absurd (cc ok)

@@ -74,7 +74,7 @@ loop-at-preserved g c =
     let x = next_row (schema_of c.args.t.now) c.args.b.now bytes c.requires.1 c.loop-at.invariant.0 c.frame_end-end.ensures c.loop-at-test.true in
     let l = c.loop-at in
     let h = c.heading-next in
-    let written = written_next l.invariant.1 x c.in_ok-line.ensures.spilt h.ensures h.auto.out c.in_ok-used.ensures c.whole.auto.out in
+    let written = written_next l.invariant.1 x c.in_ok-line.ensures.spilt h.ensures h.auto.out c.in_ok-used.ensures.walked c.whole.auto.out in
     (passed-next l.invariant.0 x.stands, written)
 
 pub returns : goal.returns

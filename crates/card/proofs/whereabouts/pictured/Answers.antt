@@ -3,7 +3,7 @@ use mathlib.Core.Path.{ap}
 use mathlib.Core.List.{List}
 use Prim.Native.Nat.{ℕ}
 use native.Mathlib.Omega.{arith}
-use lib.ListN.{length-replicate}
+use lib.ListN.{length, length-replicate}
 use Rattle.std.proofs.lemmas.Result.{IfOk-weaker}
 use Rattle.lettering.proofs.Putting.{walked_as}
 use Rattle.picture.specs.Picture.{fault_of, shown}
@@ -24,7 +24,14 @@ slice_bounds-charted-end g c = let got = made c.requires.0.schema c.build-n.ensu
 pub charted-requires : goal.charted-requires
 charted-requires g c = (made-open c.requires.0 c.build-n.ensures, c.requires.1)
 
-pub returns : goal.returns
-returns g c = let a = c.args in
+pub returns-clause-walked : goal.returns-clause-walked
+returns-clause-walked g c = let a = c.args in
     let got = made c.requires.0.schema c.build-n.ensures in
-    IfOk-weaker c.charted.result _ _ (λ r W. walked_as (ap (λ (s : List ℕ). shown s a.row.now (fault_of a.sound a.place)) got.says) W) c.charted.ensures
+    IfOk-weaker c.charted.result _ _ (λ r W. walked_as (ap (λ (s : List ℕ). shown s a.row.now (fault_of a.sound a.place)) got.says) W) c.charted.ensures.walked
+
+pub returns-clause-held : goal.returns-clause-held
+returns-clause-held g c l =
+    let a = c.args in
+    let got = made c.requires.0.schema c.build-n.ensures in
+    let same = ap (λ (s : List ℕ). length (shown s a.row.now (fault_of a.sound a.place))) got.says in
+    c.charted.ensures.held (omega (arith, same, l))

@@ -20,9 +20,9 @@ pictured-requires-in-Refused g c =
 pub returns-in-Done : goal.returns-in-Done
 returns-in-Done g c =
     let same = where-done _ _ _ c.check.ensures c.in-Done.is in
-    IfOk-weaker c.pictured.result _ _ (λ r W. walked_as same W) c.pictured.ensures
+    IfOk-weaker c.pictured.result _ _ (λ r W. walked_as same W) c.pictured.ensures.walked
 
 pub returns-in_ok-say_place-in-Refused : goal.returns-in_ok-say_place-in-Refused
 returns-in_ok-say_place-in-Refused g c =
     let same = where-broken _ _ _ c.check.ensures _ _ c.in-Refused.is c.number-n.ensures _ c.if-n-ne7.false c.place.ensures in
-    IfOk-weaker c.pictured-in-Refused.result _ _ (λ r W. walked_as same W) c.pictured-in-Refused.ensures
+    IfOk-weaker c.pictured-in-Refused.result _ _ (λ r W. walked_as same W) c.pictured-in-Refused.ensures.walked
