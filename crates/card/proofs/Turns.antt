@@ -105,6 +105,34 @@ written_next {s} {b} {out₁ = out₁} {out₂ = out₂} {n = n} {used = used} {
           puts-as (sym all) (puts_then A (puts_then H (c.held (omega (arith, A.next, H.next)))));
     }
 
+-- what is held of rows that are held whole is few enough to wait, and so is the next row's text behind its heading
+pub written-few : {s b out₀ out : List ℕ} {at n end used : ℕ} → Written s b out₀ n used out → Next s b at n end
+    → length (rows_text s 0 (rows_of b)) ≤ 229000 → used ≤ 229000
+written-few {s} {b} {n = n} w x l =
+    let few : n < length (rows_of b) = rw x.row.is x.row.counts in
+    let long : length (rows_text s 0 (take (n + 1) (rows_of b)))
+    ≡ length (rows_text s 0 (take n (rows_of b))) + (length (heading n) + length (card_of s (row_of b n))) =
+    ap length (rows-one s n (rows_of b) few) ∙ rw (length-append, length-append) in
+    let most = rows-front s (n + 1) (rows_of b) in
+    let A = w.held l in
+    omega (arith, A.next)
+
+pub written-fits : {s b out₀ out out₁ : List ℕ} {at n end used next m : ℕ} → Written s b out₀ n used out → Next s b at n end
+    → Spilt used next → Puts out next (heading n) m out₁ → length (rows_text s 0 (rows_of b)) ≤ 229000
+    → m + length (card_of s (part b (at + 4) (end - (at + 4)))) ≤ 229000
+written-fits {s} {b} {at = at} {n = n} {end = end} {used = used} w x S h l =
+    let few : n < length (rows_of b) = rw x.row.is x.row.counts in
+    let long : length (rows_text s 0 (take (n + 1) (rows_of b)))
+    ≡ length (rows_text s 0 (take n (rows_of b))) + (length (heading n) + length (card_of s (row_of b n))) =
+    ap length (rows-one s n (rows_of b) few) ∙ rw (length-append, length-append) in
+    let most = rows-front s (n + 1) (rows_of b) in
+    let A = w.held l in
+    let u : used ≤ 229000 = omega (arith, A.next) in
+    let H = at-used S u h in
+    let same : length (card_of s (part b (at + 4) (end - (at + 4)))) ≡ length (card_of s (row_of b n)) =
+    ap (λ (t : List ℕ). length (card_of s t)) x.row.row in
+    omega (arith, A.next, H.next, same)
+
 pub written-end : {s b out₀ out : List ℕ} {at n used : ℕ} → Written s b out₀ n used out → Passed b at n → at ≡ length b
     → Walked (rows_text s 0 (rows_of b)) out₀ 0 used out
 written-end {s} {b} {n = n} w p e =

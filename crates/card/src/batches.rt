@@ -1,5 +1,5 @@
 // A batch of rows: their cards in turn, each behind a line with the row's number.
-ghost use Rattle.std.specs.Prelude.{◌≡◌, ◌+◌, ◌≤◌, length, IfOk};
+ghost use Rattle.std.specs.Prelude.{◌≡◌, ◌+◌, ◌≤◌, length, IfOk, IsOk};
 ghost use Rattle.table.specs.Tables.{Table, schema_of};
 ghost use Rattle.batch.specs.Entries.{done, rows_of, check_of};
 ghost use Rattle.lettering.specs.Text.{Puts};
@@ -23,7 +23,8 @@ fn heading(out: &mut [u8], at: usize, k: usize) -> usize
 // The rows of an accepted batch, each frame passed once.
 fn rows_text<W: Write>(to: &mut W, t: &[u64], b: &[u8], out: &mut [u8]) -> Result<usize>
     requires { Table t.now × (check_of (schema_of t.now) b.now ≡ done) × (length out.old ≡ 262144) }
-    ensures { IfOk result (λ r. Walked (rows_text (schema_of t.now) 0 (rows_of b.now)) out.old 0 r out.new) }
+    ensures walked { IfOk result (λ r. Walked (rows_text (schema_of t.now) 0 (rows_of b.now)) out.old 0 r out.new) }
+    ensures held { length (rows_text (schema_of t.now) 0 (rows_of b.now)) ≤ 229000 → IsOk result }
 {
     let mut used = 0;
     let mut at = 0;
@@ -43,7 +44,8 @@ fn rows_text<W: Write>(to: &mut W, t: &[u64], b: &[u8], out: &mut [u8]) -> Resul
 // The same by the table of the batch's schema, which is worked out once for all rows.
 fn accepted_text<W: Write>(to: &mut W, s: &[u8], b: &[u8], out: &mut [u8]) -> Result<usize>
     requires { (check_of s.now b.now ≡ done) × (length out.old ≡ 262144) }
-    ensures { IfOk result (λ r. Walked (rows_text s.now 0 (rows_of b.now)) out.old 0 r out.new) }
+    ensures walked { IfOk result (λ r. Walked (rows_text s.now 0 (rows_of b.now)) out.old 0 r out.new) }
+    ensures held { length (rows_text s.now 0 (rows_of b.now)) ≤ 229000 → IsOk result }
 {
     let mut room = [0u64; 512];
     let n = table::build(s, &mut room);

@@ -3,7 +3,7 @@ use mathlib.Core.Path.{ap}
 use mathlib.Core.List.{List}
 use Prim.Native.Nat.{ℕ}
 use native.Mathlib.Omega.{arith}
-use lib.ListN.{length-replicate}
+use lib.ListN.{length, length-replicate}
 use Rattle.batch.specs.Entries.{rows_of}
 use Rattle.std.proofs.lemmas.Result.{IfOk-weaker}
 use Rattle.lettering.proofs.Putting.{walked_as}
@@ -27,6 +27,12 @@ pub rows_text-requires : goal.rows_text-requires
 rows_text-requires g c = let got = made (batch-judged _ _ c.requires.0) c.build-n.ensures in
     (got.table, rw got.says c.requires.0, c.requires.1)
 
-pub returns : goal.returns
-returns g c = let got = made (batch-judged _ _ c.requires.0) c.build-n.ensures in
-    IfOk-weaker c.rows_text.result _ _ (λ r W. walked_as (ap (λ (s : List ℕ). rows_text s 0 (rows_of c.args.b.now)) got.says) W) c.rows_text.ensures
+pub returns-clause-walked : goal.returns-clause-walked
+returns-clause-walked g c = let got = made (batch-judged _ _ c.requires.0) c.build-n.ensures in
+    IfOk-weaker c.rows_text.result _ _ (λ r W. walked_as (ap (λ (s : List ℕ). rows_text s 0 (rows_of c.args.b.now)) got.says) W) c.rows_text.ensures.walked
+
+pub returns-clause-held : goal.returns-clause-held
+returns-clause-held g c l =
+    let got = made (batch-judged _ _ c.requires.0) c.build-n.ensures in
+    let same = ap (λ (s : List ℕ). length (rows_text s 0 (rows_of c.args.b.now))) got.says in
+    c.rows_text.ensures.held (omega (arith, same, l))

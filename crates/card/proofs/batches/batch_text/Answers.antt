@@ -11,7 +11,7 @@ accepted_text-requires g c = (batch-accepted _ _ _ c.check.ensures c.in-Done.is,
 pub returns-in-Done : goal.returns-in-Done
 returns-in-Done g c =
     let same = batch-done _ _ _ c.check.ensures c.in-Done.is in
-    IfOk-weaker c.accepted_text.result _ _ (λ r W. walked_as same W) c.accepted_text.ensures
+    IfOk-weaker c.accepted_text.result _ _ (λ r W. walked_as same W) c.accepted_text.ensures.walked
 
 pub returns-in-Refused : goal.returns-in-Refused
 returns-in-Refused g c =

@@ -1,12 +1,13 @@
 -- `card::batches::rows_text` meets its contract: the frames passed so far are the first of the batch, and the text of their rows stands.
 -- Assumes nothing.
-use mathlib.Core.Path.{◌∙◌}
+use mathlib.Core.Path.{refl, sym, ◌∙◌}
+use mathlib.Core.Bool.{true≢false}
 use native.Mathlib.Omega.{arith}
 use Rattle.words.proofs.Numbers.{bytes_of}
 use Rattle.table.specs.Tables.{schema_of}
 use Rattle.batch.proofs.Passing.{passed_start, passed-fits, passed-next}
 use Rattle.card.proofs.Lengths.{heading-most}
-use Rattle.card.proofs.Turns.{next_row, written_start, written_next, written-end}
+use Rattle.card.proofs.Turns.{next_row, written_start, written_next, written-few, written-fits, written-end}
 use Rattle.card.proofs.batches.rows_text.Goals as goal
 
 pub loop-at-init : goal.loop-at-init
@@ -78,4 +79,21 @@ loop-at-preserved g c =
     (passed-next l.invariant.0 x.stands, written)
 
 pub returns : goal.returns
-returns g c = written-end c.loop-at.invariant.1 c.loop-at.invariant.0 (omega (arith, c.loop-at.invariant.0.high))
+returns g c = record {
+  walked = written-end c.loop-at.invariant.1 c.loop-at.invariant.0 (omega (arith, c.loop-at.invariant.0.high));
+  held = λ l. refl;
+}
+
+pub returns-in_err-line-clause-held : goal.returns-in_err-line-clause-held
+returns-in_err-line-clause-held g c l =
+    let bytes = bytes_of c.args.b.now (λ i. (c.type_inv.b i).fits) in
+    let x = next_row (schema_of c.args.t.now) c.args.b.now bytes c.requires.1 c.loop-at.invariant.0 c.frame_end-end.ensures c.loop-at-test.true in
+    let ok = c.in_err-line.ensures.held (written-few c.loop-at.invariant.1 x l) in
+    absurd (cc ok)
+
+pub returns-in_err-used-clause-held : goal.returns-in_err-used-clause-held
+returns-in_err-used-clause-held g c l =
+    let bytes = bytes_of c.args.b.now (λ i. (c.type_inv.b i).fits) in
+    let x = next_row (schema_of c.args.t.now) c.args.b.now bytes c.requires.1 c.loop-at.invariant.0 c.frame_end-end.ensures c.loop-at-test.true in
+    let ok = c.in_err-used.ensures.held (written-fits c.loop-at.invariant.1 x c.in_ok-line.ensures.spilt c.heading-next.ensures l) in
+    absurd (true≢false (sym ok))
