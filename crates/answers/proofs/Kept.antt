@@ -41,4 +41,3 @@ again-told row (A.Float64 y) x n e = rw (float_is binary64 y n.known, ← (some-
 again-told row (A.Float64Nan b) x n e = rw (nan_is binary64 b n.known, ← (some-injective _ _ e))
 again-told row (A.Bytes o k) x n e = rw (← (some-injective _ _ e))
 again-told row (A.Container o k m) x n e = absurd (none-ne-some _ e)
-again-told row (A.Refused r) x n e = absurd (none-ne-some _ e)

@@ -1,4 +1,5 @@
 -- One enum value is left for each meaning: every meaning leads back to its value. Assumes nothing.
+use Rattle.std.specs.Prelude.{Ok, Err}
 use mathlib.Core.Path.{◌≡◌, refl, sym, ap, ◌∙◌}
 use mathlib.Core.Bool.{Bool, true, false, cond}
 use Prim.Native.Nat.{ℕ}
@@ -9,14 +10,11 @@ use Rattle.layout.specs.Reading as R
 use Rattle.layout.specs.Entries as E
 use Rattle.answers.specs.declared.Refusal.{Refusal}
 use Rattle.answers.specs.declared.Refusal.TheVariants as F
-use Rattle.answers.specs.declared.Outcome.{Outcome}
-use Rattle.answers.specs.declared.Outcome.TheVariants as O
-use Rattle.answers.specs.declared.Length.{Length}
-use Rattle.answers.specs.declared.Length.TheVariants as L
-use Rattle.answers.specs.declared.Answer.{Answer}
+use Rattle.answers.specs.Meaning.{Outcome}
+use Rattle.answers.specs.Meaning.{Length}
 use Rattle.answers.specs.declared.Answer.TheVariants as A
 use Rattle.answers.specs.Meaning.{number_of, length_of, refusal_means, outcome_means, length_means, no_answer, plain, float, float_means, nan_means, meaning}
-use Rattle.answers.specs.Meaning.{Numbered}
+use Rattle.answers.specs.Meaning.{Numbered, Read, read_means}
 use Rattle.answers.proofs.FloatLaws.{plain_back, plain-not-nan}
 
 -- ---- refusals
@@ -90,46 +88,46 @@ number-one r s n h = refusal-one r s n (no_length r h ∙ sym (no_length s (λ e
 -- ---- outcomes and lengths
 
 pub outcome-one : (a b : Outcome) → outcome_means a ≡ outcome_means b → (outcome_means a ≡ E.refused (N.numbered 4) → ⊥) → a ≡ b
-outcome-one O.Done O.Done e h = refl
-outcome-one O.Done (O.Refused s) e h = cc
-outcome-one (O.Refused r) O.Done e h = cc
-outcome-one (O.Refused r) (O.Refused s) e h =
+outcome-one (Ok u) (Ok v) e h = refl
+outcome-one (Ok u) (Err s) e h = cc
+outcome-one (Err r) (Ok u) e h = cc
+outcome-one (Err r) (Err s) e h =
     let n : refusal_means r ≡ refusal_means s = cc in
-    ap O.Refused (number-one r s n (λ q. h (ap E.refused q)))
+    ap Err (number-one r s n (λ q. h (ap E.refused q)))
 
 pub length-one : (a b : Length) → length_means a ≡ length_means b → a ≡ b
-length-one (L.Done m) (L.Done n) e = cc
-length-one (L.Done m) (L.Refused s) e = cc
-length-one (L.Refused r) (L.Done n) e = cc
-length-one (L.Refused r) (L.Refused s) e =
+length-one (Ok m) (Ok n) e = cc
+length-one (Ok m) (Err s) e = cc
+length-one (Err r) (Ok n) e = cc
+length-one (Err r) (Err s) e =
     let n : refusal_means r ≡ refusal_means s = cc in
     let l : length_of r ≡ length_of s = cc in
-    ap L.Refused (refusal-one r s n l)
+    ap Err (refusal-one r s n l)
 
 -- ---- answers
 
-abbrev pub of_float : Format → Float → Answer
-of_float binary32 x = A.Float32 x
-of_float binary64 x = A.Float64 x
+abbrev pub of_float : Format → Float → Read
+of_float binary32 x = Ok (A.Float32 x)
+of_float binary64 x = Ok (A.Float64 x)
 
-abbrev pub of_nan : Format → ℕ → Answer
-of_nan binary32 b = A.Float32Nan b
-of_nan binary64 b = A.Float64Nan b
+abbrev pub of_nan : Format → ℕ → Read
+of_nan binary32 b = Ok (A.Float32Nan b)
+of_nan binary64 b = Ok (A.Float64Nan b)
 
 -- the answer of a float's pattern
-abbrev pub of_pattern : Format → ℕ → Answer
+abbrev pub of_pattern : Format → ℕ → Read
 of_pattern f b = cond (nan_bits f b) (of_nan f b) (of_float f (of_bits f b))
 
--- the answer of a meaning
-abbrev pub answer : R.Answer → Answer
-answer R.null = A.Null
-answer (R.bool v) = A.Bool v
-answer (R.signed z) = A.Number z
+-- what a reading answers of a meaning
+abbrev pub answer : R.Answer → Read
+answer R.null = Ok (A.Null)
+answer (R.bool v) = Ok (A.Bool v)
+answer (R.signed z) = Ok (A.Number z)
 answer (R.float32 b) = of_pattern binary32 b
 answer (R.float64 b) = of_pattern binary64 b
-answer (R.bytes o n) = A.Bytes o n
-answer (R.container o n k) = A.Container o n k
-answer (R.refused n) = A.Refused (refusal n 0)
+answer (R.bytes o n) = Ok (A.Bytes o n)
+answer (R.container o n k) = Ok (A.Container o n k)
+answer (R.refused n) = Err (refusal n 0)
 
 pub answer-float : (f : Format) (b : ℕ) → answer (float f b) ≡ of_pattern f b
 answer-float binary32 b = refl
@@ -149,19 +147,19 @@ nan-back f b h = go (nan_bits f b) refl
     go true e = rw e (answer-float f b ∙ rw e)
     go false e = absurd (h (rw e))
 
-pub answer_back : (a : Answer) → Numbered (meaning a) → answer (meaning a) ≡ a
-answer_back A.Null h = refl
-answer_back (A.Bool v) h = refl
-answer_back (A.Number z) h = refl
-answer_back (A.Float32 x) h = float_back binary32 x h.known
-answer_back (A.Float32Nan b) h = nan-back binary32 b h.known
-answer_back (A.Float64 x) h = float_back binary64 x h.known
-answer_back (A.Float64Nan b) h = nan-back binary64 b h.known
-answer_back (A.Bytes o n) h = refl
-answer_back (A.Container o n k) h = refl
-answer_back (A.Refused r) h =
-    ap A.Refused (ap (refusal (refusal_means r)) (sym (no_length r (λ q. h.roomless (ap R.refused q)))) ∙ refusal-back r)
+pub answer_back : (a : Read) → Numbered (read_means a) → answer (read_means a) ≡ a
+answer_back (Ok A.Null) h = refl
+answer_back (Ok (A.Bool v)) h = refl
+answer_back (Ok (A.Number z)) h = refl
+answer_back (Ok (A.Float32 x)) h = float_back binary32 x h.known
+answer_back (Ok (A.Float32Nan b)) h = nan-back binary32 b h.known
+answer_back (Ok (A.Float64 x)) h = float_back binary64 x h.known
+answer_back (Ok (A.Float64Nan b)) h = nan-back binary64 b h.known
+answer_back (Ok (A.Bytes o n)) h = refl
+answer_back (Ok (A.Container o n k)) h = refl
+answer_back (Err r) h =
+    ap Err (ap (refusal (refusal_means r)) (sym (no_length r (λ q. h.roomless (ap R.refused q)))) ∙ refusal-back r)
 
 -- of every meaning that a reading gives there is one answer
-pub meaning-one : (a b : Answer) → meaning a ≡ meaning b → Numbered (meaning a) → a ≡ b
-meaning-one a b e h = sym (answer_back a h) ∙ ap answer e ∙ answer_back b (rw e at h)
+pub read_one : (a b : Read) → read_means a ≡ read_means b → Numbered (read_means a) → a ≡ b
+read_one a b e h = sym (answer_back a h) ∙ ap answer e ∙ answer_back b (rw e at h)

@@ -1,5 +1,6 @@
 -- The document's number and values for each case of the enums. Assumes nothing: these are definitions.
-use Rattle.std.specs.Prelude.{◌≡◌, Bool, not, ◌&&◌, cond, List, ℕ, Float}
+use Rattle.std.specs.Prelude.{Ok, Err}
+use Rattle.std.specs.Prelude.{◌≡◌, Bool, not, ◌&&◌, cond, List, ℕ, Float, Result}
 use Rattle.std.proofs.Math.Option.{Option, none, some}
 use Rattle.std.specs.Float.{Format, binary32, binary64}
 use Rattle.std.specs.Float.Ieee.{fits, is_nan, nan_bits, to_bits}
@@ -11,10 +12,6 @@ use Rattle.layout.specs.Entries as E
 use Rattle.layout.specs.Demand3.{Proper}
 use Rattle.answers.specs.declared.Refusal.{Refusal}
 use Rattle.answers.specs.declared.Refusal.TheVariants as F
-use Rattle.answers.specs.declared.Outcome.{Outcome}
-use Rattle.answers.specs.declared.Outcome.TheVariants as O
-use Rattle.answers.specs.declared.Length.{Length}
-use Rattle.answers.specs.declared.Length.TheVariants as L
 use Rattle.answers.specs.declared.Answer.{Answer}
 use Rattle.answers.specs.declared.Answer.TheVariants as A
 use Rattle.answers.specs.declared.Setting.{Setting}
@@ -91,14 +88,20 @@ refusal_means F.NoNumber = N.numbered 13
 -- ---- outcomes
 
 -- judge, check and set: done, or a refusal
+abbrev pub Outcome : Type 0
+Outcome = Result (Unit {0}) Refusal
+
 abbrev pub outcome_means : Outcome → E.Verdict
-outcome_means O.Done = E.done
-outcome_means (O.Refused r) = E.refused (refusal_means r)
+outcome_means (Ok u) = E.done
+outcome_means (Err r) = E.refused (refusal_means r)
 
 -- write and list: the length n of what was written, or a refusal and its length
+abbrev pub Length : Type 0
+Length = Result ℕ Refusal
+
 abbrev pub length_means : Length → E.Sized
-length_means (L.Done n) = E.takes n
-length_means (L.Refused r) = E.refused_with (refusal_means r) (length_of r)
+length_means (Ok n) = E.takes n
+length_means (Err r) = E.refused_with (refusal_means r) (length_of r)
 
 -- ---- answers
 
@@ -132,7 +135,14 @@ meaning (A.Float64 x) = float_means binary64 x
 meaning (A.Float64Nan b) = nan_means binary64 b
 meaning (A.Bytes o n) = R.bytes o n
 meaning (A.Container o n k) = R.container o n k
-meaning (A.Refused r) = R.refused (refusal_means r)
+
+-- read: what stands at a place, or a refusal
+abbrev pub Read : Type 0
+Read = Result Answer Refusal
+
+abbrev pub read_means : Read → R.Answer
+read_means (Ok a) = meaning a
+read_means (Err r) = R.refused (refusal_means r)
 
 -- one of the document's answers, and not 4, whose length this meaning leaves out
 pub record Numbered (a : R.Answer) : Type 0 where
@@ -177,4 +187,3 @@ again (A.Float64 x) = some (T.Float64 x)
 again (A.Float64Nan b) = some (T.Float64Nan b)
 again (A.Bytes o n) = some T.Bytes
 again (A.Container o n k) = none
-again (A.Refused r) = none

@@ -1,4 +1,4 @@
-// What a caller gets back and what it asks with: refusals, outcomes, answers, settings and paths.
+// What a caller gets back and what it asks with: refusals, answers, settings, places and paths.
 // A NaN's pattern has a case of its own, because the language gives a float no NaN payload.
 #![tactic(auto)]
 
@@ -7,8 +7,8 @@ pub mod paths;
 pub mod refusals;
 pub mod settings;
 
-// The place of a fault counts from the row's first byte.
-#[derive(Clone, Copy)]
+// Why a call has no result. The place of a fault counts from the row's first byte.
+#[derive(Clone, Copy, Debug, PartialEq, Eq)]
 pub enum Refusal {
     Schema,
     Listing,
@@ -23,18 +23,6 @@ pub enum Refusal {
     Log,
     Full,
     NoNumber,
-}
-
-#[derive(Clone, Copy)]
-pub enum Outcome {
-    Done,
-    Refused(Refusal),
-}
-
-#[derive(Clone, Copy)]
-pub enum Length {
-    Done(usize),
-    Refused(Refusal),
 }
 
 // Ranges count from the root row's first byte.
@@ -56,7 +44,6 @@ pub enum Answer {
         len: usize,
         count: usize,
     },
-    Refused(Refusal),
 }
 
 // The bytes of a setting lie beside it, as a slice.
@@ -81,6 +68,13 @@ pub enum Given {
     Float32(u32),
     Float64(u64),
     Bytes,
+}
+
+// Where a row or a schema lies in lent bytes.
+#[derive(Clone, Copy)]
+pub struct Span {
+    pub start: usize,
+    pub end: usize,
 }
 
 // Numbers past the length play no part.

@@ -11,10 +11,10 @@ pub fn number(r: Refusal) -> u8
         Refusal::Schema => 1,
         Refusal::Listing => 2,
         Refusal::TooLong => 3,
-        Refusal::Room { needed: _ } => 4,
+        Refusal::Room { .. } => 4,
         Refusal::NoPlace => 5,
         Refusal::NullBefore => 6,
-        Refusal::Layout { place: _ } => 7,
+        Refusal::Layout { .. } => 7,
         Refusal::Unfit => 8,
         Refusal::Resize => 9,
         Refusal::Batch => 10,
@@ -29,18 +29,7 @@ pub fn length(r: Refusal) -> usize
 {
     match r {
         Refusal::Room { needed } => needed,
-        Refusal::Schema => 0,
-        Refusal::Listing => 0,
-        Refusal::TooLong => 0,
-        Refusal::NoPlace => 0,
-        Refusal::NullBefore => 0,
-        Refusal::Layout { place: _ } => 0,
-        Refusal::Unfit => 0,
-        Refusal::Resize => 0,
-        Refusal::Batch => 0,
-        Refusal::Log => 0,
-        Refusal::Full => 0,
-        Refusal::NoNumber => 0,
+        _ => 0,
     }
 }
 
@@ -49,17 +38,6 @@ pub fn place(r: Refusal) -> usize
 {
     match r {
         Refusal::Layout { place } => place,
-        Refusal::Schema => 0,
-        Refusal::Listing => 0,
-        Refusal::TooLong => 0,
-        Refusal::Room { needed: _ } => 0,
-        Refusal::NoPlace => 0,
-        Refusal::NullBefore => 0,
-        Refusal::Unfit => 0,
-        Refusal::Resize => 0,
-        Refusal::Batch => 0,
-        Refusal::Log => 0,
-        Refusal::Full => 0,
-        Refusal::NoNumber => 0,
+        _ => 0,
     }
 }

@@ -8,7 +8,7 @@ ghost use Rattle.codes.specs.Asked.{asked_of, set_asked, Leaves};
 ghost use Rattle.codes.specs.Batch.{set_asked_in};
 ghost use Rattle.codes.specs.Catalogue.{set_asked_at};
 
-use codes::{Asked, kinds};
+use codes::kinds;
 use lent::batches;
 
 pub fn set(schema: &[u8], row: &mut [u8], path: &[u32], kind: u32, value: u64, bytes: &[u8]) -> u64
@@ -18,8 +18,8 @@ pub fn set(schema: &[u8], row: &mut [u8], path: &[u32], kind: u32, value: u64, b
 {
     let p = codes::path_of(path);
     match kinds::of_kind(kind, value) {
-        Asked::Nothing => codes::unfit(row::check(schema, row), row::read(schema, row, p)),
-        Asked::Of(x) => codes::outcome_code(row::set(schema, row, p, x, bytes)),
+        None => codes::unfit(row::check(schema, row), row::read(schema, row, p)),
+        Some(x) => codes::outcome_code(row::set(schema, row, p, x, bytes)),
     }
 }
 
@@ -38,11 +38,11 @@ pub fn set_in(
 {
     let p = codes::path_of(path);
     match kinds::of_kind(kind, value) {
-        Asked::Nothing => codes::unfit_in(
+        None => codes::unfit_in(
             batch::fetch(schema, batch, k),
             batch::read(schema, batch, k, p),
         ),
-        Asked::Of(x) => codes::outcome_code(batch::set(schema, batch, k, p, x, bytes)),
+        Some(x) => codes::outcome_code(batch::set(schema, batch, k, p, x, bytes)),
     }
 }
 
@@ -62,11 +62,11 @@ pub fn set_by(
 {
     let p = codes::path_of(path);
     match kinds::of_kind(kind, value) {
-        Asked::Nothing => codes::unfit(
+        None => codes::unfit(
             lent::check_by(schema, table, row),
             lent::read_by(schema, table, row, p),
         ),
-        Asked::Of(x) => codes::outcome_code(lent::set_by(schema, table, row, p, x, bytes)),
+        Some(x) => codes::outcome_code(lent::set_by(schema, table, row, p, x, bytes)),
     }
 }
 
@@ -87,11 +87,11 @@ pub fn set_in_by(
 {
     let p = codes::path_of(path);
     match kinds::of_kind(kind, value) {
-        Asked::Nothing => codes::unfit_in(
+        None => codes::unfit_in(
             batches::fetch_by(schema, table, batch, k),
             batches::read_by(schema, table, batch, k, p),
         ),
-        Asked::Of(x) => codes::outcome_code(batches::set_by(schema, table, batch, k, p, x, bytes)),
+        Some(x) => codes::outcome_code(batches::set_by(schema, table, batch, k, p, x, bytes)),
     }
 }
 
@@ -110,10 +110,10 @@ pub fn set_at(
 {
     let p = codes::path_of(path);
     match kinds::of_kind(kind, value) {
-        Asked::Nothing => codes::unfit(
+        None => codes::unfit(
             catalogue::check(catalogue, number, row),
             catalogue::read(catalogue, number, row, p),
         ),
-        Asked::Of(x) => codes::outcome_code(catalogue::set(catalogue, number, row, p, x, bytes)),
+        Some(x) => codes::outcome_code(catalogue::set(catalogue, number, row, p, x, bytes)),
     }
 }

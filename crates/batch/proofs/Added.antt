@@ -1,4 +1,5 @@
 -- What appending answers, and what it leaves in the room. Assumes nothing.
+use Rattle.std.specs.Prelude.{Ok, Err}
 use mathlib.Core.Path.{◌≡◌, refl, sym, ap, ◌∙◌}
 use mathlib.Core.Bool.{Bool, true, false}
 use mathlib.Core.Option.{Option, none, some}
@@ -21,9 +22,7 @@ use Rattle.layout.specs.Entries.{Verdict, verdict, Sized, takes, refused_with, s
 use Rattle.layout.specs.Entries as E
 use Rattle.answers.specs.declared.Refusal.{Refusal}
 use Rattle.answers.specs.declared.Refusal.TheVariants as F
-use Rattle.answers.specs.declared.Length.{Length}
-use Rattle.answers.specs.declared.Length.TheVariants as L
-use Rattle.answers.specs.Meaning.{refusal_means, length_of}
+use Rattle.answers.specs.Meaning.{Length, refusal_means, length_of}
 use Rattle.answers.proofs.Unique.{no_length}
 use Rattle.row.specs.Demand1.{Ends}
 use Rattle.row.specs.Demand1 as D
@@ -67,14 +66,14 @@ module _ (room : List ℕ) (used : ℕ) (row : List ℕ) (needed : ℕ) (n : nee
   whole : used + length (frame row) ≡ needed
   whole = omega (arith, length-frame row)
 
-  pub put-short : length room < needed → PutsRow room used row (L.Refused (F.Room needed)) room
+  pub put-short : length room < needed → PutsRow room used row (Err (F.Room needed)) room
   put-short h =
       let z : refused_with (N.numbered 4) needed ≡ sized_after none (used + length (frame row)) (length room) =
       rw (whole, lt-leb needed (length room) h) in
       record { answers = z; leaves = ap (λ (v : Sized). framed_at v room used row) z }
 
   pub put-done : needed ≤ length room → {mid room' : List ℕ} → mid ≡ sets room used (be 4 (length row))
-      → room' ≡ sets mid (used + 4) (part row 0 (length row)) → PutsRow room used row (L.Done needed) room'
+      → room' ≡ sets mid (used + 4) (part row 0 (length row)) → PutsRow room used row (Ok needed) room'
   unfolding frame
   put-done h {mid} {room'} u w =
       let z : takes needed ≡ sized_after none (used + length (frame row)) (length room) = rw (whole, le-leb needed (length room) h) in
@@ -89,7 +88,7 @@ module _ (s room : List ℕ) (used : ℕ) (row : List ℕ) where
   unfolding appended_of
   leaves n k e = rw (← e)
 
-  pub append-broken : {r : Refusal} → lent_rows room used ≡ none → r ≡ after_schema (judged s) F.Batch → Appends s room used row (L.Refused r) room
+  pub append-broken : {r : Refusal} → lent_rows room used ≡ none → r ≡ after_schema (judged s) F.Batch → Appends s room used row (Err r) room
   unfolding append_of
   append-broken e z = rw z (record { answers = go (judged s) refl; leaves = leaves _ _ (go (judged s) refl) })
     where
@@ -117,7 +116,7 @@ module _ (s room : List ℕ) (used : ℕ) (row : List ℕ) where
         again none n = sized-after n
         again (some i) n = sized-after (some i)
 
-    pub append-refused : (r : Refusal) → E.refused (refusal_means r) ≡ row_check s row → Appends s room used row (L.Refused r) room
+    pub append-refused : (r : Refusal) → E.refused (refusal_means r) ≡ row_check s row → Appends s room used row (Err r) room
     unfolding sized
     append-refused r q =
         let l : length_of r ≡ 0 = no_length r (number_of (refusal_means r) (row_check s row) (demand1.check s row) q) in

@@ -9,15 +9,12 @@ use lib.Seq.{drop-drop}
 use Rattle.layout.specs.Reader.{cut}
 use Rattle.layout.proofs.Reader.{cut-some, cut-none}
 use Rattle.batch.specs.Frames.{first}
-use Rattle.batch.specs.Places.{Says, FrameEnd}
-
-ends_nowhere : (b : List ℕ) (at : ℕ) → first (drop at b) ≡ none → FrameEnd b at 0
-ends_nowhere b at e = record { broken = λ _. e; stands = λ h. absurd (omega arith) }
+use Rattle.batch.specs.Places.{Says, Stands}
 
 module _ (b : List ℕ) (at : ℕ) where
-  pub no_size : length b < at + 4 → FrameEnd b at 0
+  pub no_size : length b < at + 4 → first (drop at b) ≡ none
   unfolding first
-  no_size h = ends_nowhere b at (rw (cut-none 4 (drop at b) (rw length-drop (omega arith))))
+  no_size h = rw (cut-none 4 (drop at b) (rw length-drop (omega arith)))
 
   module _ (room : at + 4 ≤ length b) (size : ℕ) (says : Says b at size) where
     first-is : first (drop at b) ≡ cut size (drop (at + 4) b)
@@ -26,18 +23,11 @@ module _ (b : List ℕ) (at : ℕ) where
         let l : 4 ≤ length (drop at b) = rw length-drop (omega arith) in
         rw (cut-some 4 (drop at b) l, drop-drop 4 at b, ← says.is)
 
-    pub no-rest : length b < at + 4 + size → FrameEnd b at 0
-    no-rest h = ends_nowhere b at (first-is ∙ cut-none size (drop (at + 4) b) (rw length-drop (omega arith)))
+    pub no-rest : length b < at + 4 + size → first (drop at b) ≡ none
+    no-rest h = first-is ∙ cut-none size (drop (at + 4) b) (rw length-drop (omega arith))
 
-    pub whole : at + 4 + size ≤ length b → FrameEnd b at (at + 4 + size)
+    pub whole : at + 4 + size ≤ length b → Stands b at (at + 4 + size)
     whole h =
         let l : size ≤ length (drop (at + 4) b) = rw length-drop (omega arith) in
         let e : at + 4 + size - (at + 4) ≡ size = omega arith in
-        record {
-          broken = λ z. absurd (omega arith);
-          stands = λ z. record {
-            low = omega arith;
-            high = omega arith;
-            row = first-is ∙ cut-some size (drop (at + 4) b) l ∙ rw (drop-drop size (at + 4) b, e);
-          };
-        }
+        record { low = omega arith; high = omega arith; row = first-is ∙ cut-some size (drop (at + 4) b) l ∙ rw (drop-drop size (at + 4) b, e) }

@@ -1,10 +1,10 @@
 -- Rows checked in turn: where the walk over the frames stands, what the next row's check makes of it, and its end. Assumes nothing.
-use mathlib.Core.Path.{◌≡◌, refl, sym, ap, ◌∙◌, subst}
+use mathlib.Core.Path.{◌≡◌, refl, sym, ap, ◌∙◌}
 use mathlib.Core.Option.{Option, none, some}
 use mathlib.Core.List.{List, []}
 use Prim.Native.Nat.{ℕ, suc, ◌+◌, ◌-◌, ◌<◌}
 use native.Mathlib.Numerals.{add-one}
-use lib.ListN.{length, take, drop}
+use lib.ListN.{length, drop}
 use lib.Seq.{drop-cons, drop-length}
 use Rattle.words.specs.Bytes.{part}
 use Rattle.schema.specs.Reading.{judged}
@@ -12,8 +12,6 @@ use Rattle.schema.specs.declared.Judged.TheVariants.{Accepted, Refused}
 use Rattle.layout.specs.Refusals as N
 use Rattle.layout.specs.Entries.{Verdict, verdict, check_of as row_check}
 use Rattle.layout.specs.Entries as E
-use Rattle.table.specs.Tables.{schema_of}
-use Rattle.table.proofs.Got.{Got}
 use Rattle.batch.specs.Frames.{framed}
 use Rattle.batch.specs.Entries.{or_none, rows_of, row_of, row_bad, in_turn, check_rows, check_of}
 use Rattle.batch.specs.Entries as B
@@ -74,7 +72,3 @@ module _ {s b : List ℕ} {n : ℕ} (a : judged s ≡ Accepted) (c : InOrder s b
             let r = row_next p f q in
             let bad : row_bad s (row_of b n) ≡ some m = from-refused (row_bad s (row_of b n)) m (verdict-is r (E.refused m) e) in
             rw q (sym (turn r ∙ rw bad))
-
--- what a check does by the table that was built is what it does with the schema
-pub check-by : {s : List ℕ} {n : ℕ} {T : List ℕ} → Got s n T → {v : B.Checking} (b : List ℕ) → v ≡ check_of (schema_of (take n T)) b → v ≡ check_of s b
-check-by g {v} b h = subst (λ (u : List ℕ). v ≡ check_of u b) g.says h

@@ -1,5 +1,6 @@
 -- What each entry's refusals come to, in their order. Assumes nothing.
-use mathlib.Core.Path.{◌≡◌, refl, sym, ap, ◌∙◌}
+use Rattle.std.specs.Prelude.{Result, Ok, Err}
+use mathlib.Core.Path.{◌≡◌, refl, sym, ap, ◌∙◌, subst}
 use mathlib.Core.Option.{Option, none, some}
 use mathlib.Core.List.{List, [], ◌++◌, append_assoc}
 use Prim.Native.Nat.{ℕ, ◌+◌, ◌-◌, ◌≤◌, ◌<◌}
@@ -18,21 +19,19 @@ use Rattle.layout.specs.Refusals as N
 use Rattle.layout.specs.Setting.{Setting}
 use Rattle.layout.specs.Setting as S
 use Rattle.layout.specs.Reading as R
-use Rattle.layout.specs.Entries.{Verdict, verdict, set_verdict, row_after, judge_of}
-use Rattle.layout.specs.Entries.{check_of as row_check, read_of as row_read, set_of as row_set}
+use Rattle.layout.specs.Entries.{Verdict, verdict, set_verdict, row_after, judge_of, check_of as row_check, read_of as row_read, set_of as row_set}
 use Rattle.layout.specs.Entries as E
 use Rattle.answers.specs.declared.Refusal.{Refusal}
 use Rattle.answers.specs.declared.Refusal.TheVariants as F
-use Rattle.answers.specs.declared.Outcome.{Outcome}
-use Rattle.answers.specs.declared.Outcome.TheVariants as O
-use Rattle.answers.specs.Meaning.{refusal_means, outcome_means}
+use Rattle.answers.specs.declared.Span.{Span}
+use Rattle.answers.specs.Meaning.{Outcome, refusal_means}
 use Rattle.setting.specs.Writes.{SetAs}
 use Rattle.batch.specs.Frames.{framed}
-use Rattle.batch.specs.Entries.{row_of, start_of, no_row, row_bad, Fetching, range, fetch_after, fetch_of}
-use Rattle.batch.specs.Entries.{read_of, within, set_of}
+use Rattle.batch.specs.Entries.{row_of, start_of, no_row, row_bad, Fetching, range, fetch_after, fetch_of, read_of, within, set_of}
 use Rattle.batch.specs.Entries as B
 use Rattle.batch.specs.Meaning.{after_schema}
-use Rattle.batch.specs.Places.{Ended, RowAt}
+use Rattle.batch.specs.Places.{Ended, RowAt, Finds, is_broken, is_past, is_at, FindsAfter}
+use Rattle.batch.specs.Places as L
 use Rattle.batch.proofs.Taken.{set_long}
 
 -- a part put back is a run of stores
@@ -57,21 +56,35 @@ fetched-after (some m) o n = refl
 pub record NoRow (s b : List ℕ) (k : ℕ) (r : Refusal) : Type 0 where
   pub is : no_row s b k ≡ some (refusal_means r)
 
-module _ {s b : List ℕ} {k : ℕ} {r : Refusal} where
-  pub no-row-broken : framed b ≡ none → r ≡ after_schema (judged s) F.Batch → NoRow s b k r
-  no-row-broken e z = record { is = rw z (go (judged s) refl) }
+module _ {s b : List ℕ} {k : ℕ} where
+  broken : framed b ≡ none → NoRow s b k (after_schema (judged s) F.Batch)
+  broken e = record { is = go (judged s) refl }
     where
       go : (j : Judged) → judged s ≡ j → no_row s b k ≡ some (refusal_means (after_schema (judged s) F.Batch))
       go Accepted a = rw (a, e)
       go Refused a = rw a
 
-  pub no-row-past : Ended b k → r ≡ after_schema (judged s) F.NoPlace → NoRow s b k r
-  no-row-past e z = record { is = rw z (go (judged s) refl) }
+  past : Ended b k → NoRow s b k (after_schema (judged s) F.NoPlace)
+  past e = record { is = go (judged s) refl }
     where
       go : (j : Judged) → judged s ≡ j → no_row s b k ≡ some (refusal_means (after_schema (judged s) F.NoPlace))
       go Accepted a = rw (a, e.is, le-ltb k (length e.rows) e.few)
       go Refused a = rw a
 
+  pub none-found : {f : Result Span Refusal} {r : Refusal} → f ≡ Err r → Finds b k f → NoRow s b k (after_schema (judged s) r)
+  none-found {r = r} e (is_broken h) = let p : r ≡ F.Batch = cc in rw p (broken h)
+  none-found {r = r} e (is_past h) = let p : r ≡ F.NoPlace = cc in rw p (past h)
+  none-found e (is_at h) = let z : ◌≡◌ {A = ℕ} 0 1 = cc in absurd (omega arith)
+
+  pub no-row-found : {f : Result Span Refusal} {r : Refusal} → f ≡ Err r → FindsAfter s b k f → NoRow s b k r
+  no-row-found {r = r} e (L.no_row {r = q} h) = let p : after_schema (judged s) q ≡ r = cc in subst (NoRow s b k) p (none-found refl h)
+  no-row-found e (L.a_row h) = let z : ◌≡◌ {A = ℕ} 0 1 = cc in absurd (omega arith)
+
+  pub row_found : {f : Result Span Refusal} {x : Span} → f ≡ Ok x → FindsAfter s b k f → RowAt b k x.start x.end
+  row_found e (L.no_row h) = let z : ◌≡◌ {A = ℕ} 0 1 = cc in absurd (omega arith)
+  row_found {x = x} e (L.a_row {x = y} h) = let p : y ≡ x = cc in subst (λ (z : Span). RowAt b k z.start z.end) p h
+
+module _ {s b : List ℕ} {k : ℕ} {r : Refusal} where
   pub fetch-none : NoRow s b k r → B.refused (refusal_means r) ≡ fetch_of s b k
   unfolding fetch_of
   fetch-none n = rw n.is
@@ -80,7 +93,7 @@ module _ {s b : List ℕ} {k : ℕ} {r : Refusal} where
   unfolding read_of
   read_none p n = rw n.is
 
-  pub set-none : (p : List ℕ) (x : Setting) → NoRow s b k r → SetAs (set_of s b k p x) b b (O.Refused r)
+  pub set-none : (p : List ℕ) (x : Setting) → NoRow s b k r → SetAs (set_of s b k p x) b b (Err r)
   unfolding set_of
   set-none p x n = rw n.is (record { answers = refl; after = refl })
 
@@ -166,23 +179,23 @@ module _ (s : List ℕ) {b : List ℕ} {k start end : ℕ} (at : RowAt b k start
         })
 
 -- what the judgement of a schema says
-module _ (s : List ℕ) {v : Outcome} (e : outcome_means v ≡ judge_of s) where
-  pub judged-yes : v ≡ O.Done → judged s ≡ Accepted
+module _ (s : List ℕ) where
+  pub judged-yes : E.done ≡ judge_of s → judged s ≡ Accepted
   unfolding judge_of
-  judged-yes q = go (judged s) refl
+  judged-yes e = go (judged s) refl
     where
       go : (j : Judged) → judged s ≡ j → judged s ≡ Accepted
       go Accepted a = a
       go Refused a =
-          let z : E.done ≡ E.refused (N.numbered 1) = ap outcome_means (sym q) ∙ e ∙ rw a in
+          let z : E.done ≡ E.refused (N.numbered 1) = e ∙ rw a in
           let o : ◌≡◌ {A = ℕ} 0 1 = cc in absurd (omega arith)
 
-  pub judged-no : {r : Refusal} → v ≡ O.Refused r → judged s ≡ Refused
+  pub judged-no : (n : N.Refusal) → E.refused n ≡ judge_of s → judged s ≡ Refused
   unfolding judge_of
-  judged-no {r} q = go (judged s) refl
+  judged-no n e = go (judged s) refl
     where
       go : (j : Judged) → judged s ≡ j → judged s ≡ Refused
       go Refused a = a
       go Accepted a =
-          let z : E.refused (refusal_means r) ≡ E.done = ap outcome_means (sym q) ∙ e ∙ rw a in
+          let z : E.refused n ≡ E.done = e ∙ rw a in
           let o : ◌≡◌ {A = ℕ} 0 1 = cc in absurd (omega arith)

@@ -1,28 +1,29 @@
 -- Frames passed one after the other: where they lead, where they end, and what was passed. Assumes nothing.
+use Rattle.std.specs.Prelude.{Result, Ok, Err, Some, None}
+use Rattle.std.specs.Prelude as P
 use mathlib.Core.Path.{◌≡◌, refl, sym, ap, ◌∙◌, subst}
 use mathlib.Core.Option.{Option, none, some, none-ne-some, some-injective}
 use mathlib.Core.List.{List, [], ◌∷◌, ◌++◌, append_assoc, append-nil}
 use mathlib.Core.Bool.{Bool, true, false}
-use Prim.Native.Nat.{ℕ, zero, suc, ◌+◌, ◌-◌, ◌*◌, ◌≤◌, ◌<◌}
+use Rattle.std.proofs.Common.{◌⊎◌, inl, inr}
+use Prim.Native.Nat.{ℕ, suc, ◌+◌, ◌-◌, ◌*◌, ◌≤◌, ◌<◌}
 use native.Mathlib.Omega.{arith}
 use lib.ListN.{length, take, drop, get_or, length-append, length-drop}
 use lib.Seq.{drop-length, take_at, get_or_at}
 use lib.Dec.{eqb}
 use borrow.Author.Tests.{eqb-true, eqb-false}
 use Rattle.words.specs.Bytes.{part}
-use Rattle.words.proofs.Parts.{length_part}
+use Rattle.words.proofs.Parts.{length_part, lt-or-le}
 use Rattle.layout.specs.Refusals as N
 use Rattle.layout.specs.Entries.{takes, refused_with}
 use Rattle.answers.specs.declared.Refusal.{Refusal}
+use Rattle.answers.specs.declared.Refusal.TheVariants as F
+use Rattle.answers.specs.declared.Span.{Span}
 use Rattle.answers.specs.Meaning.{refusal_means, length_of}
-use Rattle.batch.specs.declared.Counted.{Counted}
-use Rattle.batch.specs.declared.Counted.TheVariants as C
-use Rattle.batch.specs.declared.frames.Found.{Found}
-use Rattle.batch.specs.declared.frames.Found.TheVariants as F
+use Rattle.answers.proofs.Unique.{refusal-one}
 use Rattle.batch.specs.Frames.{frame, framing, first, framed}
 use Rattle.batch.specs.Entries.{or_none, rows_of, counted, count_of}
-use Rattle.batch.specs.Meaning.{count_means}
-use Rattle.batch.specs.Places.{Stands, FrameEnd, joined, Passed, no_frame, Ended, RowAt, Finds, is_broken, is_past, is_at}
+use Rattle.batch.specs.Places.{Stands, FrameEnd, joined, Passed, no_frame, RowAt, Finds, is_broken, is_past, is_at}
 use Rattle.batch.proofs.Framing.{length-frame, framing-append, framing-one, framed-nil, framed-next, framed-broken, joined-joined, joined-nil}
 
 -- a frame has at least 4 bytes
@@ -52,8 +53,12 @@ unfolding passed_start
 start-rows b = refl
 
 -- a frame that has an end stands
-pub stands_of : {b : List ℕ} {at end : ℕ} → FrameEnd b at end → (end ≡ 0 → ⊥) → Stands b at end
-stands_of f n = f.stands (omega arith)
+pub stands_of : (b : List ℕ) (at : ℕ) {end : ℕ} {r : P.Option ℕ} → r ≡ Some end → FrameEnd b at r → Stands b at end
+stands_of b at e f = subst (FrameEnd b at) e f
+
+-- and where there is none the bytes end inside it
+pub nowhere : (b : List ℕ) (at : ℕ) {r : P.Option ℕ} → r ≡ None → FrameEnd b at r → first (drop at b) ≡ none
+nowhere b at e f = subst (FrameEnd b at) e f
 
 module _ {b : List ℕ} {at n : ℕ} (p : Passed b at n) where
   pub passed-few : 4 * n ≤ at
@@ -85,6 +90,10 @@ module _ {b : List ℕ} {at n : ℕ} (p : Passed b at n) where
   unfolding passed-next
   next-rows s = refl
 
+  -- the count by another name
+  pub passed_to : {k end : ℕ} → n ≤ k → k ≤ n → Stands b at end → Passed b end (k + 1)
+  passed_to {k} {end} l h s = let z : n ≡ k = omega arith in subst (λ (m : ℕ). Passed b end (m + 1)) z (passed-next s)
+
   pub passed-end : at ≡ length b → framed b ≡ some p.rows
   passed-end e =
       let nothing : framed (drop at b) ≡ some [] = ap framed (ap (λ (m : ℕ). drop m b) e ∙ drop-length b) ∙ framed-nil in
@@ -93,13 +102,13 @@ module _ {b : List ℕ} {at n : ℕ} (p : Passed b at n) where
   pub passed-broken : at < length b → first (drop at b) ≡ none → framed b ≡ none
   passed-broken l e = p.left ∙ ap (joined p.rows) (framed-broken (drop at b) (rw length-drop (omega arith)) e)
 
-  -- in a batch that can be taken apart a frame stands before the end
-  pub passed-stands : {end : ℕ} {rows : List (List ℕ)} → framed b ≡ some rows → FrameEnd b at end → at < length b → Stands b at end
-  passed-stands {end} e f l = go end refl
+  -- a batch that can be taken apart has ended where no frame ends
+  pub passed-over : {rows : List (List ℕ)} → framed b ≡ some rows → first (drop at b) ≡ none → at ≡ length b
+  passed-over e f = go (lt-or-le at (length b))
     where
-      go : (m : ℕ) → end ≡ m → Stands b at end
-      go zero z = absurd (none-ne-some _ (sym (passed-broken l (f.broken z)) ∙ e))
-      go (suc m) z = f.stands (omega arith)
+      go : (at < length b) ⊎ (length b ≤ at) → at ≡ length b
+      go (inl l) = absurd (none-ne-some _ (sym (passed-broken l f) ∙ e))
+      go (inr l) = omega (arith, p.high)
 
   -- ---- counting
 
@@ -114,10 +123,10 @@ module _ {b : List ℕ} {at n : ℕ} (p : Passed b at n) where
   -- ---- finding row k
 
   -- no frame ends behind these, of which there are at most k
-  pub find_none : {k : ℕ} {r : Found} → n ≤ k → first (drop at b) ≡ none → r ≡ no_frame b at → Finds b k r
+  pub find_none : {k : ℕ} {r : Refusal} → n ≤ k → first (drop at b) ≡ none → r ≡ no_frame b at → Finds b k (Err r)
   find_none {k} l e z = rw z (go (eqb at (length b)) refl)
     where
-      go : (v : Bool) → eqb at (length b) ≡ v → Finds b k (no_frame b at)
+      go : (v : Bool) → eqb at (length b) ≡ v → Finds b k (Err (no_frame b at))
       go true q = rw q (is_past (record { rows = p.rows; is = passed-end (eqb-true at (length b) q); few = omega (arith, p.counts) }))
       go false q = let m = eqb-false at (length b) q in rw q (is_broken (passed-broken (omega (arith, m, p.high)) e))
 
@@ -146,25 +155,11 @@ module _ {b : List ℕ} {at n : ℕ} (p : Passed b at n) where
   pub find-row : {k end : ℕ} {rows : List (List ℕ)} → n ≤ k → k ≤ n → Stands b at end → framed b ≡ some rows → RowAt b k (at + 4) end
   find-row {k} {end} l h s e = let z : n ≡ k = omega arith in subst (λ (m : ℕ). RowAt b m (at + 4) end) z (row_next s e)
 
--- what is found, by the case of the answer
-module _ {b : List ℕ} {k : ℕ} where
-  pub found-broken : {f : Found} → f ≡ F.Broken → Finds b k f → framed b ≡ none
-  found-broken e (is_broken h) = h
-  found-broken e (is_past h) = let z : ◌≡◌ {A = ℕ} 0 1 = cc in absurd (omega arith)
-  found-broken e (is_at h) = let z : ◌≡◌ {A = ℕ} 0 1 = cc in absurd (omega arith)
-
-  pub found-past : {f : Found} → f ≡ F.Past → Finds b k f → Ended b k
-  found-past e (is_broken h) = let z : ◌≡◌ {A = ℕ} 0 1 = cc in absurd (omega arith)
-  found-past e (is_past h) = h
-  found-past e (is_at h) = let z : ◌≡◌ {A = ℕ} 0 1 = cc in absurd (omega arith)
-
-  pub found_at : {f : Found} {start end : ℕ} → f ≡ F.At start end → Finds b k f → RowAt b k start end
-  found_at e (is_broken h) = let z : ◌≡◌ {A = ℕ} 0 1 = cc in absurd (omega arith)
-  found_at e (is_past h) = let z : ◌≡◌ {A = ℕ} 0 1 = cc in absurd (omega arith)
-  found_at {start = start} {end = end} e (is_at {start = o} {end = m} h) =
-      let p : o ≡ start = cc in
-      let q : m ≡ end = cc in
-      subst (λ (i : ℕ). RowAt b k i end) p (subst (λ (j : ℕ). RowAt b k o j) q h)
+-- where row k is found it stands
+pub found_at : {b : List ℕ} {k : ℕ} {f : Result Span Refusal} {x : Span} → f ≡ Ok x → Finds b k f → RowAt b k x.start x.end
+found_at e (is_broken h) = let z : ◌≡◌ {A = ℕ} 0 1 = cc in absurd (omega arith)
+found_at e (is_past h) = let z : ◌≡◌ {A = ℕ} 0 1 = cc in absurd (omega arith)
+found_at {b} {k} {x = x} e (is_at {s = y} h) = let p : y ≡ x = cc in subst (λ (s : Span). RowAt b k s.start s.end) p h
 
 -- what a count says of the rows
 pub record Whole (b : List ℕ) (n : ℕ) : Type 0 where
@@ -172,32 +167,36 @@ pub record Whole (b : List ℕ) (n : ℕ) : Type 0 where
   pub is : framed b ≡ some rows
   pub counts : length rows ≡ n
 
-pub count-whole : {b : List ℕ} {c : Counted} {n : ℕ} → c ≡ C.Rows n → count_means c ≡ count_of b → Whole b n
+pub count-whole : {b : List ℕ} (n : ℕ) → takes n ≡ count_of b → Whole b n
 unfolding count_of
-count-whole {b} {c} {n} h e = go (framed b) refl
+count-whole {b} n e = go (framed b) refl
   where
     go : (m : Option (List (List ℕ))) → framed b ≡ m → Whole b n
     go none q =
-        let z : takes n ≡ refused_with (N.numbered 10) 0 = sym (ap count_means h) ∙ e ∙ ap counted q in
+        let z : takes n ≡ refused_with (N.numbered 10) 0 = e ∙ ap counted q in
         let o : ◌≡◌ {A = ℕ} 0 1 = cc in absurd (omega arith)
     go (some rows) q =
-        let z : takes n ≡ takes (length rows) = sym (ap count_means h) ∙ e ∙ ap counted q in
+        let z : takes n ≡ takes (length rows) = e ∙ ap counted q in
         record { rows = rows; is = q; counts = cc }
 
--- a count that is refused says that the batch can't be taken apart, with 10 and no length
+-- a count that is refused says that the batch can't be taken apart, with 10
 pub record Broken (b : List ℕ) (r : Refusal) : Type 0 where
   pub is : framed b ≡ none
-  pub number : refusal_means r ≡ N.numbered 10
-  pub length : length_of r ≡ 0
+  pub with : r ≡ F.Batch
 
-pub count_none : {b : List ℕ} {c : Counted} {r : Refusal} → c ≡ C.Refused r → count_means c ≡ count_of b → Broken b r
+pub count_none : {b : List ℕ} (r : Refusal) → refused_with (refusal_means r) (length_of r) ≡ count_of b → Broken b r
 unfolding count_of
-count_none {b} {c} {r} h e = go (framed b) refl
+count_none {b} r e = go (framed b) refl
   where
     go : (m : Option (List (List ℕ))) → framed b ≡ m → Broken b r
     go none q =
-        let z : refused_with (refusal_means r) (length_of r) ≡ refused_with (N.numbered 10) 0 = sym (ap count_means h) ∙ e ∙ ap counted q in
-        record { is = q; number = cc; length = cc }
+        let z : refused_with (refusal_means r) (length_of r) ≡ refused_with (N.numbered 10) 0 = e ∙ ap counted q in
+        let n : refusal_means r ≡ refusal_means F.Batch = cc in
+        let l : length_of r ≡ length_of F.Batch = cc in
+        record { is = q; with = refusal-one r F.Batch n l }
     go (some rows) q =
-        let z : refused_with (refusal_means r) (length_of r) ≡ takes (length rows) = sym (ap count_means h) ∙ e ∙ ap counted q in
+        let z : refused_with (refusal_means r) (length_of r) ≡ takes (length rows) = e ∙ ap counted q in
         let o : ◌≡◌ {A = ℕ} 0 1 = cc in absurd (omega arith)
+
+pub find-broken : {b : List ℕ} (k : ℕ) (r : Refusal) → refused_with (refusal_means r) (length_of r) ≡ count_of b → Finds b k (Err r)
+find-broken k r e = let n = count_none r e in rw n.with (is_broken n.is)

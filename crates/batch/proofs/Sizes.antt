@@ -7,10 +7,11 @@ use lib.Dec.{lit<}
 use lib.ListN.{length, get_or, set, length-reverse}
 use lib.Seq.{sets}
 use lib.Bits.{bit_and, bit_or}
+use Rattle.words.specs.Reads.{Reads}
 use Rattle.words.specs.Bytes.{Bytes, empty, byte, le, num, part}
 use Rattle.words.proofs.Numbers.{length-le, num-le, le-num, num-lt, byte_at, bytes_le}
 use Rattle.words.proofs.Parts.{part-cons}
-use Rattle.words.proofs.Turns.{reads-one, reads-next, low_byte}
+use Rattle.words.proofs.Turns.{reads-next, low_byte}
 use Rattle.batch.specs.Frames.{be, big}
 use Rattle.batch.specs.Places.{Says}
 
@@ -46,6 +47,10 @@ big_lt {b} h = rw length-reverse at (num-lt (bytes-reverse h))
 
 -- ---- a straight read and a straight write
 
+reads-one : {b : List ℕ} (x : ℕ) → Bytes (x ∷ b) → Reads (x ∷ b) 0 1 x
+unfolding num
+reads-one x (byte d h) = record { is = omega arith; below = d }
+
 module _ {b : List ℕ} (at : ℕ) (h : Bytes b) (room : at + 4 ≤ length b) where
   four : part b at 4 ≡ get_or b at 0 ∷ get_or b (at + 1) 0 ∷ get_or b (at + 2) 0 ∷ get_or b (at + 3) 0 ∷ []
   four =
@@ -63,7 +68,7 @@ module _ {b : List ℕ} (at : ℕ) (h : Bytes b) (room : at + 4 ≤ length b) wh
       let t : List ℕ = x0 ∷ x1 ∷ x2 ∷ x3 ∷ [] in
       let k2 : Bytes (x2 ∷ x3 ∷ []) = byte {d = x2} (rw e2 (byte_at h (at + 1))) (byte {d = x3} (rw e3 (byte_at h at)) empty) in
       let k : Bytes t = byte {d = x0} (rw e0 (byte_at h (at + 3))) (byte {d = x1} (rw e1 (byte_at h (at + 2))) k2) in
-      let r1 = reads-one {b = t} 0 x0 k refl (lit< tt) in
+      let r1 = reads-one x0 k in
       let r2 = reads-next {b = t} 0 1 _ x1 k r1 refl (lit< tt) (lit< tt) in
       let r3 = reads-next {b = t} 0 2 _ x2 k r2 refl (lit< tt) (lit< tt) in
       let r4 = reads-next {b = t} 0 3 _ x3 k r3 refl (lit< tt) (lit< tt) in

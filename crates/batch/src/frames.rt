@@ -6,17 +6,8 @@ ghost use Rattle.batch.specs.Entries.{count_of};
 ghost use Rattle.batch.specs.Meaning.{count_means};
 ghost use Rattle.batch.specs.Places.{Says, PutsRow, FrameEnd, Passed, no_frame, Finds};
 
-use crate::Counted;
-use answers::{Length, Refusal};
+use answers::{Refusal, Span};
 use words::nums::wide;
-
-// What looking for a row comes to: the batch ends inside a size or a row, it has no such row, or where the row stands.
-#[derive(Clone, Copy)]
-pub enum Found {
-    Broken,
-    Past,
-    At { start: usize, end: usize },
-}
 
 // The size that 4 bytes say, the highest first.
 fn size_at(b: &[u8], at: usize) -> usize
@@ -44,85 +35,75 @@ fn put_size(b: &mut [u8], at: usize, size: usize)
 
 // A row in its frame behind the first `used` bytes of a room: the new length, or refused with 4. A checked row is as short as is asked here,
 // so the sum of the lengths doesn't wrap.
-pub fn put_row(room: &mut [u8], used: usize, row: &[u8]) -> Length
+pub fn put_row(room: &mut [u8], used: usize, row: &[u8]) -> Result<usize, Refusal>
     requires { (used ≤ length room.old) × (length row.now ≤ 16384) }
     ensures { PutsRow room.old used row.now result room.new }
 {
     let size = row.len();
     let needed = used + 4 + size;
     if room.len() < needed {
-        return Length::Refused(Refusal::Room { needed });
+        return Err(Refusal::Room { needed });
     }
     put_size(room, used, size);
     words::copies::copy(room, used + 4, row, 0, size);
-    Length::Done(needed)
+    Ok(needed)
 }
 
-// The end of the frame at a place; 0, where no frame ends, if the bytes end inside it. No sum wraps: a slice has less than 2^63 bytes.
-pub fn frame_end(b: &[u8], at: usize) -> usize
+// The end of the frame at a place, if the bytes do not end inside it. No sum wraps: a slice has less than 2^63 bytes.
+pub fn frame_end(b: &[u8], at: usize) -> Option<usize>
     requires { at ≤ length b.now }
     ensures { FrameEnd b.now at result }
 {
     let start = at + 4;
     if b.len() < start {
-        return 0;
+        return None;
     }
     let end = start + size_at(b, at);
     if b.len() < end {
-        return 0;
+        return None;
     }
-    end
+    Some(end)
 }
 
 // The frames of the whole batch, of which n stand before a place.
-pub fn count_on(b: &[u8], from: usize, before: usize) -> Counted
+pub fn count_on(b: &[u8], from: usize, before: usize) -> Result<usize, Refusal>
     requires { Passed b.now from before }
     ensures { count_means result ≡ count_of b.now }
 {
     let mut at = from;
     let mut n = before;
     while at < b.len() {
-        let end = frame_end(b, at);
-        if end == 0 {
-            return Counted::Refused(Refusal::Batch);
-        }
-        at = end;
+        at = frame_end(b, at).ok_or(Refusal::Batch)?;
         n += 1;
     }
-    Counted::Rows(n)
+    Ok(n)
 }
 
 // What it means that no frame ends behind a place before row k.
-fn no_frame(b: &[u8], at: usize) -> Found
+fn no_frame(b: &[u8], at: usize) -> Refusal
     ensures { result ≡ no_frame b.now at }
 {
     if at == b.len() {
-        Found::Past
+        Refusal::NoPlace
     } else {
-        Found::Broken
+        Refusal::Batch
     }
 }
 
-// Where row k stands. The whole batch is judged, to its end.
-pub fn find(b: &[u8], k: usize) -> Found
+// Where row k stands, or refused with 10 or 5. The whole batch is judged, to its end.
+pub fn find(b: &[u8], k: usize) -> Result<Span, Refusal>
     ensures { Finds b.now k result }
 {
     let mut at = 0;
-    let mut n = 0;
-    while n < k {
-        let end = frame_end(b, at);
-        if end == 0 {
-            return no_frame(b, at);
-        }
+    for _ in 0..k {
+        let Some(end) = frame_end(b, at) else {
+            return Err(no_frame(b, at));
+        };
         at = end;
-        n += 1;
     }
-    let end = frame_end(b, at);
-    if end == 0 {
-        return no_frame(b, at);
-    }
-    match count_on(b, end, n + 1) {
-        Counted::Rows(_) => Found::At { start: at + 4, end },
-        Counted::Refused(_) => Found::Broken,
-    }
+    let Some(end) = frame_end(b, at) else {
+        return Err(no_frame(b, at));
+    };
+    count_on(b, end, k + 1)?;
+    Ok(Span { start: at + 4, end })
 }

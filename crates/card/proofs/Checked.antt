@@ -1,5 +1,6 @@
 -- What the check says of the text: a row that was accepted has an accepted schema, is not too long, and has its card; one that was not
 -- has its refusal. Assumes nothing.
+use Rattle.std.specs.Prelude.{Ok, Err}
 use mathlib.Core.Path.{◌≡◌, refl, sym, ap, ◌∙◌}
 use mathlib.Core.Bool.{Bool, true, false}
 use mathlib.Core.Option.{Option}
@@ -15,8 +16,7 @@ use Rattle.schema.specs.declared.Judged.TheVariants.{Accepted, Refused}
 use Rattle.layout.specs.Refusals as N
 use Rattle.layout.specs.Setting.{unless, ◌or◌}
 use Rattle.layout.specs.Entries.{Verdict, done, refused, verdict, is_accepted, layout_bad, check_of}
-use Rattle.answers.specs.declared.Outcome.{Outcome}
-use Rattle.answers.specs.declared.Outcome.TheVariants as O
+use Rattle.answers.specs.Meaning.{Outcome}
 use Rattle.answers.specs.declared.Refusal.{Refusal}
 use Rattle.answers.specs.Meaning.{number_of, outcome_means}
 use Rattle.answers.proofs.Unique.{number-means}
@@ -40,14 +40,14 @@ module _ (s row : List ℕ) where
   unfolding check_of
   accepted-opens e = opens (judged s) refl (leb (length row) 16384) refl (layout_bad s row) e
 
-  pub checked : (r : Outcome) → outcome_means r ≡ check_of s row → r ≡ O.Done → Ready s row
+  pub checked : (r : Outcome) → outcome_means r ≡ check_of s row → r ≡ Ok tt → Ready s row
   checked r m e = accepted-opens (ap outcome_means (sym e) ∙ m)
 
-  pub text-done : (r : Outcome) → outcome_means r ≡ check_of s row → r ≡ O.Done → card_of s row ≡ judged_text s row
+  pub text-done : (r : Outcome) → outcome_means r ≡ check_of s row → r ≡ Ok tt → card_of s row ≡ judged_text s row
   unfolding judged_text
   text-done r m e = ap (λ (v : Verdict). by_verdict v (card_of s row)) (ap outcome_means (sym e) ∙ m)
 
-  pub text-refused : (r : Outcome) (f : Refusal) (n : ℕ) → outcome_means r ≡ check_of s row → r ≡ O.Refused f → n ≡ number_of f → refusal n ≡ judged_text s row
+  pub text-refused : (r : Outcome) (f : Refusal) (n : ℕ) → outcome_means r ≡ check_of s row → r ≡ Err f → n ≡ number_of f → refusal n ≡ judged_text s row
   unfolding judged_text
   text-refused r f n m e q = ap refusal (q ∙ sym (number-means f)) ∙ ap (λ (v : Verdict). by_verdict v (card_of s row)) (ap outcome_means (sym e) ∙ m)
 

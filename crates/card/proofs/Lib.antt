@@ -2,7 +2,6 @@
 mod Apart
 mod Lengths
 mod Checked
-mod Tabled
 mod Turns
 mod Marked
 mod Example

@@ -1,4 +1,5 @@
 -- The picture by what the check answers. Assumes nothing.
+use Rattle.std.specs.Prelude.{Ok, Err}
 use mathlib.Core.Path.{◌≡◌, refl, sym, ap, ◌∙◌}
 use mathlib.Core.Bool.{Bool, true, false}
 use mathlib.Core.Option.{Option, none, some}
@@ -14,8 +15,7 @@ use Rattle.schema.specs.declared.Judged.TheVariants.{Accepted, Refused}
 use Rattle.layout.specs.Refusals as N
 use Rattle.layout.specs.Setting.{unless, ◌or◌}
 use Rattle.layout.specs.Entries.{Verdict, done, refused, verdict, is_accepted, layout_bad, check_of}
-use Rattle.answers.specs.declared.Outcome.{Outcome}
-use Rattle.answers.specs.declared.Outcome.TheVariants as O
+use Rattle.answers.specs.Meaning.{Outcome}
 use Rattle.answers.specs.declared.Refusal.{Refusal}
 use Rattle.answers.specs.declared.Refusal.TheVariants as F
 use Rattle.answers.specs.Meaning.{number_of, place_of, refusal_means, outcome_means}
@@ -74,10 +74,10 @@ module _ (s row : List ℕ) where
   text-by v e = ap (λ (w : Verdict). by_fault w (λ f. shown s row f)) e
 
   module _ (r : Outcome) (m : outcome_means r ≡ check_of s row) where
-    pub where-done : r ≡ O.Done → shown s row none ≡ where_text s row
+    pub where-done : r ≡ Ok tt → shown s row none ≡ where_text s row
     where-done e = text-by done (ap outcome_means (sym e) ∙ m)
 
-    module _ (f : Refusal) (n : ℕ) (e : r ≡ O.Refused f) (q : n ≡ number_of f) where
+    module _ (f : Refusal) (n : ℕ) (e : r ≡ Err f) (q : n ≡ number_of f) where
       pub where-refused : (n ≡ 7 → ⊥) → refusal n ≡ where_text s row
       where-refused h =
           let is : refused (N.numbered (number_of f)) ≡ check_of s row =

@@ -1,11 +1,13 @@
 -- Rows in turn: the text of those passed stands at the front, and the next one is accepted. Assumes nothing.
+use Rattle.std.specs.Prelude.{Option, Some, None, Result, Ok, Err}
 use mathlib.Core.Path.{◌≡◌, refl, sym, ap, ◌∙◌, subst}
+use mathlib.Core.Option.{none}
 use mathlib.Core.List.{List, [], ◌∷◌, ◌++◌, append_assoc, append-nil}
 use Prim.Native.Nat.{ℕ, suc, ◌+◌, ◌-◌, ◌≤◌, ◌<◌}
 use native.Mathlib.Nat.{add-zero, zero-add}
 use native.Mathlib.Numerals.{add-one}
 use native.Mathlib.Omega.{arith}
-use lib.ListN.{length, take, get_or, length-append, take-append-drop}
+use lib.ListN.{length, take, drop, get_or, length-append, take-append-drop}
 use lib.Seq.{take-suc, take_all, length-take-le}
 use Rattle.words.specs.Bytes.{Bytes, part}
 use Rattle.schema.specs.Reading.{judged}
@@ -15,10 +17,11 @@ use Rattle.answers.specs.Meaning.{number_of}
 use Rattle.answers.proofs.Unique.{number-means}
 use Rattle.batch.specs.Entries.{done, or_none, rows_of, row_of, Checking, check_of}
 use Rattle.batch.specs.Meaning.{check_means}
+use Rattle.batch.specs.Frames.{first}
 use Rattle.batch.specs.Places.{Stands, FrameEnd, Passed, RowAt}
-use Rattle.batch.specs.declared.Checked.{Checked}
-use Rattle.batch.specs.declared.Checked.TheVariants as K
-use Rattle.batch.proofs.Passing.{passed-end, passed-stands, row_next}
+use Rattle.batch.specs.declared.Fault.{Fault}
+use Rattle.batch.specs.declared.Fault.TheVariants.{Whole, Row}
+use Rattle.batch.proofs.Passing.{passed-end, passed-over, row_next}
 use Rattle.batch.proofs.Batches.{batches}
 use Rattle.lettering.specs.Text.{Puts}
 use Rattle.lettering.specs.Held.{Spilt, Walked}
@@ -36,15 +39,22 @@ pub record Next (s b : List ℕ) (at n end : ℕ) : Type 0 where
   pub row : RowAt b n (at + 4) end
   pub ready : Ready s (part b (at + 4) (end - (at + 4)))
 
-pub next_row : (s b : List ℕ) {at n end : ℕ} → Bytes b → check_of s b ≡ done → Passed b at n → FrameEnd b at end → at < length b
-    → Next s b at n end
-next_row s b {n = n} hb e p f l =
+pub next_row : (s b : List ℕ) {at n end : ℕ} → Bytes b → check_of s b ≡ done → Passed b at n → Stands b at end → Next s b at n end
+next_row s b {n = n} hb e p z =
     let v = ((batches s).accepted b).0 e in
-    let z = passed-stands p v.is f l in
     let r = row_next p z v.is in
     let few : n < length (rows_of b) = rw r.is r.counts in
     let is = accepted-opens s (row_of b n) (sym ((batches s).each b n hb e few).checks) in
     record { stands = z; row = r; ready = subst (Ready s) (sym r.row) is }
+
+-- an accepted batch has ended where no frame stands
+pub at_end : (s b : List ℕ) {at n : ℕ} → check_of s b ≡ done → Passed b at n → (r : Option ℕ) → FrameEnd b at r → ((m : ℕ) → r ≡ Some m → ⊥)
+    → at ≡ length b
+at_end s b {at} e p r f none_is = passed-over p (((batches s).accepted b).0 e).is (go r f none_is)
+  where
+    go : (r : Option ℕ) → FrameEnd b at r → ((m : ℕ) → r ≡ Some m → ⊥) → first (drop at b) ≡ none
+    go None f none_is = f
+    go (Some m) f none_is = absurd (none_is m refl)
 
 -- ---- texts one behind the other
 
@@ -146,19 +156,19 @@ written-end {s} {b} {n = n} w p e =
 pub batch-judged : (s b : List ℕ) → check_of s b ≡ done → judged s ≡ Accepted
 batch-judged s b e = (((batches s).accepted b).0 e).schema
 
-module _ (s b : List ℕ) (c : Checked) (m : check_means c ≡ check_of s b) where
-  pub batch-accepted : c ≡ K.Done → check_of s b ≡ done
+module _ (s b : List ℕ) (c : Result (Unit {0}) Fault) (m : check_means c ≡ check_of s b) where
+  pub batch-accepted : c ≡ Ok tt → check_of s b ≡ done
   batch-accepted e = sym m ∙ ap check_means e
 
-  by_answer : (k : Checked) → c ≡ k → by_checking (check_means k) (rows_text s 0 (rows_of b)) ≡ batch_text s b
+  by_answer : (k : Result (Unit {0}) Fault) → c ≡ k → by_checking (check_means k) (rows_text s 0 (rows_of b)) ≡ batch_text s b
   unfolding batch_text
   by_answer k e = ap (λ (v : Checking). by_checking v (rows_text s 0 (rows_of b))) (ap check_means (sym e) ∙ m)
 
-  pub batch-done : c ≡ K.Done → rows_text s 0 (rows_of b) ≡ batch_text s b
-  batch-done e = by_answer K.Done e
+  pub batch-done : c ≡ Ok tt → rows_text s 0 (rows_of b) ≡ batch_text s b
+  batch-done e = by_answer (Ok tt) e
 
-  pub batch-refused : (f : Refusal) (n : ℕ) → c ≡ K.Refused f → n ≡ number_of f → refusal n ≡ batch_text s b
-  batch-refused f n e q = ap refusal (q ∙ sym (number-means f)) ∙ by_answer (K.Refused f) e
+  pub batch-refused : (f : Refusal) (n : ℕ) → c ≡ Err (Whole f) → n ≡ number_of f → refusal n ≡ batch_text s b
+  batch-refused f n e q = ap refusal (q ∙ sym (number-means f)) ∙ by_answer (Err (Whole f)) e
 
-  pub row-refused : (k : ℕ) (f : Refusal) (n : ℕ) → c ≡ K.RefusedRow k f → n ≡ number_of f → refusal n ≡ batch_text s b
-  row-refused k f n e q = ap refusal (q ∙ sym (number-means f)) ∙ by_answer (K.RefusedRow k f) e
+  pub row-refused : (k : ℕ) (f : Refusal) (n : ℕ) → c ≡ Err (Row k f) → n ≡ number_of f → refusal n ≡ batch_text s b
+  row-refused k f n e q = ap refusal (q ∙ sym (number-means f)) ∙ by_answer (Err (Row k f)) e

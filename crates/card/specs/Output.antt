@@ -1,5 +1,5 @@
 -- What the card tool writes for an input. Assumes nothing: these are definitions.
-use Rattle.std.specs.Prelude.{◌≡◌, List, [], ◌∷◌, ℕ, ◌-◌, ◌≤◌, length}
+use Rattle.std.specs.Prelude.{◌≡◌, List, [], ◌∷◌, ℕ, ◌-◌, ◌≤◌, Option, Some, None, length}
 use Rattle.words.specs.Bytes.{part}
 use Rattle.schema.specs.Reading.{judged}
 use Rattle.schema.specs.declared.Judged.TheVariants.{Accepted}
@@ -8,8 +8,6 @@ use Rattle.layout.specs.Entries.{Verdict, done, refused, check_of}
 use Rattle.lettering.specs.Text.{numbered}
 use Rattle.leaves.specs.Whole.{card_of}
 use Rattle.card.specs.Input.{split_of}
-use Rattle.card.specs.declared.input.Split.{Split}
-use Rattle.card.specs.declared.input.Split.TheVariants.{Short, Parts}
 
 -- `refused`, space, the refusal's number
 unfoldable pub refusal : ℕ → List ℕ
@@ -30,9 +28,9 @@ judged_text s row = by_verdict (check_of s row) (card_of s row)
 
 -- an input under two bytes, or shorter than announced, is refused with 1; else the schema ends at e, and f says what is written for it
 -- and the rest
-abbrev pub by_split : (List ℕ → List ℕ → List ℕ) → Split → List ℕ → List ℕ
-by_split f Short input = refusal 1
-by_split f (Parts e) input = f (part input 2 (e - 2)) (part input e (length input - e))
+abbrev pub by_split : (List ℕ → List ℕ → List ℕ) → Option ℕ → List ℕ → List ℕ
+by_split f None input = refusal 1
+by_split f (Some e) input = f (part input 2 (e - 2)) (part input e (length input - e))
 
 -- the rest is the row
 unfoldable pub output_of : List ℕ → List ℕ

@@ -8,9 +8,10 @@ ghost use Rattle.card.specs.Rows.{heading as heading_of, rows_text, batch_text, 
 
 use crate::input;
 use answers::Refusal;
-use batch::Checked;
+use batch::{Fault, frames};
 use lettering::text;
 use std::io::{Result, Write};
+use table::rooms;
 
 // The line before the card of row k.
 fn heading(out: &mut [u8], at: usize, k: usize) -> usize
@@ -29,12 +30,10 @@ fn rows_text<W: Write>(to: &mut W, t: &[u64], b: &[u8], out: &mut [u8]) -> Resul
     let mut used = 0;
     let mut at = 0;
     let mut n = 0;
-    while at < b.len() {
-        let end = batch::frames::frame_end(b, at);
-        let start = at + 4;
+    while let Some(end) = frames::frame_end(b, at) {
         let line = lettering::spill(to, out, used)?;
         let next = heading(out, line, n);
-        used = leaves::whole(to, t, &b[start..end], out, next)?;
+        used = leaves::whole(to, t, &b[at + 4..end], out, next)?;
         at = end;
         n += 1;
     }
@@ -47,9 +46,7 @@ fn accepted_text<W: Write>(to: &mut W, s: &[u8], b: &[u8], out: &mut [u8]) -> Re
     ensures walked { IfOk result (λ r. Walked (rows_text s.now 0 (rows_of b.now)) out.old 0 r out.new) }
     ensures held { length (rows_text s.now 0 (rows_of b.now)) ≤ 229000 → IsOk result }
 {
-    let mut room = [0u64; 512];
-    let n = table::build(s, &mut room);
-    rows_text(to, &room[..n], b, out)
+    rooms::with_out(s, out, |t, out| rows_text(to, t, b, out)).unwrap()
 }
 
 // Says which row it is that is refused, and of a 7 where it is broken.
@@ -73,9 +70,9 @@ fn batch_text<W: Write, E: Write>(
     ensures { IfOk result (λ r. Walked (batch_text s.now b.now) out.old 0 r out.new) }
 {
     match batch::check(s, b) {
-        Checked::Done => accepted_text(to, s, b, out),
-        Checked::Refused(r) => Ok(crate::refused(out, answers::refusals::number(r))),
-        Checked::RefusedRow { row, refusal } => {
+        Ok(()) => accepted_text(to, s, b, out),
+        Err(Fault::Whole(r)) => Ok(crate::refused(out, answers::refusals::number(r))),
+        Err(Fault::Row { row, refusal }) => {
             say_row(errors, row, refusal)?;
             Ok(crate::refused(out, answers::refusals::number(refusal)))
         }
@@ -93,7 +90,7 @@ pub fn cards<W: Write, E: Write>(
     ensures { IfOk result (λ r. Walked (batch_output_of input.now) out.old 0 r out.new) }
 {
     match input::take_apart(input) {
-        input::Split::Short => Ok(crate::refused(out, 1)),
-        input::Split::Parts(end) => batch_text(to, errors, &input[2..end], &input[end..], out),
+        None => Ok(crate::refused(out, 1)),
+        Some(end) => batch_text(to, errors, &input[2..end], &input[end..], out),
     }
 }

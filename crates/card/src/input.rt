@@ -2,22 +2,16 @@
 ghost use Rattle.std.specs.Prelude.{◌≡◌};
 ghost use Rattle.card.specs.Input.{split_of};
 
-// Where the schema of an input ends, or that the input is shorter than announced.
-#[derive(Clone, Copy)]
-pub enum Split {
-    Short,
-    Parts(usize),
-}
-
-pub fn take_apart(input: &[u8]) -> Split
+// Where the schema of an input ends, if the input is as long as announced.
+pub fn take_apart(input: &[u8]) -> Option<usize>
     ensures { result ≡ split_of input.now }
 {
     if input.len() < 2 {
-        return Split::Short;
+        return None;
     }
-    let n = words::nums::get2(input, 0);
+    let n = words::nums::get::<2>(input, 0) as usize;
     if input.len() - 2 < n {
-        return Split::Short;
+        return None;
     }
-    Split::Parts(2 + n)
+    Some(2 + n)
 }

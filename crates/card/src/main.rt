@@ -7,10 +7,11 @@ ghost use Rattle.lettering.specs.Held.{Walked};
 ghost use Rattle.leaves.specs.Whole.{card_of};
 ghost use Rattle.card.specs.Output.{refusal, Ready, judged_text, output_of};
 
-use answers::{Outcome, Refusal};
+use answers::Refusal;
 use lettering::text;
 use std::env::{Env, FillError};
 use std::io::{Result, Write};
+use table::rooms;
 
 mod batches;
 mod input;
@@ -39,9 +40,7 @@ fn accepted_text<W: Write>(to: &mut W, schema: &[u8], row: &[u8], out: &mut [u8]
     ensures walked { IfOk result (λ r. Walked (card_of schema.now row.now) out.old 0 r out.new) }
     ensures held { length (card_of schema.now row.now) ≤ 229000 → IsOk result }
 {
-    let mut room = [0u64; 512];
-    let n = table::build(schema, &mut room);
-    leaves::whole(to, &room[..n], row, out, 0)
+    rooms::with_out(schema, out, |t, out| leaves::whole(to, t, row, out, 0)).unwrap()
 }
 
 // The whole row is checked before its first line is made.
@@ -56,8 +55,8 @@ fn row_text<W: Write, E: Write>(
     ensures { IfOk result (λ r. Walked (judged_text schema.now row.now) out.old 0 r out.new) }
 {
     match row::check(schema, row) {
-        Outcome::Done => accepted_text(to, schema, row, out),
-        Outcome::Refused(r) => {
+        Ok(()) => accepted_text(to, schema, row, out),
+        Err(r) => {
             say_place(errors, r)?;
             Ok(refused(out, answers::refusals::number(r)))
         }
@@ -75,8 +74,8 @@ fn card<W: Write, E: Write>(
     ensures { IfOk result (λ r. Walked (output_of input.now) out.old 0 r out.new) }
 {
     match input::take_apart(input) {
-        input::Split::Short => Ok(refused(out, 1)),
-        input::Split::Parts(end) => row_text(to, errors, &input[2..end], &input[end..], out),
+        None => Ok(refused(out, 1)),
+        Some(end) => row_text(to, errors, &input[2..end], &input[end..], out),
     }
 }
 

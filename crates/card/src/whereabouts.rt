@@ -6,25 +6,27 @@ ghost use Rattle.card.specs.Output.{Ready};
 ghost use Rattle.card.specs.Whereabouts.{where_text, where_output_of};
 
 use crate::input;
-use answers::Outcome;
 use std::io::{Result, Write};
+use table::rooms;
 
 // The picture of a row, sound or broken, by the table of its schema.
 fn pictured<W: Write>(
     to: &mut W,
     schema: &[u8],
     row: &[u8],
-    sound: bool,
-    place: usize,
+    fault: Option<usize>,
     out: &mut [u8],
 ) -> Result<usize>
     requires { Ready schema.now row.now × (length out.old ≡ 262144) }
-    ensures walked { IfOk result (λ r. Walked (shown schema.now row.now (fault_of sound place)) out.old 0 r out.new) }
-    ensures held { length (shown schema.now row.now (fault_of sound place)) ≤ 229000 → IsOk result }
+    ensures walked { IfOk result (λ r. Walked (shown schema.now row.now (fault_of fault)) out.old 0 r out.new) }
+    ensures held { length (shown schema.now row.now (fault_of fault)) ≤ 229000 → IsOk result }
 {
-    let mut room = [0u64; 512];
-    let n = table::build(schema, &mut room);
-    picture::charted(to, &room[..n], row, sound, place, out)
+    rooms::with_out(
+        schema,
+        out,
+        |t, out| picture::charted(to, t, row, fault, out),
+    )
+    .unwrap()
 }
 
 // A broken row has its picture too: only one without an accepted schema, or too long, has none.
@@ -39,14 +41,14 @@ fn where_text<W: Write, E: Write>(
     ensures { IfOk result (λ r. Walked (where_text schema.now row.now) out.old 0 r out.new) }
 {
     match row::check(schema, row) {
-        Outcome::Done => pictured(to, schema, row, true, 0, out),
-        Outcome::Refused(r) => {
+        Ok(()) => pictured(to, schema, row, None, out),
+        Err(r) => {
             let n = answers::refusals::number(r);
             if n != 7 {
                 return Ok(crate::refused(out, n));
             }
             crate::say_place(errors, r)?;
-            pictured(to, schema, row, false, answers::refusals::place(r), out)
+            pictured(to, schema, row, Some(answers::refusals::place(r)), out)
         }
     }
 }
@@ -62,7 +64,7 @@ pub fn where_output<W: Write, E: Write>(
     ensures { IfOk result (λ r. Walked (where_output_of input.now) out.old 0 r out.new) }
 {
     match input::take_apart(input) {
-        input::Split::Short => Ok(crate::refused(out, 1)),
-        input::Split::Parts(end) => where_text(to, errors, &input[2..end], &input[end..], out),
+        None => Ok(crate::refused(out, 1)),
+        Some(end) => where_text(to, errors, &input[2..end], &input[end..], out),
     }
 }

@@ -1,4 +1,5 @@
 -- A schema that is none of those in a catalogue, laid behind them. Assumes nothing.
+use Rattle.std.specs.Prelude.{Ok, Err}
 use mathlib.Core.Path.{◌≡◌, refl, sym, ap, ◌∙◌}
 use mathlib.Core.Logic.{◌⊎◌, inl, inr}
 use mathlib.Core.Bool.{false}
@@ -20,7 +21,6 @@ use Rattle.shelf.proofs.Entries.{start-most}
 use Rattle.shelf.proofs.Standing.{sound, sound-short}
 use Rattle.shelf.proofs.Holding.{entries-more, accepted-short, held-count, held-end, holds, rest, whole}
 use Rattle.shelf.proofs.Growing.{New, length_more}
-use Rattle.catalogue.specs.declared.Numbered.TheVariants as N
 use Rattle.catalogue.specs.Entries.{given}
 use Rattle.catalogue.specs.Meaning.{Entering, Adds}
 use Rattle.catalogue.proofs.Adding.{twelve, refused-stays, add-new, added_new}
@@ -71,7 +71,7 @@ module _ {t : List ℕ} {end : ℕ} {s : List ℕ} (y : Entering t end s) where
   enters-room n =
       omega (arith, start-most (sound-short (sound t y.behind.sound)) (count_in t) (omega arith), y.behind.ends, enters-short, enters-size, enters_below n)
 
-  pub enters-full : count_in t ≡ 16 → Adds t s (N.Refused F.Full) t
+  pub enters-full : count_in t ≡ 16 → Adds t s (Err F.Full) t
   enters-full e =
       let q = twelve t s (record { sound = y.behind.sound; schema = y.schema; all = e; new = is-new }) in
       record { answers = sym q; leaves = sym (refused-stays t s (numbered 12) q) }
@@ -90,7 +90,7 @@ module _ {t : List ℕ} {end : ℕ} {s : List ℕ} (y : Entering t end s) where
         ∙ ap (λ (k : ℕ). sets t k (le 2 (length s) ++ s)) ends_at
 
     pub enters-new : {b d : List ℕ} → b ≡ sets t end (le 2 (length s)) → d ≡ sets b (end + 2) (part s 0 (length s))
-        → Adds t s (N.Number (count_in t)) (set d 0 (count_in t + 1))
+        → Adds t s (Ok (count_in t)) (set d 0 (count_in t + 1))
     enters-new {d = d} e f =
         let z : count_in t + 1 ≡ suc (length (schemas_in t)) = omega (arith, counted) in
         record {

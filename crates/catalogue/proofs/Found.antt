@@ -1,5 +1,5 @@
 -- An entry that goes on with the schema found for its number ends as the entry by number does. Assumes nothing.
-use mathlib.Core.Path.{◌≡◌, refl, sym, ap, ◌∙◌, subst}
+use mathlib.Core.Path.{◌≡◌, refl, sym, ap, ◌∙◌}
 use mathlib.Core.List.{List}
 use Prim.Native.Nat.{ℕ, ◌-◌}
 use lib.ListN.{take, drop}
@@ -10,17 +10,16 @@ use Rattle.layout.specs.Refusals.{numbered}
 use Rattle.layout.specs.Setting.{Setting, Outcome}
 use Rattle.layout.specs.Entries as E
 use Rattle.layout.specs.Entries.{Sized, set_verdict}
-use Rattle.answers.specs.declared.Length.{Length}
-use Rattle.answers.specs.declared.Outcome.{Outcome as Done}
-use Rattle.answers.specs.Meaning.{length_means, outcome_means}
+use Rattle.std.specs.Prelude.{Ok, Err}
+use Rattle.answers.specs.declared.Refusal.{Refusal}
+use Rattle.answers.specs.declared.Span.{Span}
+use Rattle.answers.specs.Meaning.{Outcome as Done, outcome_means, Length, length_means}
 use Rattle.setting.specs.Writes.{SetAs}
-use Rattle.shelf.specs.declared.Found.{Found}
-use Rattle.shelf.specs.declared.Found.TheVariants as S
 use Rattle.shelf.specs.Catalogue.{schema_in}
-use Rattle.shelf.specs.Places.{SchemaAt, FoundAs}
+use Rattle.shelf.specs.Places.{SchemaAt, FoundAs, is_broken, is_past, is_at}
 use Rattle.catalogue.specs.Entries.{set_at}
 use Rattle.catalogue.specs.Kept.{Asked, check, write, list, read, set, ends, ends_at, refusing}
-use Rattle.catalogue.specs.Meaning.{ListsAt, WritesAt}
+use Rattle.catalogue.specs.Meaning.{GoesOn, EndsBy, ListsAt, WritesAt}
 use Rattle.catalogue.proofs.ByNumber.{by_number, no-catalogue, thirteen}
 
 -- a schema that is refused
@@ -32,7 +31,7 @@ refuses s e (list row out) = rw e
 refuses s e (read row p) = rw e
 refuses s e (set row p x) = rw e
 
-pub found : {t : List ℕ} {k start end : ℕ} → SchemaAt t k start end → (q : Asked) → ends (take (end - start) (drop start t)) q ≡ ends_at t k q
+found : {t : List ℕ} {k start end : ℕ} → SchemaAt t k start end → (q : Asked) → ends (take (end - start) (drop start t)) q ≡ ends_at t k q
 found {t} {k} y q = ap (λ (u : List ℕ). ends u q) y.is ∙ go (judged (schema_in t k)) refl
   where
     go : (j : Judged) → judged (schema_in t k) ≡ j → ends (schema_in t k) q ≡ ends_at t k q
@@ -41,15 +40,13 @@ found {t} {k} y q = ap (λ (u : List ℕ). ends u q) y.is ∙ go (judged (schema
 
 -- ---- what finding it told
 
-module _ (t : List ℕ) (k : ℕ) {f : Found} where
-  pub is-broken : f ≡ S.Broken → FoundAs t k f → (q : Asked) → refusing (numbered 1) q ≡ ends_at t k q
-  is-broken e b q = sym (no-catalogue t k q (subst (FoundAs t k) e b))
+module _ (t : List ℕ) (k : ℕ) where
+  pub ends-by : {r : Refusal} → FoundAs t k (Err r) → EndsBy t k r
+  ends-by (is_broken b) = record { ends = λ q. sym (no-catalogue t k q b); roomless = refl }
+  ends-by (is_past y) = record { ends = λ q. sym (thirteen t k q y); roomless = refl }
 
-  pub is-past : f ≡ S.Past → FoundAs t k f → (q : Asked) → refusing (numbered 13) q ≡ ends_at t k q
-  is-past e b q = sym (thirteen t k q (subst (FoundAs t k) e b))
-
-  pub is_at : {start end : ℕ} → f ≡ S.At start end → FoundAs t k f → SchemaAt t k start end
-  is_at e b = subst (FoundAs t k) e b
+  pub goes-on : {s : Span} → FoundAs t k (Ok s) → GoesOn t k (take (s.end - s.start) (drop s.start t))
+  goes-on (is_at y) = found y
 
 -- ---- the entries that write: the answer and the bytes at once
 

@@ -8,11 +8,12 @@ use native.Mathlib.Decide.{dec_lt}
 use native.Mathlib.Numerals.{add-one}
 use native.Mathlib.Omega.{arith}
 use lib.Dec.{eqb, ltb}
-use lib.ListN.{length, take, drop, get_or, set, length-take, length-append, get_or-eq_default, drop_of_length-le}
-use lib.Seq.{sets, drop-cons, take_all, take-take, take-suc-set, set-append_seam}
+use lib.ListN.{length, take, drop, get_or, set, length-take, length-append, get_or-eq_default}
+use lib.Seq.{sets, sets-eq, drop-drop, take-take, set-append_seam}
+use borrow.Rule.Slice.PartMut.{put_mid}
 use borrow.Author.Tests.{eq-eqb, ne_eqb, ltb-true}
 use Rattle.words.specs.Bytes.{part, fill, zeros, bitmap}
-use Rattle.words.proofs.Parts.{part-snoc}
+use Rattle.words.proofs.Parts.{length_part}
 use Rattle.words.proofs.Numbers.{length-fill, take-filled}
 use Rattle.schema.proofs.Table.{agree}
 use Rattle.answers.specs.declared.Path.{Path}
@@ -74,16 +75,17 @@ module _ (m : List ℕ) (line what : ℕ) (p : Path) where
       let two : 18 * line + 2 ≡ suc (suc (18 * line)) = omega arith in
       rw (eq-eqb (get_or m (18 * line) 0) 0 h, length-path p, ← n.rest) (e ∙ rw (one, two))
 
--- the steps are stored one by one: what is left leads to the same end
-pub store-turn : (m steps : List ℕ) (at k : ℕ) → k < length steps
-    → sets m (at + k) (drop k steps) ≡ sets (set m (at + k) (get_or steps k 0)) (at + (k + 1)) (drop (k + 1) steps)
-store-turn m steps at k h =
-    let e : at + (k + 1) ≡ suc (at + k) = omega arith in
-    rw (drop-cons steps k 0 h, e, add-one k)
+-- the steps are stored in one run
+put_mid-sets : (b v : List ℕ) (at k : ℕ) → length v ≡ k → at + k ≤ length b → put_mid at k b v ≡ sets b at v
+put_mid-sets b v at k e h =
+    sym (append_assoc (take at b) v _) ∙ ap (λ (t : List ℕ). take at b ++ v ++ t) (drop-drop k at b ∙ ap (λ (n : ℕ). drop (at + n) b) (sym e))
+    ∙ sym (sets-eq v b at (omega arith))
 
--- none is left
-pub store-all : (m m₀ steps : List ℕ) (at k : ℕ) → length steps ≤ k → sets m (at + k) (drop k steps) ≡ sets m₀ at steps → m ≡ sets m₀ at steps
-store-all m m₀ steps at k h e = rw (drop_of_length-le steps h) at e
+pub steps-stored : (out u steps : List ℕ) (at : ℕ) → u ≡ steps → length steps ≡ 16 → at + 18 ≤ length out
+    → put_mid (at + 2) (at + 18 - (at + 2)) out u ≡ sets out (at + 2) steps
+steps-stored out u steps at e h room =
+    let long : length u ≡ 16 = ap length e ∙ h in
+    put_mid-sets out u (at + 2) (at + 18 - (at + 2)) (omega arith) (omega arith) ∙ ap (sets out (at + 2)) e
 
 -- ---- paths
 
@@ -202,10 +204,6 @@ steps_front p e h =
     let z : p.len - length (take p.len p.steps) ≡ 0 = rw length-take (omega arith) in
     rw z (append-nil (take p.len p.steps))
 
-pub copied-turn : (u m : List ℕ) (at k : ℕ) → k < length u → at + k < length m → take k u ≡ part m at k
-    → take (k + 1) (set u k (get_or m (at + k) 0)) ≡ part m at (k + 1)
-copied-turn u m at k h l e = rw (add-one k, take-suc-set u k (get_or m (at + k) 0) h, e) (sym (part-snoc m at k l))
-
 pub held-few : (n : ℕ) → held n ≤ 16
 held-few n = go (ltb n 16) refl
   where
@@ -213,14 +211,15 @@ held-few n = go (ltb n 16) refl
     go true e = omega (arith, ltb-true n 16 e)
     go false e = omega arith
 
-pub copied_all : (p : Path) (m : List ℕ) (line k x : ℕ) → length p.steps ≡ 16 → k ≤ 16 → 16 ≤ k → take k p.steps ≡ part m (18 * line + 2) k
-    → p.len ≡ x → x ≡ held (get_or m (18 * line + 1) 0) → PathAt m line p
+pub copied : (p : Path) (m : List ℕ) (line : ℕ) → Long m → line < 2048
+    → p.steps ≡ take (18 * line + 18 - (18 * line + 2)) (drop (18 * line + 2) m) → p.len ≡ held (get_or m (18 * line + 1) 0) → PathAt m line p
 unfolding steps_at
-copied_all p m line k x h a b e l q =
-    let z : k ≡ 16 = omega arith in
-    let few : p.len ≤ 16 = rw (l ∙ q) (held-few (get_or m (18 * line + 1) 0)) in
-    let all : p.steps ≡ part m (18 * line + 2) 16 = sym (take_all 16 p.steps (omega arith)) ∙ rw z at e in
+copied p m line long h e l =
+    let few : p.len ≤ 16 = rw l (held-few (get_or m (18 * line + 1) 0)) in
+    let sixteen : 18 * line + 18 - (18 * line + 2) ≡ 16 = omega arith in
+    let all : p.steps ≡ part m (18 * line + 2) 16 = e ∙ ap (λ (k : ℕ). take k (drop (18 * line + 2) m)) sixteen in
+    let full : length p.steps ≡ 16 = ap length all ∙ length_part m (18 * line + 2) 16 (omega arith) in
     record {
       few = few;
-      is = steps_front p h few ∙ ap (take p.len) all ∙ take-take p.len 16 (drop (18 * line + 2) m) few ∙ ap (part m (18 * line + 2)) (l ∙ q);
+      is = steps_front p full few ∙ ap (take p.len) all ∙ take-take p.len 16 (drop (18 * line + 2) m) few ∙ ap (part m (18 * line + 2)) l;
     }

@@ -12,7 +12,7 @@ use Rattle.layout.specs.Reading.{Answer, placed}
 use Rattle.layout.specs.Entries.{read_of}
 use Rattle.answers.specs.declared.Answer.{Answer as Case}
 use Rattle.answers.specs.declared.Answer.TheVariants as A
-use Rattle.answers.specs.Meaning.{meaning}
+use Rattle.answers.specs.Meaning.{meaning, Read, read_means}
 use Rattle.table.specs.Tables.{schema_of}
 use Rattle.reading.specs.Places.{place_ty, PlaceHolds}
 use Rattle.reading.specs.Finding.{Open, root_ty, Finds}
@@ -21,9 +21,11 @@ use Rattle.reading.specs.declared.TypeParts.{TypeParts}
 use Rattle.reading.specs.declared.Place.{Place}
 use Rattle.reading.specs.declared.Seat.{Seat}
 use Rattle.reading.specs.declared.Found.{Found}
-use Rattle.reading.specs.declared.Found.TheVariants.{NoPlace, NullBefore, Broken, Null, At}
+use Rattle.reading.specs.declared.Found.TheVariants.{Null, At}
+use Rattle.std.specs.Prelude.{Result, Ok, Err}
+use Rattle.answers.specs.declared.Refusal.{Refusal}
 use Rattle.reading.proofs.Opening.{ty-fixed, ty-text}
-use Rattle.reading.proofs.Shown.{show-text, show-holder, read-nowhere, read_under, read-broken, read-null, read_at}
+use Rattle.reading.proofs.Shown.{show-text, show-holder, read-refused, read-null, read_at}
 use Rattle.chart.specs.Claims.{claim_all, taken}
 use Rattle.chart.specs.Labels.{unlabelled, labelled, labels_by, labels_in, labels_at, followed}
 use Rattle.chart.specs.Room.{Draws, Follows, labels_of}
@@ -75,30 +77,24 @@ follows-none m = record { chart = refl; below = none-followed m; few = omega ari
 
 -- ---- by what was found
 
-module _ {t row : List ℕ} (p : List ℕ) (O : Open t row) {f : Found} (G : Finds t row p f) where
+module _ {t row : List ℕ} (p : List ℕ) (O : Open t row) {f : Result Found Refusal} (G : Finds t row p f) where
   abbrev s : List ℕ
   s = schema_of t
 
-  labels-as : (a : Case) → Reads s row p a → labels_in (placed p (root_ty t)) (meaning a) p ≡ labels_at s row p
+  labels-as : (a : Read) → Reads s row p a → labels_in (placed p (root_ty t)) (read_means a) p ≡ labels_at s row p
   unfolding labels_at
   labels-as a g = ap (λ (b : Answer). labels_in (placed p (root_ty t)) b p) g.means
 
   none-as : (m : List ℕ) → unlabelled ≡ labels_at s row p → Follows (labels_at s row p) m 0 m
   none-as m e = rw (← e) (follows-none m)
 
-  pub label-nowhere : (m : List ℕ) → f ≡ NoPlace → Follows (labels_at s row p) m 0 m
-  label-nowhere m e = none-as m (sym (refused_none _ _ p) ∙ labels-as _ (read-nowhere O G e))
+  pub label-refused : (m : List ℕ) {r : Refusal} → f ≡ Err r → Follows (labels_at s row p) m 0 m
+  label-refused m e = none-as m (sym (refused_none _ _ p) ∙ labels-as _ (read-refused O G e))
 
-  pub label-under : (m : List ℕ) → f ≡ NullBefore → Follows (labels_at s row p) m 0 m
-  label-under m e = none-as m (sym (refused_none _ _ p) ∙ labels-as _ (read_under O G e))
-
-  pub label-broken : (m : List ℕ) {j : ℕ} → f ≡ Broken j → Follows (labels_at s row p) m 0 m
-  label-broken m e = none-as m (sym (refused_none _ _ p) ∙ labels-as _ (read-broken O G e))
-
-  pub label-null : (m : List ℕ) {x : TypeParts} {z : Seat} → f ≡ Null x z → Follows (labels_at s row p) m 0 m
+  pub label-null : (m : List ℕ) {x : TypeParts} {z : Seat} → f ≡ Ok (Null x z) → Follows (labels_at s row p) m 0 m
   label-null m e = none-as m (sym (null-none _ p) ∙ labels-as _ (read-null O G e))
 
-  module _ {y : Place} (e : f ≡ At y) where
+  module _ {y : Place} (e : f ≡ Ok (At y)) where
     pub found-stands : PlaceHolds t row y
     found-stands = rw e at G.lands
 
@@ -107,7 +103,7 @@ module _ {t row : List ℕ} (p : List ℕ) (O : Open t row) {f : Found} (G : Fin
 
     -- what a read answers there
     there : (a : Case) → meaning a ≡ show_of row y → labels_in (some (place_ty t y)) (meaning a) p ≡ labels_at s row p
-    there a h = ap (λ (o : Option Ty). labels_in o (meaning a) p) typed ∙ labels-as a (read_at O G e h)
+    there a h = ap (λ (o : Option Ty). labels_in o (meaning a) p) typed ∙ labels-as (Ok a) (read_at O G e h)
 
     label-fixed : y.opened.kind < 7 → labels_of t row y p ≡ labels_at s row p
     unfolding labels_at labelled

@@ -38,7 +38,7 @@ pub fn what(chart: &[u32], line: usize) -> u32
 fn held(n: usize) -> usize
     ensures { result ≡ held n }
 {
-    if n < 16 { n } else { 16 }
+    n.min(16)
 }
 
 // The path of what stands at a line.
@@ -47,14 +47,10 @@ pub fn path_at(chart: &[u32], line: usize) -> Path
     ensures { PathAt chart.now line result }
 {
     let at = 18 * line;
-    let mut path = Path {
-        steps: [0; 16],
+    let mut steps = [0; 16];
+    steps.copy_from_slice(&chart[at + 2..at + 18]);
+    Path {
+        steps,
         len: held(chart[at + 1] as usize),
-    };
-    let mut k: usize = 0;
-    while k < 16 {
-        path.steps[k] = chart[at + 2 + k];
-        k += 1;
     }
-    path
 }

@@ -12,11 +12,7 @@ pub fn is_taken(chart: &[u32], line: usize) -> bool
     requires { Long chart.now × (line ≤ 2048) }
     ensures { result ≡ taken chart.now line }
 {
-    if line < 2048 {
-        chart[18 * line] != 0
-    } else {
-        false
-    }
+    line < 2048 && chart[18 * line] != 0
 }
 
 // One line, if nothing stands there.
@@ -28,14 +24,9 @@ pub fn claim(chart: &mut [u32], line: usize, what: u32, path: Path)
     if chart[at] != 0 {
         return;
     }
-    let steps = path.steps;
     chart[at] = what;
     chart[at + 1] = path.len as u32;
-    let mut k: usize = 0;
-    while k < 16 {
-        chart[at + 2 + k] = steps[k];
-        k += 1;
-    }
+    chart[at + 2..at + 18].copy_from_slice(&path.steps);
 }
 
 // Padding follows where size bytes end inside the line j of theirs.
@@ -52,10 +43,8 @@ pub fn byte_lines(chart: &mut [u32], line: usize, size: usize, what: u32, path: 
     ensures { chart.new ≡ claim_all (byte_lines line size what (path_of path)) chart.old }
 {
     let lines = (size + 7) >> 3;
-    let mut j: usize = 0;
-    while j < lines {
+    for j in 0..lines {
         claim(chart, line + j, what + padding(size, j), path);
-        j += 1;
     }
 }
 
@@ -71,13 +60,12 @@ fn slots_on_line(w: usize) -> usize
     requires { 8 % w ≡ 0 }
     ensures { result * w ≡ 8 }
 {
-    if w == 8 {
-        return 1;
+    match w {
+        8 => 1,
+        4 => 2,
+        2 => 4,
+        _ => 8,
     }
-    if w == 4 {
-        return 2;
-    }
-    if w == 2 { 4 } else { 8 }
 }
 
 // The lines of size bytes of slots, w bytes each: a line has the path of the first slot on it.
@@ -91,11 +79,9 @@ fn slot_lines(chart: &mut [u32], line: usize, w: usize, size: usize, path: Path)
     let n = path.len;
     let mut child = path;
     child.len = n + 1;
-    let mut j: usize = 0;
-    while j < lines {
+    for j in 0..lines {
         child.steps[n] = (each * j) as u32;
         claim(chart, line + j, word + padding(size, j), child);
-        j += 1;
     }
 }
 

@@ -33,7 +33,7 @@ fn list(row: &[u8], chart: &mut [u32], start: usize, v: usize, path: Path) -> us
     requires { ListRoom chart.old row.now start v path }
     ensures { Draws (listed (start / 8) v (num (part row.now start 8)) (path_of path)) chart.old result chart.new }
 {
-    let n = words::nums::get8(row, start) as usize;
+    let n = words::nums::get::<8>(row, start) as usize;
     let line = start >> 3;
     lines::claim(chart, line, 2, path);
     lines::child_lines(chart, line + 1, reading::own::slot_width(v), n, path);
@@ -46,25 +46,24 @@ fn present(t: &[u64], row: &[u8], chart: &mut [u32], p: Place, path: Path) -> us
     ensures { Draws (labels_of t.now row.now p (path_of path)) chart.old result chart.new }
 {
     let x = p.opened;
-    let k = x.kind;
     let start = p.start;
-    if k < table::STRING {
-        return 0;
+    match x.kind {
+        ..table::STRING => 0,
+        table::STRING | table::BINARY => {
+            lines::byte_lines(chart, start >> 3, p.len, text_word(x.kind), path);
+            0
+        }
+        table::LIST => list(row, chart, start, element_width(t, x.first), path),
+        table::MAP => {
+            lines::claim(chart, start >> 3, 3, path);
+            2
+        }
+        _ => {
+            let n = table::count(x.entry);
+            lines::child_lines(chart, start >> 3, 8, n, path);
+            n
+        }
     }
-    if k < table::LIST {
-        lines::byte_lines(chart, start >> 3, p.len, text_word(k), path);
-        return 0;
-    }
-    if k == table::LIST {
-        return list(row, chart, start, element_width(t, x.first), path);
-    }
-    if k == table::MAP {
-        lines::claim(chart, start >> 3, 3, path);
-        return 2;
-    }
-    let n = table::count(x.entry);
-    lines::child_lines(chart, start >> 3, 8, n, path);
-    n
 }
 
 // What the place that a path leads to claims: a place that no read finds, and a null, nothing. Answers how many places below it are to be
@@ -74,11 +73,9 @@ fn label(t: &[u64], row: &[u8], path: Path, chart: &mut [u32]) -> usize
     ensures { Follows (labels_at (schema_of t.now) row.now (path_of path)) chart.old result chart.new }
 {
     match reading::find(t, row, path) {
-        Found::NoPlace => 0,
-        Found::NullBefore => 0,
-        Found::Broken(_) => 0,
-        Found::Null(_, _) => 0,
-        Found::At(p) => {
+        Err(_) => 0,
+        Ok(Found::Null(..)) => 0,
+        Ok(Found::At(p)) => {
             let taken = lines::is_taken(chart, p.start >> 3);
             let below = present(t, row, chart, p, path);
             if taken { 0 } else { below }
@@ -99,10 +96,8 @@ pub fn place(t: &[u64], row: &[u8], path: Path, chart: &mut [u32])
     let count = label(t, row, path, chart);
     let mut child = path;
     child.len = n + 1;
-    let mut i: usize = 0;
-    while i < count {
+    for i in 0..count {
         child.steps[n] = i as u32;
         place(t, row, child, chart);
-        i += 1;
     }
 }

@@ -19,7 +19,7 @@ use Rattle.words.proofs.Tests.{yes-is, no-is}
 use Rattle.words.proofs.Parts.{length_part, bytes-part}
 use Rattle.words.proofs.NumLaws.{num-one}
 use Rattle.words.proofs.BitLaws.{bit-num}
-use Rattle.schema.specs.Types.{Text, bi, text}
+use Rattle.schema.specs.Types.{Text, st, text}
 use Rattle.layout.specs.Layout.{Codec, Kid, spells?, number, string, inside, front, codec}
 use Rattle.layout.specs.Cells.{leaf}
 use Rattle.layout.specs.Faults.{slot, byte, got, assert_at, ◌>>◌}
@@ -29,7 +29,7 @@ use Rattle.standing.specs.Standing.{varies}
 use Rattle.checking.specs.Sound.{code, fault_of, in_child, zeros_then, fault_from}
 use Rattle.spelling.specs.Spelling.{Spelling}
 use Rattle.spelling.proofs.ByKind.{free}
-use Rattle.checking.specs.Room.{ListRoom, ListEnd, NoNulls, NoNullsIf, NullAsk, bools}
+use Rattle.checking.specs.Room.{ListRoom, ListEnd, NoNulls, NoNullsIf, NullAsk, text_if, bools}
 use Rattle.checking.proofs.Tests.{clash, passed, failed, code-test, code-equal, code-less, code_got, child-sound, found-fits}
 use Rattle.checking.proofs.Children.{good-end, good-null, good-inside}
 use Rattle.checking.proofs.Loops.{items, Slots}
@@ -50,8 +50,17 @@ module _ {t : Text} {u : List ℕ} {r : Bool} (e : Spelling t u r) where
   pub text-fault : not r ≡ true → fault_of (text t) u ≡ 1
   text-fault q = text-code t u ∙ rw (failed e.is q)
 
-pub binary-sound : (u : List ℕ) → fault_of (text bi) u ≡ 0
-binary-sound u = text-sound (free u) refl
+-- where a list's texts are strings, as the number f says, and where they are binaries
+module _ (f : ℕ) where
+  module _ (ne : f ≡ 0 → ⊥) {u : List ℕ} {r : Bool} (e : Spelling st u r) where
+    pub string-sound : not r ≡ false → fault_of (text (text_if (not (eqb f 0)))) u ≡ 0
+    string-sound q = rw (ne_eqb f 0 ne) (text-sound e q)
+
+    pub string-fault : not r ≡ true → fault_of (text (text_if (not (eqb f 0)))) u ≡ 1
+    string-fault q = rw (ne_eqb f 0 ne) (text-fault e q)
+
+  pub binary-sound : f ≡ 0 → (u : List ℕ) → fault_of (text (text_if (not (eqb f 0)))) u ≡ 0
+  binary-sound z u = rw (eq-eqb f 0 z) (text-sound (free u) refl)
 
 pub texts-slots : (t : Text) {b : List ℕ} {n slots start : ℕ} → ListRoom b 8 n slots start → Bytes b → Slots (items (text t) n) b n slots start
 unfolding varies
@@ -82,19 +91,19 @@ word-clear m k e = rw (e, zero-div (2 ^ k))
 pub clear-start : (b : List ℕ) → NoNulls b 0
 clear-start b = record { none = λ j h. absurd (omega arith) }
 
-pub clear-word : {b : List ℕ} {i p x : ℕ} → NoNulls b i → i % 64 ≡ 0 → p ≡ 8 + i / 8 → Reads b p 8 x → x ≡ 0 → Bytes b → NoNulls b (i + 64)
-clear-word {b} {i} {p} {x} c e ep rx z hb = record { none = λ j h. go j h (dec_lt j i) }
+pub clear-word : {b : List ℕ} (k : ℕ) {x : ℕ} → NoNulls b (64 * k) → Reads b (8 + 8 * k) 8 x → x ≡ 0 → Bytes b → NoNulls b (64 * (k + 1))
+clear-word {b} k {x} c rx z hb = record { none = λ j h. go j h (dec_lt j (64 * k)) }
   where
-    go : (j : ℕ) → j < i + 64 → Dec (j < i) → bit b 8 j ≡ false
-    go j h (yes k) = c.none j k
-    go j h (no k) =
-        let q = j - i in
-        let a : 8 + j / 8 ≡ p + q / 8 = omega arith in
+    go : (j : ℕ) → j < 64 * (k + 1) → Dec (j < 64 * k) → bit b 8 j ≡ false
+    go j h (yes l) = c.none j l
+    go j h (no l) =
+        let q = j - 64 * k in
+        let a : 8 + j / 8 ≡ 8 + 8 * k + q / 8 = omega arith in
         let r : j % 8 ≡ q % 8 = omega arith in
-        rw (a, r) (sym (bit-num p 8 q hb (omega arith)) ∙ word-clear (num (part b p 8)) q (sym rx.is ∙ z))
+        rw (a, r) (sym (bit-num (8 + 8 * k) 8 q hb (omega arith)) ∙ word-clear (num (part b (8 + 8 * k) 8)) q (sym rx.is ∙ z))
 
-pub clear-end : {b : List ℕ} {n i : ℕ} → NoNulls b i → n ≤ i → NoNulls b n
-clear-end c h = record { none = λ j k. c.none j (omega arith) }
+pub clear-end : {b : List ℕ} {n k : ℕ} → NoNulls b (64 * k) → (n + 63) / 64 ≤ k → NoNulls b n
+clear-end c h = record { none = λ j l. c.none j (omega arith) }
 
 -- ---- numbers
 
@@ -163,18 +172,6 @@ module _ {b : List ℕ} {n slots start i : ℕ} (a : BoolsAt b n slots start i) 
   front-is : front 8 1 (length (bools n)) ≡ start
   front-is = rw count (omega (arith, r.map, r.elements))
 
-  -- behind the last
-  pub bools-stop : Fits w64 (slots + n)
-  bools-stop = omega (arith, r.elements, r.room, r.small)
-
-  pub bools-behind : ListEnd b (slots + n) start
-  bools-behind = record {
-    small = r.small;
-    low = omega (arith, r.map, r.elements);
-    padded = omega (arith, r.map, r.elements);
-    room = r.room;
-  }
-
   pub bools-end : n ≤ i → {y : ℕ} → y ≡ zeros_then b (slots + n) start (cond (eqb start (length b)) 0 1) → y ≡ fault_from 8 1 (bools n) b 0 []
   unfolding total
   bools-end l ey =
@@ -187,20 +184,8 @@ module _ {b : List ℕ} {n slots start i : ℕ} (a : BoolsAt b n slots start i) 
     l' : i < length (bools n)
     l' = omega (arith, count)
 
-    pub bools-bit : 8 + i / 8 < length b
-    bools-bit = omega (arith, r.map, r.elements, r.room)
-
     pub bools-byte : slots + i < length b
     bools-byte = omega (arith, r.elements, r.room)
-
-    pub bools-at : Fits w64 (slots + i)
-    bools-at = omega (arith, bools-byte, r.small)
-
-    pub bools-told : Fits w64 (slots + i + 2)
-    bools-told = omega (arith, bools-byte, r.small)
-
-    pub bools-on : Fits w64 (i + 1)
-    bools-on = omega (arith, bools-byte, r.small)
 
     pub bools-null : {v : Bool} → v ≡ bit b 8 i → v ≡ true → BoolsAt b n slots start (i + 1)
     bools-null e q =

@@ -99,9 +99,6 @@ module _ {t : List ℕ} {first d n : ℕ} {b : List ℕ} {nulls i cur : ℕ} (a 
     pub plain-slot : Fits w64 (8 + 8 * i)
     plain-slot = omega (arith, a.few)
 
-    pub plain-less : n - (i + 1) < n - i
-    plain-less = omega arith
-
     -- a value's padding ends behind the bitmap, and in the struct, which is whole units
     module _ {s to : ℕ} (size : Size b (8 + 8 * i) s) (e : to ≡ pad (cur + s)) where
       pub plain-behind : 8 ≤ to

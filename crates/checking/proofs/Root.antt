@@ -5,7 +5,7 @@ use mathlib.Core.List.{List}
 use Prim.Native.Nat.{ℕ, zero, suc, ◌-◌, ◌≤◌}
 use native.Mathlib.Omega.{arith}
 use lib.ListN.{length}
-use Rattle.schema.specs.Types.{Ty, ro, place}
+use Rattle.schema.specs.Types.{Ty, ro}
 use Rattle.schema.specs.Walk.{fields_of}
 use Rattle.layout.specs.Faults.{slot, byte, Read, fault, got, in_row, fault_in}
 use Rattle.layout.specs.Layout.{codec, fault_at}

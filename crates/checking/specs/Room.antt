@@ -3,7 +3,7 @@ use Rattle.std.specs.Prelude.{◌≡◌, Bool, true, false, cond, List, ℕ, ◌
 use Rattle.words.specs.Bytes.{pad, bitmap, part}
 use Rattle.words.specs.Bits.{bit}
 use Rattle.schema.specs.Marks.{STRING, LIST, STRUCT}
-use Rattle.schema.specs.Types.{Fixed, width, Ty, Tys, field}
+use Rattle.schema.specs.Types.{Fixed, width, Text, st, bi, Ty, Tys, field}
 use Rattle.schema.specs.Walk.{TypedAll}
 use Rattle.layout.specs.Layout.{Kid, inside, number, limit, kid, slot_of, codec}
 use Rattle.table.specs.Words.{Lined, place_in, count_in}
@@ -44,6 +44,11 @@ pub record NullAsk (b : List ℕ) (i : ℕ) (full : Bool) : Type 0 where
 -- the elements of a list of bools
 abbrev pub bools : ℕ → List Kid
 bools n = replicate n (inside 1 1 (number 1 2))
+
+-- the type of a list's texts: strings where they have to be text, and else binaries
+abbrev pub text_if : Bool → Text
+text_if true = st
+text_if false = bi
 
 -- ---- fields of a fixed width
 

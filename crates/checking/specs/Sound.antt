@@ -1,6 +1,7 @@
 -- What a checked value answers: a number for the first fault that judging it meets, and for the first in a container's children from
 -- one of them on. Assumes nothing: these are definitions.
-use Rattle.std.specs.Prelude.{cond, List, ℕ, zero, suc, ◌+◌, ◌*◌, ◌-◌, ◌/◌, ◌^◌, eqb, length, drop}
+use Rattle.std.specs.Prelude.{None, Some, cond, List, ℕ, zero, suc, ◌+◌, ◌*◌, ◌-◌, ◌/◌, ◌^◌, eqb, length, drop}
+use Rattle.std.specs.Prelude as Rust
 use Rattle.std.proofs.Math.Option.{Option, none, some}
 use Rattle.std.proofs.Math.Decide.{ℕ_discrete}
 use Rattle.words.specs.Bytes.{num, pad, bitmap, part, zeros_ahead}
@@ -9,8 +10,6 @@ use Rattle.layout.specs.Faults.{Place, slot, byte, Read, fault, got, ◌>>=◌, 
 use Rattle.layout.specs.Tiles.{Range, total}
 use Rattle.layout.specs.Cells.{Cell}
 use Rattle.layout.specs.Layout.{Kid, reads, front, codec}
-use Rattle.checking.specs.declared.Checked.{Checked}
-use Rattle.checking.specs.declared.Checked.TheVariants as C
 
 -- 1 for the slot, i + 2 for byte i
 abbrev pub place_code : Place → ℕ
@@ -52,6 +51,6 @@ fault_from h w ks b i rs =
     (drop (i * w) (part b (h + bitmap (length ks)) (length ks * w))) rs >>= ending h w (length ks) b)
 
 -- the place of a broken row's fault
-abbrev pub checked_means : Checked → Option ℕ
-checked_means C.Sound = none
-checked_means (C.Broken p) = some p
+abbrev pub checked_means : Rust.Option ℕ → Option ℕ
+checked_means None = none
+checked_means (Some p) = some p

@@ -19,15 +19,7 @@ ghost use Rattle.checking.specs.Sound.{fault_of, in_child, fault_from, checked_m
 ghost use Rattle.checking.specs.Room.{FieldRoom, field_good, field_then, Holding, Fields, LeavesOr0, Items, Pair};
 ghost use Rattle.checking.specs.Room.{elements, Asked, Unfit, varies_in};
 
-mod binaries;
 mod lists;
-
-// What checking a row comes to: the place of the first fault counts from the row's first byte.
-#[derive(Clone, Copy)]
-pub enum Checked {
-    Sound,
-    Broken { place: usize },
-}
 
 // A child's fault as its container tells it: its slot stands at `slot`, its bytes from `cur` on.
 fn in_child(r: usize, slot: usize, cur: usize) -> usize
@@ -53,7 +45,7 @@ fn check_field(b: &[u8], i: usize, slot: usize, w: u64) -> bool
     if words::nulls::is_null(b, 0, i) {
         return true;
     }
-    words::nums::get8(b, slot) >> 1 >> top == 0
+    words::nums::get::<8>(b, slot) >> 1 >> top == 0
 }
 
 // The first wrong byte of a field that is not good.
@@ -121,28 +113,25 @@ fn is_plain(t: &[u64], first: usize, n: usize, depth: usize, b: &[u8]) -> bool
     if b.len() < 8 + 8 * n {
         return false;
     }
-    let nulls = words::nums::get8(b, 0);
+    let nulls = words::nums::get::<8>(b, 0);
     if nulls >> n != 0 {
         return false;
     }
     let mut cur = 8 + 8 * n;
-    let mut i: usize = 0;
-    while i < n {
+    for i in 0..n {
         let w = table::entry_at(t, first + i, depth);
         let k = table::place(w);
         let slot = 8 + 8 * i;
         if k < table::STRING {
-            if nulls >> i & 1 == 0 && words::nums::get8(b, slot) >> 1 >> table::top(w) != 0 {
+            if nulls >> i & 1 == 0 && words::nums::get::<8>(b, slot) >> 1 >> table::top(w) != 0 {
                 return false;
             }
-            i += 1;
             continue;
         }
         if k >= table::LIST {
             return false;
         }
         if nulls >> i & 1 != 0 {
-            i += 1;
             continue;
         }
         if words::slots::offset_at(b, slot) != cur {
@@ -160,7 +149,6 @@ fn is_plain(t: &[u64], first: usize, n: usize, depth: usize, b: &[u8]) -> bool
             return false;
         }
         cur = next;
-        i += 1;
     }
     cur == b.len()
 }
@@ -196,7 +184,7 @@ fn check_list(t: &[u64], c: usize, depth: usize, b: &[u8]) -> usize
     if b.len() < 8 {
         return 1;
     }
-    let n = words::nums::get8(b, 0) as usize;
+    let n = words::nums::get::<8>(b, 0) as usize;
     if b.len() < n {
         return 2;
     }
@@ -218,10 +206,10 @@ fn check_list(t: &[u64], c: usize, depth: usize, b: &[u8]) -> usize
         return lists::check_end(b, end, start);
     }
     if k == table::STRING {
-        return lists::check_strings(b, n, slots, start);
+        return lists::check_texts::<true>(b, n, slots, start);
     }
     if k < table::LIST {
-        return binaries::check_binaries(b, n, slots, start);
+        return lists::check_texts::<false>(b, n, slots, start);
     }
     check_items(t, c, depth, w, b, n)
 }
@@ -306,7 +294,7 @@ fn check_map(t: &[u64], k: usize, v: usize, depth: usize, b: &[u8]) -> usize
     if b.len() < 8 {
         return 1;
     }
-    let size = words::nums::get8(b, 0) as usize;
+    let size = words::nums::get::<8>(b, 0) as usize;
     if size & 7 != 0 {
         return 2;
     }
@@ -321,7 +309,7 @@ fn check_map(t: &[u64], k: usize, v: usize, depth: usize, b: &[u8]) -> usize
     if b.len() - end < 8 {
         return end + 2;
     }
-    if words::nums::get8(b, 8) != words::nums::get8(b, end) {
+    if words::nums::get::<8>(b, 8) != words::nums::get::<8>(b, end) {
         return end + 2;
     }
     let q = check_list(t, v, depth, &b[end..]);
@@ -424,18 +412,15 @@ fn check_fields(t: &[u64], first: usize, n: usize, depth: usize, b: &[u8]) -> us
     0
 }
 
-// Whether the row stands for contents of the schema whose table this is, and where it is broken if not: the root has its first byte for a
-// slot.
-pub fn check_row(t: &[u64], row: &[u8]) -> Checked
+// Where the row is broken: the place of its first fault, from its first byte on, and None where it stands for contents of the schema whose
+// table this is. The root has its first byte for a slot.
+pub fn check_row(t: &[u64], row: &[u8]) -> Option<usize>
     requires { Table t.now × (length row.now ≤ 16384) }
     ensures { checked_means result ≡ fault_at (ro (fields_of (schema_of t.now))) row.now }
 {
-    let r = check_struct(t, 1, table::count(table::entry_at(t, 0, 8)), 7, row);
-    if r == 0 {
-        return Checked::Sound;
+    match check_struct(t, 1, table::count(table::entry_at(t, 0, 8)), 7, row) {
+        0 => None,
+        1 => Some(0),
+        r => Some(r - 2),
     }
-    if r == 1 {
-        return Checked::Broken { place: 0 };
-    }
-    Checked::Broken { place: r - 2 }
 }

@@ -2,10 +2,10 @@
 // slot, i + 2 for one at its byte i.
 ghost use Rattle.std.specs.Prelude.{◌≡◌, true, cond, [], ◌+◌, ◌*◌, ◌/◌, ◌≤◌, ◌<◌, eqb, length};
 ghost use Rattle.words.specs.Bits.{bit};
-ghost use Rattle.schema.specs.Types.{text, st};
+ghost use Rattle.schema.specs.Types.{text};
 ghost use Rattle.standing.specs.Standing.{SlotsIn};
 ghost use Rattle.checking.specs.Sound.{fault_from, zeros_then};
-ghost use Rattle.checking.specs.Room.{ListRoom, ListEnd, NoNullsIf, NullAsk, elements, bools, Asked, Unfit, all_vary};
+ghost use Rattle.checking.specs.Room.{ListRoom, ListEnd, NoNullsIf, NullAsk, text_if, elements, bools, Asked, Unfit, all_vary};
 
 // Before which of a list's elements the values stand where their slots say: asked once, as long as nothing is done.
 pub fn items_stand(b: &[u8], n: usize, stop: usize, done: usize) -> usize
@@ -23,12 +23,10 @@ pub fn no_nulls(b: &[u8], n: usize) -> bool
     requires { (length b.now ≤ 16384) × (8 + (n + 63) / 64 * 8 ≤ length b.now) }
     ensures { NoNullsIf b.now n result }
 {
-    let mut i: usize = 0;
-    while i < n {
-        if words::nums::get8(b, 8 + (i >> 3)) != 0 {
+    for k in 0..(n + 63) >> 6 {
+        if words::nums::get::<8>(b, 8 + 8 * k) != 0 {
             return false;
         }
-        i += 64;
     }
     true
 }
@@ -44,10 +42,11 @@ pub fn null_at(b: &[u8], i: usize, full: bool) -> bool
     words::nulls::is_null(b, 8, i)
 }
 
-// A list's strings.
-pub fn check_strings(b: &[u8], n: usize, slots: usize, start: usize) -> usize
+// A list's strings with TEXT, and without it its binaries, whose bytes nothing is asked of. Each has its own loop, since the call that
+// looks at a string's bytes costs each element what the loop keeps across it.
+pub fn check_texts<const TEXT: bool>(b: &[u8], n: usize, slots: usize, start: usize) -> usize
     requires { ListRoom b.now 8 n slots start }
-    ensures { result ≡ fault_from 8 8 (elements (text st) n) b.now 0 [] }
+    ensures { result ≡ fault_from 8 8 (elements (text (text_if TEXT)) n) b.now 0 [] }
 {
     let full = no_nulls(b, n);
     let mut slot = slots;
@@ -75,7 +74,7 @@ pub fn check_strings(b: &[u8], n: usize, slots: usize, start: usize) -> usize
             return slot + 2;
         }
         let next = words::sizes::pad_size(end);
-        if !spelling::is_text_in(b, cur, end, next) {
+        if TEXT && !spelling::is_text_in(b, cur, end, next) {
             return slot + 2;
         }
         if !words::sizes::pad_clear(b, end, next) {
@@ -113,16 +112,10 @@ pub fn check_bools(b: &[u8], n: usize, slots: usize, start: usize) -> usize
     requires { ListRoom b.now 1 n slots start }
     ensures { result ≡ fault_from 8 1 (bools n) b.now 0 [] }
 {
-    let mut i: usize = 0;
-    while i < n {
-        if words::nulls::is_null(b, 8, i) {
-            i += 1;
-            continue;
-        }
-        if 1 < b[slots + i] {
+    for i in 0..n {
+        if !words::nulls::is_null(b, 8, i) && 1 < b[slots + i] {
             return slots + i + 2;
         }
-        i += 1;
     }
     check_end(b, slots + n, start)
 }

@@ -17,10 +17,6 @@ use Rattle.table.specs.Tables.{many, manys, entries, entries_all, table_of, sche
 use Rattle.layout.specs.Refusals.{Refusal, broken_at}
 use Rattle.layout.specs.Setting.{◌or◌}
 use Rattle.layout.specs.Entries.{done, refused, verdict, row_long, layout_bad, check_of, read_of}
-use Rattle.answers.specs.declared.Outcome.{Outcome}
-use Rattle.answers.specs.declared.Outcome.TheVariants as O
-use Rattle.answers.specs.declared.Refusal as A
-use Rattle.answers.specs.Meaning.{refusal_means, outcome_means}
 use Rattle.chords.specs.Chords.{schema, chord, bits_of, no_stroke, no_number, stroke_start, chord_at, null_bad, nulls_bad, row_bad}
 use Rattle.chords.specs.Places.{Checked, Keeps, lacks}
 use Rattle.chords.proofs.Readings.{fields-are, start_in, no-stroke, no-numbers, Stroke, stroke, schema-good, keeps-checked, keeps-nulls}
@@ -128,17 +124,16 @@ row_is : (row : List ℕ) → (row_long row or layout_bad schema row) or nulls_b
 unfolding row_bad
 row_is row = sym (or_assoc (row_long row) (layout_bad schema row) (nulls_bad row))
 
-module _ (row : List ℕ) {r : Outcome} (e : outcome_means r ≡ check_of (schema_of table) row) where
-  pub done-checked : r ≡ O.Done → Bytes row → Checked row
-  done-checked q hb = record { bytes = hb; done = rw (table-says, q) at (sym e) }
+module _ (row : List ℕ) where
+  pub done-checked : done ≡ check_of (schema_of table) row → Bytes row → Checked row
+  done-checked e hb = record { bytes = hb; done = rw table-says at (sym e) }
 
-  pub done-nulls : r ≡ O.Done → verdict (nulls_bad row) ≡ verdict (row_bad row)
-  done-nulls q =
-      judged-on (row_long row or layout_bad schema row) (nulls_bad row) (sym (check-is row) ∙ sym e ∙ ap outcome_means q) ∙ ap verdict (row_is row)
+  pub done-nulls : done ≡ check_of (schema_of table) row → verdict (nulls_bad row) ≡ verdict (row_bad row)
+  done-nulls e = judged-on (row_long row or layout_bad schema row) (nulls_bad row) (sym (check-is row) ∙ sym e) ∙ ap verdict (row_is row)
 
-  pub refused-row : {x : A.Refusal} → r ≡ O.Refused x → refused (refusal_means x) ≡ verdict (row_bad row)
-  refused-row {x} q =
-      judged-off (row_long row or layout_bad schema row) (nulls_bad row) (refusal_means x) (sym (check-is row) ∙ sym e ∙ ap outcome_means q)
+  pub refused-row : (n : Refusal) → refused n ≡ check_of (schema_of table) row → refused n ≡ verdict (row_bad row)
+  refused-row n e =
+      judged-off (row_long row or layout_bad schema row) (nulls_bad row) n (sym (check-is row) ∙ sym e)
       ∙ ap verdict (row_is row)
 
 -- ---- the chords of a row that a log may have

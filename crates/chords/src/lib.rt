@@ -10,9 +10,9 @@ ghost use Rattle.chords.specs.Chords.{chord, row_for, no_stroke, chord_at, nulls
 ghost use Rattle.chords.specs.Plain.{SeesStroke, TwoSlots};
 ghost use Rattle.chords.specs.Places.{Checked, Keeps, lacks, stroke_bytes};
 
-use answers::{Outcome, Refusal};
+use answers::Refusal;
 use words::nulls::is_null;
-use words::nums::{get4, get8, put8};
+use words::nums::{get, put};
 use words::slots::{offset_at, slot};
 
 // A tick and a key mask.
@@ -45,25 +45,25 @@ fn lacks(row: &[u8], at: usize) -> bool
 }
 
 // Only the second stroke of a row may be null: done, or refused with 7 at the byte of the bitmap that says otherwise.
-fn judge_nulls(row: &[u8]) -> Outcome
+fn judge_nulls(row: &[u8]) -> Result<(), Refusal>
     requires { Checked row.now }
     ensures { outcome_means result ≡ verdict (nulls_bad row.now) }
 {
     if is_null(row, 0, 0) {
-        return Outcome::Refused(Refusal::Layout { place: 0 });
+        return Err(Refusal::Layout { place: 0 });
     }
     let first = offset_at(row, 8);
     if lacks(row, first) {
-        return Outcome::Refused(Refusal::Layout { place: first });
+        return Err(Refusal::Layout { place: first });
     }
     if is_null(row, 0, 1) {
-        return Outcome::Done;
+        return Ok(());
     }
     let second = offset_at(row, 16);
     if lacks(row, second) {
-        return Outcome::Refused(Refusal::Layout { place: second });
+        return Err(Refusal::Layout { place: second });
     }
-    Outcome::Done
+    Ok(())
 }
 
 // A stroke without a null, and nothing behind its numbers.
@@ -71,7 +71,7 @@ fn is_stroke(row: &[u8], at: usize) -> bool
     requires { at + 24 ≤ length row.now }
     ensures { SeesStroke row.now at result }
 {
-    (get8(row, at) | (get8(row, at + 8) >> 32) | (get8(row, at + 16) >> 32)) == 0
+    (get::<8>(row, at) | (get::<8>(row, at + 8) >> 32) | (get::<8>(row, at + 16) >> 32)) == 0
 }
 
 // The slots of two strokes, the first stroke behind the fixed part or behind the second.
@@ -92,10 +92,10 @@ fn is_one(row: &[u8]) -> bool
     requires { length row.now ≡ 48 }
     ensures { result ≡ true → row_bad row.now ≡ none }
 {
-    if get8(row, 0) != 2 {
+    if get::<8>(row, 0) != 2 {
         return false;
     }
-    if get8(row, 8) != slot(24, 24) {
+    if get::<8>(row, 8) != slot(24, 24) {
         return false;
     }
     is_stroke(row, 24)
@@ -106,10 +106,10 @@ fn is_two(row: &[u8]) -> bool
     requires { length row.now ≡ 72 }
     ensures { result ≡ true → row_bad row.now ≡ none }
 {
-    if get8(row, 0) != 0 {
+    if get::<8>(row, 0) != 0 {
         return false;
     }
-    if !are_slots(get8(row, 8), get8(row, 16)) {
+    if !are_slots(get::<8>(row, 8), get::<8>(row, 16)) {
         return false;
     }
     if !is_stroke(row, 24) {
@@ -132,17 +132,14 @@ fn is_plain(row: &[u8]) -> bool
 }
 
 // Whether a log may have the row: done, or refused with 3 or 7.
-pub fn judge(row: &[u8]) -> Outcome
+pub fn judge(row: &[u8]) -> Result<(), Refusal>
     ensures { outcome_means result ≡ verdict (row_bad row.now) }
 {
     if is_plain(row) {
-        return Outcome::Done;
+        return Ok(());
     }
-    let table = TABLE;
-    match engine::check(&table, row) {
-        Outcome::Done => judge_nulls(row),
-        Outcome::Refused(r) => Outcome::Refused(r),
-    }
+    engine::check(&TABLE, row)?;
+    judge_nulls(row)
 }
 
 // Whether the second place is free.
@@ -160,8 +157,8 @@ pub fn chord_at(row: &[u8], i: usize) -> Chord
 {
     let at = offset_at(row, 8 + 8 * i);
     Chord {
-        tick: get4(row, at + 8) as u32,
-        keys: get4(row, at + 16) as u32,
+        tick: get::<4>(row, at + 8) as u32,
+        keys: get::<4>(row, at + 16) as u32,
     }
 }
 
@@ -170,9 +167,9 @@ fn put_stroke(row: &mut [u8], at: usize, tick: u32, keys: u32)
     requires { at + 24 ≤ length row.old }
     ensures { row.new ≡ sets row.old at (stroke_bytes (chord tick keys)) }
 {
-    put8(row, at, 0);
-    put8(row, at + 8, tick as u64);
-    put8(row, at + 16, keys as u64);
+    put::<8>(row, at, 0);
+    put::<8>(row, at + 8, tick as u64);
+    put::<8>(row, at + 16, keys as u64);
 }
 
 // The row of one chord: bit 1 of its bitmap is set.
@@ -180,9 +177,9 @@ pub fn fill_one(row: &mut [u8], c: Chord)
     requires { length row.old ≡ 48 }
     ensures { row.new ≡ row_for c none }
 {
-    put8(row, 0, 2);
-    put8(row, 8, slot(24, 24));
-    put8(row, 16, 0);
+    put::<8>(row, 0, 2);
+    put::<8>(row, 8, slot(24, 24));
+    put::<8>(row, 16, 0);
     put_stroke(row, 24, c.tick, c.keys);
 }
 
@@ -191,9 +188,9 @@ pub fn fill_two(row: &mut [u8], c: Chord, d: Chord)
     requires { length row.old ≡ 72 }
     ensures { row.new ≡ row_for c (some d) }
 {
-    put8(row, 0, 0);
-    put8(row, 8, slot(24, 24));
-    put8(row, 16, slot(48, 24));
+    put::<8>(row, 0, 0);
+    put::<8>(row, 8, slot(24, 24));
+    put::<8>(row, 16, slot(48, 24));
     put_stroke(row, 24, c.tick, c.keys);
     put_stroke(row, 48, d.tick, d.keys);
 }

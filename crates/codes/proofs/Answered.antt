@@ -9,7 +9,7 @@ use Rattle.layout.specs.Reading.{Answer}
 use Rattle.layout.specs.Setting.{Setting, refusal_in}
 use Rattle.layout.specs.Entries.{Verdict, Sized, takes, refused_with, judge_of, check_of, write_of, list_of, read_of, set_of, set_verdict}
 use Rattle.answers.specs.declared.Path.{Path}
-use Rattle.answers.specs.declared.Length.{Length}
+use Rattle.answers.specs.Meaning.{Length}
 use Rattle.answers.specs.Meaning.{length_means, Numbered}
 use Rattle.answers.specs.Paths.{path_of}
 use Rattle.row.specs.Outcomes.{LowIn, LowVerdict, LowSized}

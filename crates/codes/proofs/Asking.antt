@@ -1,4 +1,6 @@
 -- The setting that a kind and a value stand for, and the refusal of one that is none. Assumes nothing.
+use Rattle.std.specs.Prelude as P
+use Rattle.std.specs.Prelude.{Ok, Err}
 use mathlib.Core.Path.{◌≡◌, refl, sym, ap, ◌∙◌}
 use mathlib.Core.Bool.{Bool, true, false}
 use mathlib.Core.Option.{Option, none, some}
@@ -7,114 +9,50 @@ use Prim.Native.Nat.{ℕ, ◌≤◌, ◌<◌}
 use native.Mathlib.Omega.{arith}
 use native.Mathlib.Decide.{dec_le}
 use lib.Dec.{leb}
-use lib.IntN.{ℤ}
 use lib.ListN.{length}
-use borrow.Author.Tests.{eq-eqb, ne_eqb, lt-ltb, le-ltb}
-use Rattle.words.specs.Signed.{half_of, to_signed}
 use Rattle.schema.specs.Types.{Ty, ro}
 use Rattle.schema.specs.Reading.{judged}
 use Rattle.schema.specs.Walk.{fields_of}
-use Rattle.layout.specs.Refusals.{Refusal, numbered, broken_at}
+use Rattle.layout.specs.Refusals.{Refusal, numbered}
 use Rattle.layout.specs.Layout.{fault_at}
 use Rattle.layout.specs.Walk.{root_seat, walk}
-use Rattle.layout.specs.Reading as R
 use Rattle.layout.specs.Reading.{Answer, placed, read_in}
-use Rattle.layout.specs.Setting as S
 use Rattle.layout.specs.Setting.{Setting, suits, keeps, unless, ◌or◌, refusal_in, judge_at, write_at, Outcome, refuses, outcome, set_in}
 use Rattle.layout.specs.Entries.{Verdict, verdict, broken, is_accepted, schema_bad, row_long, layout_bad, check_of}
 use Rattle.layout.specs.Entries.{read_after, read_of, set_after, set_of, set_verdict, row_after}
 use Rattle.answers.specs.declared.Path.{Path}
-use Rattle.answers.specs.declared.Outcome.{Outcome as Done}
-use Rattle.answers.specs.declared.Outcome.TheVariants as O
+use Rattle.answers.specs.declared.Answer.{Answer as Answered}
+use Rattle.answers.specs.declared.Refusal.{Refusal as Cause}
 use Rattle.answers.specs.declared.Setting.{Setting as Value}
-use Rattle.answers.specs.Meaning.{outcome_means, setting_of, Numbered}
+use Rattle.answers.specs.Meaning.{Outcome as Done, outcome_means, refusal_means, setting_of, Read, read_means, Numbered}
 use Rattle.answers.specs.Paths.{path_of}
 use Rattle.answers.proofs.PathLaws.{length-path}
-use Rattle.codes.specs.declared.Asked.{Asked}
-use Rattle.codes.specs.declared.Asked.TheVariants.{Nothing, Of}
-use Rattle.codes.specs.Asked.{bool_of, float32_of, asked_of, asked_means, verdict_refusal, or_eight, unfit_of, set_asked, Leaves}
+use Rattle.codes.specs.Asked.{asked_of, asked_means, verdict_refusal, or_eight, unfit_of, set_asked, Leaves}
 use Rattle.codes.specs.Codes.{refusal_code, verdict_code}
 use Rattle.codes.specs.Steps.{Taken}
-use Rattle.codes.specs.Words.{code_after}
 use Rattle.setting.specs.Writes.{SetAs}
+use Rattle.codes.proofs.Words.{given-none}
 use Rattle.codes.proofs.Steps.{no_place, taken-short, above, taken-reads}
 
 -- ---- the kinds
 
-pub bool_false : (v : ℕ) → v ≡ 0 → some (S.bool false) ≡ bool_of v
-bool_false v e = rw (eq-eqb v 0 e)
-
-pub bool-true : (v : ℕ) → (v ≡ 0 → ⊥) → v ≡ 1 → some (S.bool true) ≡ bool_of v
-bool-true v n e = rw (ne_eqb v 0 n, eq-eqb v 1 e)
-
-pub bool-none : (v : ℕ) → (v ≡ 0 → ⊥) → (v ≡ 1 → ⊥) → none ≡ bool_of v
-bool-none v n m = rw (ne_eqb v 0 n, ne_eqb v 1 m)
-
-pub float-held : (v : ℕ) → v < 4294967296 → some (S.float32 v) ≡ float32_of v
-float-held v h = rw (lt-ltb v 4294967296 h)
-
-pub float-none : (v : ℕ) → 4294967296 ≤ v → none ≡ float32_of v
-float-none v h = rw (le-ltb v 4294967296 h)
-
-module _ (kind v : ℕ) (u : List ℕ) where
-  pub kind-null : kind ≡ 0 → some S.null ≡ asked_of kind v u
-  unfolding asked_of
-  kind-null e = rw e
-
-  pub kind-bool : kind ≡ 1 → (m : Option Setting) → m ≡ bool_of v → m ≡ asked_of kind v u
-  unfolding asked_of
-  kind-bool e m q = rw e q
-
-  pub kind-number : kind ≡ 2 → (z : ℤ) → z ≡ to_signed (half_of 8) v → some (S.signed z) ≡ asked_of kind v u
-  unfolding asked_of
-  kind-number e z q = rw (e, q)
-
-  pub kind-float32 : kind ≡ 3 → (m : Option Setting) → m ≡ float32_of v → m ≡ asked_of kind v u
-  unfolding asked_of
-  kind-float32 e m q = rw e q
-
-  pub kind-float64 : kind ≡ 4 → some (S.float64 v) ≡ asked_of kind v u
-  unfolding asked_of
-  kind-float64 e = rw e
-
-  pub kind-bytes : kind ≡ 5 → some (S.bytes u) ≡ asked_of kind v u
-  unfolding asked_of
-  kind-bytes e = rw e
-
-  pub kind-none : (kind ≡ 0 → ⊥) → (kind ≡ 1 → ⊥) → (kind ≡ 2 → ⊥) → (kind ≡ 3 → ⊥) → (kind ≡ 4 → ⊥) → (kind ≡ 5 → ⊥) → none ≡ asked_of kind v u
-  unfolding asked_of
-  kind-none a b c d e f = rw (ne_eqb kind 0 a, ne_eqb kind 1 b, ne_eqb kind 2 c, ne_eqb kind 3 d, ne_eqb kind 4 e, ne_eqb kind 5 f)
-
 -- what a kind and a value were found to ask for
-module _ {a : Asked} (kind v : ℕ) (h : (u : List ℕ) → asked_means a u ≡ asked_of kind v u) (u : List ℕ) where
-  pub asks_none : a ≡ Nothing → none ≡ asked_of kind v u
-  asks_none e = sym (ap (λ (x : Asked). asked_means x u) e) ∙ h u
+module _ {a : P.Option Value} (kind v : ℕ) (h : (u : List ℕ) → asked_means a u ≡ asked_of kind v u) (u : List ℕ) where
+  pub asks_none : a ≡ P.None → none ≡ asked_of kind v u
+  asks_none e = sym (ap (λ (x : P.Option Value). asked_means x u) e) ∙ h u
 
-  pub asks-for : {x : Value} → a ≡ Of x → some (setting_of x u) ≡ asked_of kind v u
-  asks-for e = sym (ap (λ (y : Asked). asked_means y u) e) ∙ h u
+  pub asks-for : {x : Value} → a ≡ P.Some x → some (setting_of x u) ≡ asked_of kind v u
+  asks-for e = sym (ap (λ (y : P.Option Value). asked_means y u) e) ∙ h u
 
 -- ---- a setting that is none
 
--- what reading answered, told: a code that is not 0 is its refusal's, and of an answer that there is no refusal has the code 0
-pub eight-told : (m : Option Refusal) (k : ℕ) → k ≡ code_after m 4 4 → (k ≡ 0 → ⊥) → k ≡ refusal_code (or_eight m)
-eight-told none k q h = absurd (h q)
-eight-told (some r) k q h = q
+-- the place is read, and nothing but 8 is refused
+pub eight_left : (x : Read) {a : Answered} → x ≡ Ok a → Numbered (read_means x) → 34359738368 ≡ refusal_code (or_eight (refusal_in (read_means x)))
+eight_left x e g = rw (given-none x e g) refl
 
-pub eight-left : (a : Answer) (k : ℕ) → Numbered a → k ≡ code_after (refusal_in a) 4 4 → k ≡ 0 → 34359738368 ≡ refusal_code (or_eight (refusal_in a))
+pub eight-told : (x : Read) {f : Cause} {k : ℕ} → x ≡ Err f → k ≡ refusal_code (refusal_means f) → k ≡ refusal_code (or_eight (refusal_in (read_means x)))
 unfolding refusal_in
-eight-left R.null k g q z = refl
-eight-left (R.bool v) k g q z = refl
-eight-left (R.signed n) k g q z = refl
-eight-left (R.float32 n) k g q z = refl
-eight-left (R.float64 n) k g q z = refl
-eight-left (R.bytes o n) k g q z = refl
-eight-left (R.container o n c) k g q z = refl
-eight-left (R.refused (numbered n)) k g q z = let e : n ≡ 0 = omega arith in absurd (g.known (ap (λ (m : ℕ). R.refused (numbered m)) e))
-eight-left (R.refused (broken_at n)) k g q z = absurd (omega arith)
-
-pub unfit-done : {k : ℕ} (o : Done) (d : Option Refusal) → o ≡ O.Done → k ≡ refusal_code (or_eight d)
-    → k ≡ refusal_code (or_eight (verdict_refusal (outcome_means o) or d))
-unfit-done o d e q = rw e q
+eight-told x e q = rw e q
 
 -- the refusals of the row, and then the place's
 told-first : (m d : Option Refusal) → (verdict_refusal (verdict m) or d) ≡ (m or d)

@@ -8,16 +8,14 @@ use Rattle.layout.specs.Refusals.{Refusal}
 use Rattle.layout.specs.Reading.{Answer}
 use Rattle.layout.specs.Setting.{Setting, refusal_in, ◌or◌}
 use Rattle.layout.specs.Entries.{Verdict, Sized, check_of, read_after, read_of, set_after, set_of, set_verdict}
-use Rattle.answers.specs.declared.Outcome.{Outcome as Done}
+use Rattle.answers.specs.Meaning.{Outcome as Done}
 use Rattle.answers.specs.declared.Path.{Path}
-use Rattle.answers.specs.declared.Refusal.{Refusal as Cause}
-use Rattle.answers.specs.Meaning.{outcome_means, refusal_means, Numbered}
+use Rattle.answers.specs.Meaning.{outcome_means, Numbered}
 use Rattle.answers.specs.Paths.{path_of}
 use Rattle.setting.specs.Writes.{SetAs}
-use Rattle.row.specs.Outcomes.{Low, LowIn, LowVerdict}
+use Rattle.row.specs.Outcomes.{LowIn, LowVerdict}
 use Rattle.shelf.specs.Catalogue.{schema_in}
-use Rattle.catalogue.specs.declared.Numbered.{Numbered as Number}
-use Rattle.catalogue.specs.declared.Numbered.TheVariants as N
+use Rattle.answers.specs.Meaning.{Length as Number}
 use Rattle.catalogue.specs.Entries.{Numbering, given, refused, add_of, number_bad, verdict_after, check_at, write_at, list_at, read_at, set_at}
 use Rattle.catalogue.specs.Meaning.{number_means, Adds}
 use Rattle.catalogue.proofs.Low.{check-low, write_low, write-below, list-low, list-below, read_low, set-low, add_low}
@@ -51,9 +49,6 @@ set-at-known t k row p x e = rw e (set-low t k row p x)
 pub add-number-known : (t s : List ℕ) {v : Numbering} → v ≡ add_of t s → LowNumbering v
 add-number-known t s {v = given n} e = tt
 add-number-known t s {v = refused r} e = add_low t s e
-
-pub number-low : {n : Number} {r : Cause} → n ≡ N.Refused r → LowNumbering (number_means n) → Low 16384 (refusal_means r)
-number-low e h = rw e at h
 
 -- ---- told as the entry's
 

@@ -4,6 +4,5 @@ pub mod Steps
 pub mod Asking
 pub mod Unique
 pub mod InBatch
-pub mod InLog
 pub mod Answered
 pub mod ByNumber

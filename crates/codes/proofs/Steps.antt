@@ -1,14 +1,12 @@
 -- A path taken from lent steps reads as they do. Assumes nothing.
-use mathlib.Core.Path.{◌≡◌, refl, sym, ap, ◌∙◌, subst}
+use mathlib.Core.Path.{◌≡◌, refl, sym, ap, ◌∙◌}
 use mathlib.Core.List.{List}
 use mathlib.Core.Option.{Option, none}
-use Prim.Native.Nat.{ℕ, ◌<◌, ◌≤◌, ◌+◌}
+use Prim.Native.Nat.{ℕ, ◌<◌, ◌≤◌}
 use native.Mathlib.Omega.{arith}
-use native.Mathlib.Nat.{lt_irrefl}
 use native.Mathlib.Decide.{dec_le}
-use lib.ListN.{length, get_or, set, length-set, replicate, get_or-replicate}
-use lib.Seq.{get_or-set_same, get_or-set_other, ext_get_or}
-use borrow.Author.Count.{below_none, below_more}
+use lib.ListN.{length, get_or}
+use lib.Seq.{ext_get_or}
 use Rattle.layout.specs.Reader.{◌>>◌, assert}
 use Rattle.layout.specs.Reading.{placed, found, read_in}
 use Rattle.layout.specs.Entries.{read_of}
@@ -16,43 +14,6 @@ use Rattle.answers.specs.declared.Path.{Path}
 use Rattle.answers.specs.Paths.{path_of}
 use Rattle.answers.proofs.PathLaws.{length-path, path-at}
 use Rattle.codes.specs.Steps.{Taken}
-
--- ---- the loop: the first i steps are held
-
-pub record Held (l h : List ℕ) (i : ℕ) : Type 0 where
-  pub few : i ≤ 16
-  pub room : length h ≡ 16
-  pub same : (j : ℕ) → j < i → get_or h j 0 ≡ get_or l j 0
-  pub spare : (j : ℕ) → j < 16 → i ≤ j → get_or h j 0 ≡ 0
-
-pub held_none : (l : List ℕ) → Held l (replicate 16 0) 0
-held_none l = record {
-  few = omega arith;
-  room = refl;
-  same = below_none (λ (j : ℕ). get_or (replicate 16 0) j 0 ≡ get_or l j 0);
-  spare = λ j a b. get_or-replicate 16 j 0 0 a;
-}
-
-not-it : {j i : ℕ} → j < i → j ≡ i → ⊥
-not-it {j} {i} lt e = lt_irrefl i (subst (λ (n : ℕ). n < i) e lt)
-
-module _ (l h : List ℕ) (i : ℕ) (H : Held l h i) where
-  pub held_more : i < 16 → Held l (set h i (get_or l i 0)) (i + 1)
-  held_more m =
-      let r : i < length h = rw H.room m in
-      record {
-        few = omega arith;
-        room = length-set h i (get_or l i 0) ∙ H.room;
-        same = below_more (λ (j : ℕ). get_or (set h i (get_or l i 0)) j 0 ≡ get_or l j 0) i
-            (λ j q. get_or-set_other h i j (get_or l i 0) 0 (not-it q) ∙ H.same j q) (get_or-set_same h i (get_or l i 0) 0 r);
-        spare = λ j a b. get_or-set_other h i j (get_or l i 0) 0 (λ e. not-it {j = i} {i = j} (omega (arith, b)) (sym e)) ∙ H.spare j a (omega (arith, b));
-      }
-
-  pub held_all : i ≤ length l → length l ≤ i → Taken l (record { steps = h; len = length l })
-  held_all q m = record { long = refl; room = H.room; same = λ j a b. H.same j (omega arith); spare = λ j a b. H.spare j a (omega arith) }
-
-  pub held-full : i ≤ length l → 16 ≤ i → Taken l (record { steps = h; len = length l })
-  held-full q m = record { long = refl; room = H.room; same = λ j a b. H.same j (omega arith); spare = λ j a b. H.spare j a (omega arith) }
 
 -- ---- there is one such path
 

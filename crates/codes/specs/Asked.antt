@@ -6,8 +6,9 @@ use Rattle.layout.specs.Refusals.{Refusal, numbered}
 use Rattle.layout.specs.Setting.{Setting, null, bool, signed, float32, float64, bytes, refusal_in, ◌or◌, Outcome, refuses}
 use Rattle.layout.specs.Entries.{Verdict, done, refused, schema_bad, row_long, layout_bad, read_of, set_of, set_verdict, row_after}
 use Rattle.answers.specs.Meaning.{setting_of}
-use Rattle.codes.specs.declared.Asked.{Asked}
-use Rattle.codes.specs.declared.Asked.TheVariants.{Nothing, Of}
+use Rattle.std.specs.Prelude.{Some, None}
+use Rattle.std.specs.Prelude as P
+use Rattle.answers.specs.declared.Setting.{Setting as Given}
 use Rattle.codes.specs.Codes.{verdict_code}
 
 -- a bool is 0 or 1
@@ -28,10 +29,10 @@ asked_of kind v u =
     (cond (eqb kind 4) (some (float64 v))
     (cond (eqb kind 5) (some (bytes u)) none)))))
 
--- what the enum's cases stand for
-abbrev pub asked_means : Asked → List ℕ → Option Setting
-asked_means Nothing u = none
-asked_means (Of x) u = some (setting_of x u)
+-- what was found for them
+abbrev pub asked_means : P.Option Given → List ℕ → Option Setting
+asked_means None u = none
+asked_means (Some x) u = some (setting_of x u)
 
 -- a kind or a value that is none is refused with 8 in its order: after 1, 3, 7, 5 and 6
 abbrev pub verdict_refusal : Verdict → Option Refusal

@@ -3,7 +3,7 @@
 
 ghost use Rattle.std.specs.Prelude.{◌≡◌};
 ghost use Rattle.layout.specs.Setting.{refusal_in, ◌or◌};
-ghost use Rattle.answers.specs.Meaning.{refusal_means, outcome_means, length_means, meaning, Numbered};
+ghost use Rattle.answers.specs.Meaning.{refusal_means, outcome_means, length_means, read_means, Numbered};
 ghost use Rattle.batch.specs.Meaning.{fetch_means};
 ghost use Rattle.row.specs.Outcomes.{Low, LowIn, LowVerdict};
 ghost use Rattle.codes.specs.Asked.{verdict_refusal, or_eight};
@@ -11,19 +11,12 @@ ghost use Rattle.codes.specs.Batch.{fetch_refusal};
 ghost use Rattle.codes.specs.Codes.{refusal_code, verdict_code, sized_code, Halved};
 ghost use Rattle.codes.specs.Steps.{Taken};
 
-use answers::{Answer, Length, Outcome, Path, Refusal, Setting};
+use answers::{Answer, Path, Refusal};
 use batch::Fetched;
 
 pub mod kinds;
 pub mod numbers;
 pub mod told;
-
-// What a kind and a value ask for: nothing that there is, or a setting.
-#[derive(Clone, Copy)]
-pub enum Asked {
-    Nothing,
-    Of(Setting),
-}
 
 // A refusal's code: its number in the upper half, the place of a 7 in the lower.
 pub fn refusal_code(r: Refusal) -> u64
@@ -35,24 +28,24 @@ pub fn refusal_code(r: Refusal) -> u64
 }
 
 // An outcome's code.
-pub fn outcome_code(o: Outcome) -> u64
+pub fn outcome_code(o: Result<(), Refusal>) -> u64
     requires { LowVerdict 16384 (outcome_means o) }
     ensures { result ≡ verdict_code (outcome_means o) }
 {
     match o {
-        Outcome::Done => 0,
-        Outcome::Refused(r) => refusal_code(r),
+        Ok(()) => 0,
+        Err(r) => refusal_code(r),
     }
 }
 
 // A length's code.
-pub fn length_code(l: Length) -> u64
+pub fn length_code(l: Result<usize, Refusal>) -> u64
     requires { Halved (length_means l) }
     ensures { result ≡ sized_code (length_means l) }
 {
     match l {
-        Length::Done(n) => n as u64,
-        Length::Refused(r) => {
+        Ok(n) => n as u64,
+        Err(r) => {
             let needed = answers::refusals::length(r) as u64;
             refusal_code(r) + needed
         }
@@ -63,16 +56,10 @@ pub fn length_code(l: Length) -> u64
 pub fn path_of(steps: &[u32]) -> Path
     ensures { Taken steps.now result }
 {
-    let mut held = [0u32; 16];
     let n = steps.len();
-    let mut i = 0;
-    while i < n {
-        if 16 <= i {
-            break;
-        }
-        held[i] = steps[i];
-        i += 1;
-    }
+    let kept = n.min(16);
+    let mut held = [0u32; 16];
+    held[..kept].copy_from_slice(&steps[..kept]);
     Path {
         steps: held,
         len: n,
@@ -80,36 +67,34 @@ pub fn path_of(steps: &[u32]) -> Path
 }
 
 // The refusal of reading, and 8 where the place is read.
-fn or_eight(a: Answer) -> u64
-    requires { Numbered (meaning a) × LowIn 16384 (refusal_in (meaning a)) }
-    ensures { result ≡ refusal_code (or_eight (refusal_in (meaning a))) }
+fn or_eight(a: Result<Answer, Refusal>) -> u64
+    requires { Numbered (read_means a) × LowIn 16384 (refusal_in (read_means a)) }
+    ensures { result ≡ refusal_code (or_eight (refusal_in (read_means a))) }
 {
-    let mut answer = [0u64; 4];
-    let found = told::put_answer(&mut answer, a);
-    if found != 0 {
-        return found;
+    match a {
+        Ok(_) => 0x8_0000_0000,
+        Err(r) => refusal_code(r),
     }
-    0x8_0000_0000
 }
 
 // A setting that is none is refused with 8, after the refusals of the row and of the place: by what checking and reading answered.
-pub fn unfit(o: Outcome, a: Answer) -> u64
-    requires { LowVerdict 16384 (outcome_means o) × Numbered (meaning a) × LowIn 16384 (refusal_in (meaning a)) }
-    ensures { result ≡ refusal_code (or_eight (verdict_refusal (outcome_means o) or refusal_in (meaning a))) }
+pub fn unfit(o: Result<(), Refusal>, a: Result<Answer, Refusal>) -> u64
+    requires { LowVerdict 16384 (outcome_means o) × Numbered (read_means a) × LowIn 16384 (refusal_in (read_means a)) }
+    ensures { result ≡ refusal_code (or_eight (verdict_refusal (outcome_means o) or refusal_in (read_means a))) }
 {
     match o {
-        Outcome::Done => or_eight(a),
-        Outcome::Refused(r) => refusal_code(r),
+        Ok(()) => or_eight(a),
+        Err(r) => refusal_code(r),
     }
 }
 
 // The same in a batch: by what fetching and reading answered.
-pub fn unfit_in(f: Fetched, a: Answer) -> u64
-    requires { LowIn 16384 (fetch_refusal (fetch_means f)) × Numbered (meaning a) × LowIn 16384 (refusal_in (meaning a)) }
-    ensures { result ≡ refusal_code (or_eight (fetch_refusal (fetch_means f) or refusal_in (meaning a))) }
+pub fn unfit_in(f: Result<Fetched, Refusal>, a: Result<Answer, Refusal>) -> u64
+    requires { LowIn 16384 (fetch_refusal (fetch_means f)) × Numbered (read_means a) × LowIn 16384 (refusal_in (read_means a)) }
+    ensures { result ≡ refusal_code (or_eight (fetch_refusal (fetch_means f) or refusal_in (read_means a))) }
 {
     match f {
-        Fetched::Row { start: _, len: _ } => or_eight(a),
-        Fetched::Refused(r) => refusal_code(r),
+        Ok(_) => or_eight(a),
+        Err(refusal) => refusal_code(refusal),
     }
 }

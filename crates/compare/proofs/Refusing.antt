@@ -165,12 +165,11 @@ module _ {s t F : List ℕ} {d i x n w m : ℕ} (h : HolderIs s t F d i x n w m)
             rw (b, a)
         go (inr (inr p)) = absurd (e (sym h.mark ∙ ap (λ (u : ℕ). line_word u % 65536) p ∙ ap (λ (u : ℕ). u % 65536) eleven))
 
-    module _ {c : ℕ} (q : c ≡ held_by w) where
-      pub other-some : c ≡ 0 → ⊥
-      other-some z = omega (arith, other-held, h.some)
+    pub other-some : held_by w ≡ 0 → ⊥
+    other-some z = omega (arith, other-held, h.some)
 
-      pub other-left : {left : ℕ} → i + n + owed F d + left ≡ length t + 1 → c < left
-      other-left a = omega (arith, h.types, other-held)
+    pub other-left : {c left : ℕ} → c ≡ held_by w → i + n + owed F d + left ≡ length t + 1 → c < left
+    other-left q a = omega (arith, h.types, other-held)
 
 -- ---- a container whose tests hold
 

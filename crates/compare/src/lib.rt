@@ -2,7 +2,7 @@
 // for each container that is open.
 #![tactic(auto)]
 
-ghost use Rattle.std.specs.Prelude.{◌≡◌};
+ghost use Rattle.std.specs.Prelude.{◌≡◌, ◌<◌, MatchOption};
 ghost use Rattle.compare.specs.Lent.{Gives};
 ghost use Rattle.compare.specs.Lines.{leaves_of, is_leaf, held_by};
 
@@ -32,17 +32,15 @@ fn is_leaf(lines: &[u32], w: u64) -> bool
     table::widen(lines[(w >> 28 & 15) as usize]) == w
 }
 
-// How many children a list or a map has by what its entry says; 0 where it says neither.
-fn held_by(w: u64) -> u64
-    ensures { result ≡ held_by w }
+// How many children a list or a map has by what its entry says, if it says either.
+fn held_by(w: u64) -> Option<u64>
+    ensures { MatchOption result (held_by w ≡ 0) (λ n. (n ≡ held_by w) × (0 < n)) }
 {
-    if w & COLUMNS == LIST_ENTRY {
-        return 1;
+    match w & COLUMNS {
+        LIST_ENTRY => Some(1),
+        MAP_ENTRY => Some(2),
+        _ => None,
     }
-    if w & COLUMNS == MAP_ENTRY {
-        return 2;
-    }
-    0
 }
 
 // A frame holds the place of a container that is open, and how many types are left in its holder. `left` is one more than the words of the
@@ -146,10 +144,9 @@ pub fn gives(s: &[u8], t: &[u64]) -> bool
         if m != w & 0xFFFF {
             return false;
         }
-        let c = held_by(w);
-        if c == 0 {
+        let Some(c) = held_by(w) else {
             return false;
-        }
+        };
         if left <= c as usize {
             return false;
         }

@@ -1,204 +1,209 @@
-// One call of the library for each op, and its line. Each answers where the line ends: 0 where there is none.
-ghost use Rattle.std.specs.Prelude.{◌≤◌, length};
-
-use crate::requests::Head;
-use crate::{calls_by, calls_catalogue, calls_log};
+// One call of the library for each op, by the lent table where there is one, and its line: it stays empty where there is no call.
+use crate::requests::Request;
+use crate::{calls_catalogue, calls_log};
+use codes::path_of;
+use telling::Line;
 
 // So many words a table may have, lent by the request or for the answer.
 pub const WORDS: usize = 1024;
 
-// What the words lent for the answer hold before the call.
-const FILL: u64 = 0xAAAA_AAAA_AAAA_AAAA;
+// What the bytes and the words lent for an answer hold before the call.
+pub const BYTE: u8 = 0xAA;
 
-// The steps from their bytes, and how many there are.
-pub fn take_steps(bytes: &[u8], steps: &mut [u32]) -> usize
-    ensures { result ≤ length steps.new }
-{
-    let n = bytes.len() / 4;
-    let mut i = 0;
-    while i < n {
-        if steps.len() <= i {
-            break;
-        }
-        steps[i] = words::nums::get4(bytes, 4 * i) as u32;
-        i += 1;
-    }
-    i
+const WORD: u64 = 0xAAAA_AAAA_AAAA_AAAA;
+
+fn judge(r: Request, line: &mut Line) {
+    let code = match r.table {
+        None => desk::loaf_judge(r.schema),
+        Some(t) => desk::tables::loaf_judge_by(r.schema, t),
+    };
+    telling::verdict(line, code);
 }
 
-pub fn path_of(bytes: &[u8]) -> answers::Path {
-    let mut steps = [0u32; 64];
-    let n = take_steps(bytes, &mut steps);
-    codes::path_of(&steps[0..n])
+fn check(r: Request, line: &mut Line) {
+    let code = match r.table {
+        None => desk::loaf_check(r.schema, r.second),
+        Some(t) => desk::tables::loaf_check_by(r.schema, t, r.second),
+    };
+    telling::verdict(line, code);
 }
 
-// What the lent bytes hold before a call.
-pub fn fill(out: &mut [u8]) {
-    let mut i = 0;
-    while i < out.len() {
-        out[i] = 0xAA;
-        i += 1;
-    }
+fn write(r: Request, out: &mut [u8], line: &mut Line) {
+    out.fill(BYTE);
+    let code = match r.table {
+        None => desk::loaf_write(r.schema, r.second, out),
+        Some(t) => desk::tables::loaf_write_by(r.schema, t, r.second, out),
+    };
+    telling::output(line, code, out);
 }
 
-fn write(line: &mut [u8], schema: &[u8], listing: &[u8], out: &mut [u8]) -> usize {
-    fill(out);
-    let code = desk::loaf_write(schema, listing, out);
-    telling::output(line, code, out)
+fn list(r: Request, out: &mut [u8], line: &mut Line) {
+    out.fill(BYTE);
+    let code = match r.table {
+        None => desk::loaf_list(r.schema, r.second, out),
+        Some(t) => desk::tables::loaf_list_by(r.schema, t, r.second, out),
+    };
+    telling::output(line, code, out);
 }
 
-fn list(line: &mut [u8], schema: &[u8], row: &[u8], out: &mut [u8]) -> usize {
-    fill(out);
-    let code = desk::loaf_list(schema, row, out);
-    telling::output(line, code, out)
+fn read(r: Request, line: &mut Line) {
+    let path = path_of(r.steps);
+    let answer = match r.table {
+        None => row::read(r.schema, r.second, path),
+        Some(t) => lent::read_by(r.schema, t, r.second, path),
+    };
+    telling::answer(line, answer);
 }
 
-pub fn at_most(n: usize, most: usize) -> usize
-    ensures { (result ≤ n) × (result ≤ most) }
-{
-    if n < most { n } else { most }
+fn ask(r: Request, line: &mut Line) {
+    let path = path_of(r.steps);
+    let answer = match r.table {
+        None => row::ask_once(r.schema, r.second, path),
+        Some(t) => lent::ask_once_by(r.schema, t, r.second, path),
+    };
+    telling::answer(line, answer);
+}
+
+fn text(r: Request, line: &mut Line) {
+    let path = path_of(r.steps);
+    let text = match r.table {
+        None => row::text_or(r.schema, r.second, path, r.third),
+        Some(t) => lent::text_or_by(r.schema, t, r.second, path, r.third),
+    };
+    telling::text(line, text);
+}
+
+// The field `room` is the row's number.
+fn fetch(r: Request, line: &mut Line) {
+    let fetched = match r.table {
+        None => batch::fetch(r.schema, r.second, r.room),
+        Some(t) => lent::batches::fetch_by(r.schema, t, r.second, r.room),
+    };
+    telling::fetched(line, fetched);
+}
+
+fn check_batch(r: Request, line: &mut Line) {
+    let checked = match r.table {
+        None => batch::check(r.schema, r.second),
+        Some(t) => lent::batches::check_by(r.schema, t, r.second),
+    };
+    telling::checked(line, checked);
+}
+
+// The field `room` is the row's number.
+fn read_in_batch(r: Request, line: &mut Line) {
+    let path = path_of(r.steps);
+    let answer = match r.table {
+        None => batch::read(r.schema, r.second, r.room, path),
+        Some(t) => lent::batches::read_by(r.schema, t, r.second, r.room, path),
+    };
+    telling::answer(line, answer);
 }
 
 // A batch or a log laid over the start of a room; a longer one is cut.
 pub fn lay(out: &mut [u8], bytes: &[u8]) {
-    fill(out);
-    let n = at_most(bytes.len(), out.len());
-    words::copies::copy(out, 0, bytes, 0, n);
+    out.fill(BYTE);
+    let n = bytes.len().min(out.len());
+    out[..n].copy_from_slice(&bytes[..n]);
 }
 
 // The row appended to the batch there, which says how long it is where it was cut, too.
-fn append(line: &mut [u8], schema: &[u8], bytes: &[u8], row: &[u8], out: &mut [u8]) -> usize {
-    lay(out, bytes);
-    let l = batch::append(schema, out, bytes.len(), row);
-    telling::length(line, l, out)
+fn append(r: Request, out: &mut [u8], line: &mut Line) {
+    lay(out, r.second);
+    let used = r.second.len();
+    let length = match r.table {
+        None => batch::append(r.schema, out, used, r.third),
+        Some(t) => lent::batches::append_by(r.schema, t, out, used, r.third),
+    };
+    telling::length(line, length, out);
 }
 
-fn work_out_in(line: &mut [u8], schema: &[u8], out: &mut [u64]) -> usize {
-    let code = desk::tables::loaf_table(schema, out);
-    telling::table(line, code, out)
-}
-
-// The field `room` counts words.
-fn work_out(line: &mut [u8], schema: &[u8], room: usize) -> usize {
-    if WORDS < room {
-        return 0;
+// A copy of lent bytes at the start of a room that holds it, for a call that changes it: the request lies in one piece, which the schema
+// and the third are lent from too.
+pub fn copied<'a>(bytes: &[u8], out: &'a mut [u8]) -> Option<&'a mut [u8]> {
+    let n = bytes.len();
+    if out.len() < n {
+        return None;
     }
-    let mut out = [FILL; 1024];
-    work_out_in(line, schema, &mut out[0..room])
+    let copy = &mut out[..n];
+    copy.copy_from_slice(bytes);
+    Some(copy)
 }
 
-fn set_row(
-    h: Head,
-    schema: &[u8],
-    row: &mut [u8],
-    path: &[u32],
-    third: &[u8],
-    line: &mut [u8],
-) -> usize {
-    let code = desk::loaf_set(schema, row, path, h.kind as u32, h.value, third);
-    telling::bytes(line, code, row)
+fn set_row(r: Request, row: &mut [u8]) -> u64 {
+    match r.table {
+        None => desk::loaf_set(r.schema, row, r.steps, r.kind, r.value, r.third),
+        Some(t) => {
+            desk::tables::loaf_set_by(r.schema, t, row, r.steps, r.kind, r.value, r.third)
+        }
+    }
 }
 
 // The field `room` is the row's number.
-fn set_in_batch(
-    h: Head,
-    schema: &[u8],
-    bytes: &mut [u8],
-    path: &[u32],
-    third: &[u8],
-    line: &mut [u8],
-) -> usize {
-    let k = h.room;
-    let code = desk::batches::loaf_batch_set(schema, bytes, k, path, h.kind as u32, h.value, third);
-    telling::bytes(line, code, bytes)
-}
-
-// Set in a copy: the request lies in one piece, which the schema and the third are lent from too.
-fn set(
-    h: Head,
-    schema: &[u8],
-    bytes: &[u8],
-    steps: &[u8],
-    third: &[u8],
-    out: &mut [u8],
-    line: &mut [u8],
-) -> usize {
-    let n = bytes.len();
-    if out.len() < n {
-        return 0;
-    }
-    words::copies::copy(out, 0, bytes, 0, n);
-    let mut path = [0u32; 64];
-    let k = take_steps(steps, &mut path);
-    let op = h.op;
-    if op == b'z' {
-        return set_in_batch(h, schema, &mut out[0..n], &path[0..k], third, line);
-    }
-    if op == b'v' {
-        return calls_catalogue::set_row(h, schema, &mut out[0..n], &path[0..k], third, line);
-    }
-    set_row(h, schema, &mut out[0..n], &path[0..k], third, line)
-}
-
-// 0 also where the room is more than there is to lend.
-fn answer_plain<'a>(
-    h: Head,
-    schema: &'a [u8],
-    second: &'a [u8],
-    steps: &'a [u8],
-    third: &'a [u8],
-    out: &mut [u8],
-    line: &mut [u8],
-) -> usize {
-    let room = h.room;
-    if out.len() < room {
-        return 0;
-    }
-    let op = h.op;
-    match op {
-        b'j' => telling::verdict(line, desk::loaf_judge(schema)),
-        b'c' => telling::verdict(line, desk::loaf_check(schema, second)),
-        b'w' => write(line, schema, second, &mut out[0..room]),
-        b'l' => list(line, schema, second, &mut out[0..room]),
-        b's' | b'z' | b'v' => set(h, schema, second, steps, third, out, line),
-        b'r' => telling::answer(line, row::read(schema, second, path_of(steps))),
-        b'o' => telling::answer(line, row::ask_once(schema, second, path_of(steps))),
-        b't' => telling::text(line, row::text_or(schema, second, path_of(steps), third)),
-        b'n' => telling::count(line, batch::count(second)),
-        b'f' => telling::fetched(line, batch::fetch(schema, second, room)),
-        b'k' => telling::checked(line, batch::check(schema, second)),
-        b'A' => append(line, schema, second, third, &mut out[0..room]),
-        b'g' => telling::answer(line, batch::read(schema, second, room, path_of(steps))),
-        b'T' => work_out(line, schema, room),
-        b'L' => calls_log::add(line, second, h.value, steps, &mut out[0..room]),
-        b'R' => calls_log::read(line, second, room),
-        b'C' => telling::struck(line, strokes::chord(second, room)),
-        b'a' => calls_catalogue::add(line, schema, second, out),
-        b'x' => telling::verdict(
-            line,
-            desk::catalogues::loaf_catalogue_check(schema, room, second),
+fn set_in_batch(r: Request, batch: &mut [u8]) -> u64 {
+    match r.table {
+        None => desk::batches::loaf_batch_set(
+            r.schema, batch, r.room, r.steps, r.kind, r.value, r.third,
         ),
-        b'y' => telling::answer(line, catalogue::read(schema, room, second, path_of(steps))),
-        b'W' => calls_catalogue::write(line, schema, h.value, second, &mut out[0..room]),
-        b'I' => calls_catalogue::list(line, schema, h.value, second, &mut out[0..room]),
-        _ => 0,
+        Some(t) => desk::tables::loaf_batch_set_by(
+            r.schema, t, batch, r.room, r.steps, r.kind, r.value, r.third,
+        ),
     }
 }
 
-// By the lent table where the head says so, and otherwise by the schema alone.
-pub fn answer<'a>(
-    h: Head,
-    table: &'a [u64],
-    schema: &'a [u8],
-    second: &'a [u8],
-    steps: &'a [u8],
-    third: &'a [u8],
-    out: &mut [u8],
-    line: &mut [u8],
-) -> usize {
-    let by_table = h.by_table;
-    if by_table {
-        return calls_by::answer(h, table, schema, second, steps, third, out, line);
+fn set(r: Request, out: &mut [u8], line: &mut Line) {
+    if let Some(copy) = copied(r.second, out) {
+        let code = match r.op {
+            b'z' => set_in_batch(r, copy),
+            _ => set_row(r, copy),
+        };
+        telling::bytes(line, code, copy);
     }
-    answer_plain(h, schema, second, steps, third, out, line)
+}
+
+// The field `room` counts words.
+fn work_out(r: Request, line: &mut Line) {
+    if WORDS < r.room {
+        return;
+    }
+    let mut words = [WORD; WORDS];
+    let out = &mut words[..r.room];
+    let code = desk::tables::loaf_table(r.schema, out);
+    telling::table(line, code, out);
+}
+
+// None also where the room is more than there is to lend.
+pub fn answer(r: Request, out: &mut [u8], line: &mut Line) {
+    let room = r.room;
+    if out.len() < room {
+        return;
+    }
+    match r.op {
+        b'j' => judge(r, line),
+        b'c' => check(r, line),
+        b'w' => write(r, &mut out[..room], line),
+        b'l' => list(r, &mut out[..room], line),
+        b's' | b'z' => set(r, out, line),
+        b'r' => read(r, line),
+        b'o' => ask(r, line),
+        b't' => text(r, line),
+        b'f' => fetch(r, line),
+        b'k' => check_batch(r, line),
+        b'A' => append(r, &mut out[..room], line),
+        b'g' => read_in_batch(r, line),
+        b'a' => calls_catalogue::add(r, out, line),
+        // The others take no table.
+        _ if r.table.is_some() => {}
+        b'n' => telling::count(line, batch::count(r.second)),
+        b'T' => work_out(r, line),
+        b'L' => calls_log::add(r, &mut out[..room], line),
+        b'R' => calls_log::read(r, line),
+        b'C' => telling::struck(line, strokes::chord(r.second, room)),
+        b'x' => calls_catalogue::check(r, line),
+        b'y' => calls_catalogue::read(r, line),
+        b'v' => calls_catalogue::set(r, out, line),
+        b'W' => calls_catalogue::write(r, &mut out[..room], line),
+        b'I' => calls_catalogue::list(r, &mut out[..room], line),
+        _ => {}
+    }
 }

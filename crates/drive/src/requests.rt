@@ -1,9 +1,9 @@
 // A request: its head, the table behind it where one is lent, and the parts that it announces.
-ghost use Rattle.std.specs.Prelude.{◌≤◌, length};
-
 use crate::calls;
 use crate::calls::WORDS;
 use std::io::{Read, Result, Write};
+use telling::Line;
+use words::nums;
 
 // The longest parts that a request may have; what it may ask to be lent, `calls` says.
 const SCHEMA: usize = 20000;
@@ -14,8 +14,9 @@ const STEPS: usize = 64;
 
 const THIRD: usize = 20000;
 
-// A number of words that stands for a table that is longer or cut short.
-const NO_TABLE: usize = WORDS + 1;
+pub const PARTS: usize = SCHEMA + SECOND + 4 * STEPS + THIRD;
+
+const HEAD: usize = 30;
 
 // The bit of a kind that says: by a table.
 const BY_TABLE: u8 = 0x80;
@@ -23,97 +24,77 @@ const BY_TABLE: u8 = 0x80;
 // The lengths count bytes, `steps` the steps of 4 bytes each, and `room` the bytes lent for an output, the words for a table, or the numbers
 // for a log's chords.
 #[derive(Clone, Copy)]
-pub struct Head {
+struct Head {
+    op: u8,
+    schema: usize,
+    second: usize,
+    steps: usize,
+    room: usize,
+    third: usize,
+    by_table: bool,
+    kind: u8,
+    value: u64,
+}
+
+// The same with the parts for their lengths.
+#[derive(Clone, Copy)]
+pub struct Request<'a> {
     pub op: u8,
-    pub schema: usize,
-    pub second: usize,
-    pub steps: usize,
+    pub table: Option<&'a [u64]>,
+    pub schema: &'a [u8],
+    pub second: &'a [u8],
+    pub steps: &'a [u32],
     pub room: usize,
-    pub third: usize,
-    pub by_table: bool,
-    pub kind: u8,
+    pub third: &'a [u8],
+    pub kind: u32,
     pub value: u64,
 }
 
-#[derive(Clone, Copy)]
-enum Start {
-    Nothing,
-    Cut,
-    Request(Head),
-}
-
-fn read_head<R: Read>(from: &mut R) -> Result<Start> {
-    let mut bytes = [0u8; 30];
-    let n = streams::fill(from, &mut bytes)?;
-    if n == 0 {
-        return Ok(Start::Nothing);
-    }
-    if n < 30 {
-        return Ok(Start::Cut);
-    }
-    Ok(Start::Request(Head {
+fn head_of(bytes: &[u8; HEAD]) -> Head {
+    Head {
         op: bytes[0],
-        schema: words::nums::get4(&bytes, 1),
-        second: words::nums::get4(&bytes, 5),
-        steps: words::nums::get4(&bytes, 9),
-        room: words::nums::get4(&bytes, 13),
-        third: words::nums::get4(&bytes, 17),
+        schema: nums::get::<4>(bytes, 1) as usize,
+        second: nums::get::<4>(bytes, 5) as usize,
+        steps: nums::get::<4>(bytes, 9) as usize,
+        room: nums::get::<4>(bytes, 13) as usize,
+        third: nums::get::<4>(bytes, 17) as usize,
         by_table: BY_TABLE <= bytes[21],
         kind: bytes[21] % BY_TABLE,
-        value: words::nums::get8(&bytes, 22),
-    }))
-}
-
-// The words from their bytes, and how many there are.
-fn take_words(bytes: &[u8], table: &mut [u64]) -> usize {
-    let n = bytes.len() / 8;
-    let mut i = 0;
-    while i < n {
-        if table.len() <= i {
-            break;
-        }
-        table[i] = words::nums::get8(bytes, 8 * i);
-        i += 1;
+        value: nums::get::<8>(bytes, 22),
     }
-    i
 }
 
-// How many words the table behind the head has, which then stand at the start of the lent ones: none where the request is by its schema
-// alone. Their bytes go through the room of the parts, which are read after them.
-fn read_table<R: Read>(
+// The table behind the head, which then stands at the start of the lent words; none where it is longer or cut short. Its bytes go through
+// the room of the parts, which are read after them.
+fn read_table<'a, R: Read>(
     from: &mut R,
-    by_table: bool,
-    body: &mut [u8],
-    table: &mut [u64],
-) -> Result<usize>
-    requires { 110256 ≤ length body.old }
-{
-    if !by_table {
-        return Ok(0);
+    body: &mut [u8; PARTS],
+    words: &'a mut [u64; WORDS],
+) -> Result<Option<&'a [u64]>> {
+    if streams::fill(from, &mut body[..4])? < 4 {
+        return Ok(None);
     }
-    if streams::fill(from, &mut body[0..4])? < 4 {
-        return Ok(NO_TABLE);
-    }
-    let n = words::nums::get4(body, 0);
+    let n = nums::get::<4>(body, 0) as usize;
     if WORDS < n {
-        return Ok(NO_TABLE);
+        return Ok(None);
     }
     let end = 8 * n;
-    if streams::fill(from, &mut body[0..end])? < end {
-        return Ok(NO_TABLE);
+    if streams::fill(from, &mut body[..end])? < end {
+        return Ok(None);
     }
-    Ok(take_words(&body[0..end], table))
+    for (word, bytes) in words.iter_mut().zip(body[..end].chunks_exact(8)) {
+        *word = nums::get::<8>(bytes, 0);
+    }
+    Ok(Some(&words[..n]))
 }
 
 // The line of a request, written; false where it has none.
-fn write_line<W: Write>(to: &mut W, line: &mut [u8], end: usize) -> Result<bool> {
-    if end == 0 {
+fn write_line<W: Write>(to: &mut W, line: &mut Line) -> Result<bool> {
+    if line.as_bytes().is_empty() {
         return Ok(false);
     }
-    let n = telling::end(line, end);
-    if n <= line.len() {
-        to.write_all(&line[0..n])?;
-    }
+    line.byte(b'\n');
+    to.write_all(line.as_bytes())?;
     Ok(true)
 }
 
@@ -122,47 +103,39 @@ fn serve_parts<R: Read, W: Write>(
     from: &mut R,
     to: &mut W,
     h: Head,
-    table: &[u64],
-    body: &mut [u8],
+    table: Option<&[u64]>,
+    body: &mut [u8; PARTS],
     out: &mut [u8],
     line: &mut [u8],
-) -> Result<bool>
-    requires { 110256 ≤ length body.old }
-{
-    let schema = h.schema;
-    if SCHEMA < schema {
+) -> Result<bool> {
+    if SCHEMA < h.schema || SECOND < h.second || STEPS < h.steps || THIRD < h.third {
         return Ok(false);
     }
-    let second = h.second;
-    if SECOND < second {
+    let end = h.schema + h.second + 4 * h.steps + h.third;
+    if streams::fill(from, &mut body[..end])? < end {
         return Ok(false);
     }
-    let steps = h.steps;
-    if STEPS < steps {
-        return Ok(false);
+    let (schema, rest) = body[..end].split_at(h.schema);
+    let (second, rest) = rest.split_at(h.second);
+    let (bytes, third) = rest.split_at(4 * h.steps);
+    let mut steps = [0; STEPS];
+    for (step, bytes) in steps.iter_mut().zip(bytes.chunks_exact(4)) {
+        *step = nums::get::<4>(bytes, 0) as u32;
     }
-    let third = h.third;
-    if THIRD < third {
-        return Ok(false);
-    }
-    let second_end = schema + second;
-    let steps_end = second_end + 4 * steps;
-    let end = steps_end + third;
-    if streams::fill(from, &mut body[0..end])? < end {
-        return Ok(false);
-    }
-    let whole = &body[..];
-    let n = calls::answer(
-        h,
+    let mut line = Line::new(line);
+    let request = Request {
+        op: h.op,
         table,
-        &whole[0..schema],
-        &whole[schema..second_end],
-        &whole[second_end..steps_end],
-        &whole[steps_end..end],
-        out,
-        line,
-    );
-    write_line(to, line, n)
+        schema,
+        second,
+        steps: &steps[..h.steps],
+        room: h.room,
+        third,
+        kind: u32::from(h.kind),
+        value: h.value,
+    };
+    calls::answer(request, out, &mut line);
+    write_line(to, &mut line)
 }
 
 // The same, with the table behind the head.
@@ -170,18 +143,18 @@ fn serve<R: Read, W: Write>(
     from: &mut R,
     to: &mut W,
     h: Head,
-    body: &mut [u8],
+    body: &mut [u8; PARTS],
     out: &mut [u8],
     line: &mut [u8],
-) -> Result<bool>
-    requires { 110256 ≤ length body.old }
-{
-    let mut table = [0u64; 1024];
-    let count = read_table(from, h.by_table, body, &mut table)?;
-    if WORDS < count {
-        return Ok(false);
+) -> Result<bool> {
+    if !h.by_table {
+        return serve_parts(from, to, h, None, body, out, line);
     }
-    serve_parts(from, to, h, &table[0..count], body, out, line)
+    let mut words = [0; WORDS];
+    match read_table(from, body, &mut words)? {
+        None => Ok(false),
+        table => serve_parts(from, to, h, table, body, out, line),
+    }
 }
 
 fn end_run<W: Write>(to: &mut W) -> Result<bool> {
@@ -193,15 +166,14 @@ fn end_run<W: Write>(to: &mut W) -> Result<bool> {
 pub fn next<R: Read, W: Write>(
     from: &mut R,
     to: &mut W,
-    body: &mut [u8],
+    body: &mut [u8; PARTS],
     out: &mut [u8],
     line: &mut [u8],
-) -> Result<bool>
-    requires { 110256 ≤ length body.old }
-{
-    match read_head(from)? {
-        Start::Nothing => Ok(false),
-        Start::Cut => end_run(to),
-        Start::Request(h) => Ok(serve(from, to, h, body, out, line)? || end_run(to)?),
+) -> Result<bool> {
+    let mut bytes = [0; HEAD];
+    match streams::fill(from, &mut bytes)? {
+        0 => Ok(false),
+        HEAD => Ok(serve(from, to, head_of(&bytes), body, out, line)? || end_run(to)?),
+        _ => end_run(to),
     }
 }

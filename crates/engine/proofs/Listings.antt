@@ -1,4 +1,5 @@
 -- The refusals of `list` and its answer, each where the document gives it. Assumes nothing.
+use Rattle.std.specs.Prelude.{Ok, Err}
 use mathlib.Core.Path.{◌≡◌, sym, ◌∙◌}
 use mathlib.Core.Bool.{Bool, true, false, cond}
 use mathlib.Core.Option.{some}
@@ -16,17 +17,16 @@ use Rattle.layout.specs.Layout.{fault_at}
 use Rattle.layout.specs.Setting.{or_empty}
 use Rattle.layout.specs.Entries.{list_of, listed_of, listing_of, takes, refused_with}
 use Rattle.answers.specs.declared.Refusal.TheVariants as F
-use Rattle.answers.specs.declared.Length.TheVariants as L
 use Rattle.listing.specs.Lines.{Answered}
 use Rattle.engine.specs.Lists.{ListsTo}
 use Rattle.engine.proofs.Checked.{Passed}
 
 module _ (s row out : List ℕ) (a : judged s ≡ Accepted) where
-  pub list-long : 16384 < length row → ListsTo s row out (L.Refused F.TooLong) out
+  pub list-long : 16384 < length row → ListsTo s row out (Err F.TooLong) out
   unfolding list_of listed_of
   list-long h = record { answers = rw (a, lt-leb (length row) 16384 h); leaves = rw (a, lt-leb (length row) 16384 h) }
 
-  pub list-bad : (j : ℕ) → length row ≤ 16384 → fault_at (ro (fields_of s)) row ≡ some j → ListsTo s row out (L.Refused (F.Layout j)) out
+  pub list-bad : (j : ℕ) → length row ≤ 16384 → fault_at (ro (fields_of s)) row ≡ some j → ListsTo s row out (Err (F.Layout j)) out
   unfolding list_of listed_of
   list-bad j h e = record { answers = rw (a, le-leb (length row) 16384 h, e); leaves = rw (a, le-leb (length row) 16384 h, e) }
 
@@ -36,7 +36,7 @@ module _ (s row out : List ℕ) (a : judged s ≡ Accepted) where
     unfolding list_of
     asked v q = rw (a, le-leb (length row) 16384 p.short, p.sound, q, z.need)
 
-    pub list-roomless : length out < r → ListsTo s row out (L.Refused (F.Room r)) out'
+    pub list-roomless : length out < r → ListsTo s row out (Err (F.Room r)) out'
     unfolding listed_of
     list-roomless k =
         let q : leb (length (or_empty (listing_of s row))) (length out) ≡ false = lt-leb (length (or_empty (listing_of s row))) (length out)
@@ -44,7 +44,7 @@ module _ (s row out : List ℕ) (a : judged s ≡ Accepted) where
         let n = asked false q in
         record { answers = sym n; leaves = rw n (z.bytes ∙ rw q) }
 
-    pub list_done : r ≤ length out → ListsTo s row out (L.Done r) out'
+    pub list_done : r ≤ length out → ListsTo s row out (Ok r) out'
     unfolding listed_of
     list_done k =
         let q : leb (length (or_empty (listing_of s row))) (length out) ≡ true = le-leb (length (or_empty (listing_of s row))) (length out)

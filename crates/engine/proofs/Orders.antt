@@ -16,8 +16,8 @@ use Rattle.layout.specs.Faults.{Read, fault, got, yielded, fault_in}
 use Rattle.layout.specs.Refusals.{numbered, broken_at}
 use Rattle.layout.specs.Layout.{codec, decode, fault_at}
 use Rattle.layout.specs.Setting.{is_some}
-use Rattle.checking.specs.declared.Checked.{Checked}
-use Rattle.checking.specs.declared.Checked.TheVariants as C
+use Rattle.std.specs.Prelude as P
+use Rattle.std.specs.Prelude.{Some, None}
 use Rattle.checking.specs.Sound.{checked_means}
 
 -- a reading without a fault yields
@@ -41,12 +41,12 @@ module _ (s row : List ℕ) where
       check-short = rw (a, le-leb (length row) 16384 h)
 
       -- what the checker answers is where the row is broken
-      module _ (r : Checked) (e : checked_means r ≡ fault_at (ro (fields_of s)) row) where
-        answered : (r' : Checked) → r ≡ r' → verdict (broken (checked_means r')) ≡ check_of s row
+      module _ (r : P.Option ℕ) (e : checked_means r ≡ fault_at (ro (fields_of s)) row) where
+        answered : (r' : P.Option ℕ) → r ≡ r' → verdict (broken (checked_means r')) ≡ check_of s row
         answered r' q = ap (λ (o : Option ℕ). verdict (broken o)) (ap checked_means (sym q) ∙ e) ∙ check-short
 
-        pub check-bad : (j : ℕ) → r ≡ C.Broken j → refused (broken_at j) ≡ check_of s row
-        check-bad j q = answered (C.Broken j) q
+        pub check-bad : (j : ℕ) → r ≡ Some j → refused (broken_at j) ≡ check_of s row
+        check-bad j q = answered (Some j) q
 
-        pub check-good : r ≡ C.Sound → done ≡ check_of s row
-        check-good q = answered C.Sound q
+        pub check-good : r ≡ None → done ≡ check_of s row
+        check-good q = answered None q

@@ -6,6 +6,7 @@ use mathlib.Core.List.{List, []}
 use Prim.Native.Nat.{ℕ, ◌≤◌, ◌<◌}
 use native.Mathlib.Omega.{arith}
 use native.Mathlib.Decide.{dec_lt, ℕ_discrete}
+use Rattle.std.specs.Prelude.{Result, Ok, Err}
 use lib.Ieee.{Format, binary32, binary64, nan_bits, to_bits}
 use lib.ListN.{length, take, drop}
 use lib.Seq.{take-take}
@@ -15,7 +16,6 @@ use Rattle.schema.specs.Marks.{types, mark_at}
 use Rattle.schema.specs.Types.{Fixed, bo, i1, i2, i4, i8, f4, f8, Ty, ro, place, mark}
 use Rattle.schema.specs.Walk.{fields_of}
 use Rattle.schema.proofs.Table.{place-fixed, place-text}
-use Rattle.layout.specs.Refusals.{numbered}
 use Rattle.layout.specs.Reading as R
 use Rattle.layout.specs.Reading.{Answer, value_of, placed}
 use Rattle.table.specs.Words.{mark_in as mark_word, place_in, width_in, top_in}
@@ -23,7 +23,8 @@ use Rattle.table.specs.Tables.{schema_of}
 use Rattle.answers.specs.declared.Answer.{Answer as Case}
 use Rattle.answers.specs.declared.Answer.TheVariants as A
 use Rattle.answers.specs.declared.Path.{Path}
-use Rattle.answers.specs.Meaning.{plain, float, meaning}
+use Rattle.answers.specs.declared.Refusal.{Refusal}
+use Rattle.answers.specs.Meaning.{plain, float, no_answer, meaning, Read, read_means}
 use Rattle.answers.specs.Paths.{path_of}
 use Rattle.reading.specs.Opening.{open_ty, Kinded}
 use Rattle.reading.specs.Places.{bytes_of, PlaceHolds}
@@ -33,11 +34,11 @@ use Rattle.reading.specs.declared.TypeParts.{TypeParts}
 use Rattle.reading.specs.declared.Place.{Place}
 use Rattle.reading.specs.declared.Seat.{Seat}
 use Rattle.reading.specs.declared.Found.{Found}
-use Rattle.reading.specs.declared.Found.TheVariants.{NoPlace, NullBefore, Broken, Null, At}
+use Rattle.reading.specs.declared.Found.TheVariants.{Null, At}
 use Rattle.reading.proofs.Opening.{ty-fixed, ty-text, ty-list, ty-map, ty_struct, struct_left, leaf-place}
 use Rattle.reading.proofs.Rules.{list-says}
 use Rattle.reading.proofs.Shown.{show-leaf, show-text, show-holder, count-list, count_map, count-struct}
-use Rattle.reading.proofs.Shown.{read-nowhere, read_under, read-broken, read-null, read_at}
+use Rattle.reading.proofs.Shown.{read-refused, read-null, read_at}
 use Rattle.row.proofs.Numbers.{read-gives}
 use Rattle.lettering.specs.Text.{Puts}
 use Rattle.lettering.proofs.Putting.{puts_none, puts-as}
@@ -138,16 +139,17 @@ module _ {t row : List ℕ} {y : Place} (S : PlaceHolds t row y) where
 
 -- ---- the text of a place
 
-module _ {s row p : List ℕ} {a : Case} (G : Reads s row p a) where
-  text-none : has_line (meaning a) ≡ false → [] ≡ text_at s row p
+module _ {s row p : List ℕ} {r : Read} (G : Reads s row p r) where
+  text-none : has_line (read_means r) ≡ false → [] ≡ text_at s row p
   unfolding text_at
   text-none h = rw (← G.means, h)
 
-  text-some : {m : List ℕ} → has_line (meaning a) ≡ true → m ≡ mark_in (placed p (ro (fields_of s))) → line p m row (meaning a) ≡ text_at s row p
+  text-some : {m : List ℕ} → has_line (read_means r) ≡ true → m ≡ mark_in (placed p (ro (fields_of s)))
+      → line p m row (read_means r) ≡ text_at s row p
   unfolding text_at
   text-some h e = rw (← G.means, h, e)
 
-  shows-none : (out : List ℕ) (at n : ℕ) → has_line (meaning a) ≡ false → n ≡ below (meaning a) → n ≤ 131072
+  shows-none : (out : List ℕ) (at n : ℕ) → has_line (read_means r) ≡ false → n ≡ below (read_means r) → n ≤ 131072
       → Shows s row p out at (record { next = at; count = n }) out
   shows-none out at n h e l =
       record { text = puts-as (text-none h) (puts_none out at); count = e ∙ ap below G.means; few = l; most = omega arith }
@@ -156,7 +158,7 @@ module _ {s row p : List ℕ} {a : Case} (G : Reads s row p a) where
 
 module _ {t row out : List ℕ} {path : Path} {at : ℕ} (q : ShowRoom t row path out at) where
   -- where the place reads as a, and the entry w says its mark
-  module _ {a : Case} (G : Reads (schema_of t) row (path_of path) a) {x : TypeParts} {w : ℕ} (y : Says x w) where
+  module _ {a : Case} (G : Reads (schema_of t) row (path_of path) (Ok a)) {x : TypeParts} {w : ℕ} (y : Says x w) where
     inside : InRow row (meaning a)
     inside = rw G.means G.within
 
@@ -180,20 +182,12 @@ module _ {t row out : List ℕ} {path : Path} {at : ℕ} (q : ShowRoom t row pat
       most = omega (arith, p.next, line-most line-room);
     }
 
-  module _ {f : Found} (F : Finds t row (path_of path) f) where
-    pub shows-nowhere : f ≡ NoPlace → Shows (schema_of t) row (path_of path) out at (record { next = at; count = 0 }) out
+  module _ {f : Result Found Refusal} (F : Finds t row (path_of path) f) where
+    pub shows-refused : {r : Refusal} → f ≡ Err r → Shows (schema_of t) row (path_of path) out at (record { next = at; count = 0 }) out
     unfolding has_line below
-    shows-nowhere e = shows-none (read-nowhere q.opened F e) out at 0 refl refl (omega arith)
+    shows-refused e = shows-none (read-refused q.opened F e) out at 0 refl refl (omega arith)
 
-    pub shows-under : f ≡ NullBefore → Shows (schema_of t) row (path_of path) out at (record { next = at; count = 0 }) out
-    unfolding has_line below
-    shows-under e = shows-none (read_under q.opened F e) out at 0 refl refl (omega arith)
-
-    pub shows-broken : {j : ℕ} → f ≡ Broken j → Shows (schema_of t) row (path_of path) out at (record { next = at; count = 0 }) out
-    unfolding has_line below
-    shows-broken e = shows-none (read-broken q.opened F e) out at 0 refl refl (omega arith)
-
-    module _ {x : TypeParts} {z : Seat} (e : f ≡ Null x z) where
+    module _ {x : TypeParts} {z : Seat} (e : f ≡ Ok (Null x z)) where
       pub null-kinded : Kinded x
       null-kinded = (rw e at F.lands).is.kinded
 
@@ -205,14 +199,14 @@ module _ {t row out : List ℕ} {path : Path} {at : ℕ} (q : ShowRoom t row pat
       unfolding has_line
       shows-null y p = shows-line (read-null q.opened F e) y refl null-kinded (rw e at F.tells) p
 
-    module _ {y : Place} (e : f ≡ At y) (a : Case) (m : meaning a ≡ show_of row y) where
+    module _ {y : Place} (e : f ≡ Ok (At y)) (a : Case) (m : meaning a ≡ show_of row y) where
       stands : PlaceHolds t row y
       stands = rw e at F.lands
 
       kinded : Kinded y.opened
       kinded = stands.rests.is.kinded
 
-      reads : Reads (schema_of t) row (path_of path) a
+      reads : Reads (schema_of t) row (path_of path) (Ok a)
       reads = read_at q.opened F e m
 
       pub leaf_room : y.opened.kind < 9 → LineRoom out at path y.opened.entry row (meaning a)
@@ -231,40 +225,24 @@ module _ {t row out : List ℕ} {path : Path} {at : ℕ} (q : ShowRoom t row pat
 
 -- ---- how many places are below, by the case of the answer
 
--- no case but a container has places below
-abbrev Flat : Case → Type 0
-Flat A.Null = Unit {0}
-Flat (A.Bool v) = Unit {0}
-Flat (A.Number z) = Unit {0}
-Flat (A.Float32 x) = Unit {0}
-Flat (A.Float32Nan b) = Unit {0}
-Flat (A.Float64 x) = Unit {0}
-Flat (A.Float64Nan b) = Unit {0}
-Flat (A.Bytes o n) = Unit {0}
-Flat (A.Container o n k) = ⊥
-Flat (A.Refused r) = Unit {0}
-
-float_below : (b : Bool) (f : Format) (n : ℕ) → 0 ≡ below (cond b (float f n) (R.refused (numbered 0)))
+float_below : (b : Bool) (f : Format) (n : ℕ) → 0 ≡ below (cond b (float f n) no_answer)
 unfolding below
 float_below true binary32 n = refl
 float_below true binary64 n = refl
 float_below false f n = refl
 
-flat-below : (a : Case) → Flat a → 0 ≡ below (meaning a)
+-- no case but a container has places below
+pub count_none : (x : Case) → ((o n k : ℕ) → x ≡ A.Container o n k → ⊥) → 0 ≡ below (meaning x)
 unfolding below
-flat-below A.Null h = refl
-flat-below (A.Bool v) h = refl
-flat-below (A.Number z) h = refl
-flat-below (A.Float32 x) h = float_below (plain binary32 x) binary32 (to_bits binary32 x)
-flat-below (A.Float32Nan b) h = float_below (nan_bits binary32 b) binary32 b
-flat-below (A.Float64 x) h = float_below (plain binary64 x) binary64 (to_bits binary64 x)
-flat-below (A.Float64Nan b) h = float_below (nan_bits binary64 b) binary64 b
-flat-below (A.Bytes o n) h = refl
-flat-below (A.Container o n k) h = absurd h
-flat-below (A.Refused r) h = refl
-
-pub count_none : (x a : Case) → x ≡ a → Flat a → 0 ≡ below (meaning x)
-count_none x a e h = rw e (flat-below a h)
+count_none A.Null h = refl
+count_none (A.Bool v) h = refl
+count_none (A.Number z) h = refl
+count_none (A.Float32 x) h = float_below (plain binary32 x) binary32 (to_bits binary32 x)
+count_none (A.Float32Nan b) h = float_below (nan_bits binary32 b) binary32 b
+count_none (A.Float64 x) h = float_below (plain binary64 x) binary64 (to_bits binary64 x)
+count_none (A.Float64Nan b) h = float_below (nan_bits binary64 b) binary64 b
+count_none (A.Bytes o n) h = refl
+count_none (A.Container o n k) h = absurd (h o n k refl)
 
 pub count-some : (x : Case) (o n k : ℕ) → x ≡ A.Container o n k → k ≡ below (meaning x)
 unfolding below

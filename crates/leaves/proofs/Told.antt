@@ -14,7 +14,6 @@ use Rattle.layout.specs.Refusals.{numbered}
 use Rattle.layout.specs.Reading as R
 use Rattle.answers.specs.declared.Answer.{Answer as Case}
 use Rattle.answers.specs.declared.Answer.TheVariants as A
-use Rattle.answers.specs.declared.Refusal.{Refusal}
 use Rattle.answers.specs.Meaning.{plain, float, meaning}
 use Rattle.row.specs.Demand1.{ReadGives}
 use Rattle.row.proofs.Numbers.{no_zero}
@@ -82,10 +81,6 @@ module _ (out row : List ℕ) (at : ℕ) (x : Case) where
   pub told-container : (o n k : ℕ) → x ≡ A.Container o n k → Puts out at (contents row (meaning x)) at out
   unfolding contents
   told-container o n k e = rw e (puts_none out at)
-
-  pub told-refused : (f : Refusal) → x ≡ A.Refused f → Puts out at (contents row (meaning x)) at out
-  unfolding contents
-  told-refused f e = rw e (puts_none out at)
 
   -- a byte range has room, and lies in the row
   pub bytes-room : (o n : ℕ) → x ≡ A.Bytes o n → Room out at row (meaning x) → (at + (2 * n + 1) ≤ length out) × (o + n ≤ length row)

@@ -71,7 +71,6 @@ passed s row n p i = in_order (beneath s row n) (take n p.steps) i
 
 -- in the loop over the count places below one: the first i of them stand behind its own text, which ends at next₀
 pub record Children (s row : List ℕ) (n count : ℕ) (p : Path) (out₀ : List ℕ) (next₀ : ℕ) (child : Path) (out : List ℕ) (next i : ℕ) : Type 0 where
-  pub most : i ≤ count
   pub long : length out ≡ length out₀
   pub within : next ≤ length out₀
   pub len : child.len ≡ n + 1
@@ -82,7 +81,7 @@ pub record Children (s row : List ℕ) (n count : ℕ) (p : Path) (out₀ : List
 pub children-start : {s row out : List ℕ} {n count next : ℕ} (child : Path) → child.len ≡ n + 1 → length child.steps ≡ 16 → next ≤ length out
     → Children s row n count child out next child out next 0
 children-start {out = out} {next = next} child l e h =
-    record { most = omega arith; long = refl; within = h; len = l; steps = e; front = refl; held = λ x. in-order-none _ _ out next }
+    record { long = refl; within = h; len = l; steps = e; front = refl; held = λ x. in-order-none _ _ out next }
 
 module _ {s row : List ℕ} {n count : ℕ} {p : Path} {out₀ : List ℕ} {next₀ : ℕ} {child : Path} {out : List ℕ} {next i : ℕ}
     (K : Children s row n count p out₀ next₀ child out next i) (h : n < 16) where
@@ -120,7 +119,6 @@ module _ {s row : List ℕ} {n count : ℕ} {p : Path} {out₀ : List ℕ} {next
   pub children-next : {out' : List ℕ} {r : ℕ} → i < count → Walked (card_at s row (child_at child n i)) out next r out' → length out' ≡ length out
       → Children s row n count p out₀ next₀ (child_at child n i) out' r (i + 1)
   children-next {r = r} l W g = record {
-    most = omega arith;
     long = g ∙ K.long;
     within = omega (arith, W.within, K.long);
     len = K.len;
@@ -174,17 +172,15 @@ module _ {t row out : List ℕ} {path : Path} {used at : ℕ} (q : WalkRoom t ro
 
     -- a place and all its children
     pub walked_all : {n : ℕ} {c child : Path} {i next : ℕ} {out'' : List ℕ} → n ≡ path.len → c.steps ≡ path.steps → n < 16
-        → Children s row n r.count c out' r.next child out'' next i → r.count ≤ i → length out' ≡ length out
+        → Children s row n r.count c out' r.next child out'' next i → i ≡ r.count → length out' ≡ length out
         → Walked (card_at s row path) out used next out''
-    walked_all {n} {c} {i = i} en ec h K b e =
-        let k : i ≡ r.count = omega (arith, K.most) in
-        record {
-          within = omega (arith, K.within);
-          held = λ l.
-              let u : used ≤ 229000 = omega arith in
-              let T = at-used S u G.text in
-              puts-as (all-below c en ec h) (puts_then T (puts-as (ap (passed s row n c) k) (K.held (below-fits c en ec h l))));
-        }
+    walked_all {n} {c} en ec h K k e = record {
+      within = omega (arith, K.within);
+      held = λ l.
+          let u : used ≤ 229000 = omega arith in
+          let T = at-used S u G.text in
+          puts-as (all-below c en ec h) (puts_then T (puts-as (ap (passed s row n c) k) (K.held (below-fits c en ec h l))));
+    }
 
 card-root : (s row : List ℕ) (p : Path) → p.len ≡ 0 → length p.steps ≡ 16 → card_at s row p ≡ card_of s row
 unfolding card_of

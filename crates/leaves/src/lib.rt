@@ -40,20 +40,8 @@ fn count_of(x: Answer) -> usize
     ensures { result ≡ below (meaning x) }
 {
     match x {
-        Answer::Container {
-            start: _,
-            len: _,
-            count,
-        } => count,
-        Answer::Null => 0,
-        Answer::Bool(_) => 0,
-        Answer::Number(_) => 0,
-        Answer::Float32(_) => 0,
-        Answer::Float32Nan(_) => 0,
-        Answer::Float64(_) => 0,
-        Answer::Float64Nan(_) => 0,
-        Answer::Bytes { start: _, len: _ } => 0,
-        Answer::Refused(_) => 0,
+        Answer::Container { count, .. } => count,
+        _ => 0,
     }
 }
 
@@ -63,14 +51,12 @@ fn show(t: &[u64], row: &[u8], path: Path, out: &mut [u8], at: usize) -> Shown
     ensures { Shows (schema_of t.now) row.now (path_of path) out.old at result out.new }
 {
     match reading::find(t, row, path) {
-        Found::NoPlace => Shown { next: at, count: 0 },
-        Found::NullBefore => Shown { next: at, count: 0 },
-        Found::Broken(_) => Shown { next: at, count: 0 },
-        Found::Null(x, _) => {
+        Err(_) => Shown { next: at, count: 0 },
+        Ok(Found::Null(x, _)) => {
             let next = lines::line(out, at, path, entry_of(x), row, Answer::Null);
             Shown { next, count: 0 }
         }
-        Found::At(p) => {
+        Ok(Found::At(p)) => {
             let x = p.opened;
             let a = reading::values::answer(row, p);
             if x.kind < table::LIST {
@@ -100,20 +86,16 @@ fn place<W: Write>(
     ensures held { used + length (card_at (schema_of t.now) row.now path) ≤ 229000 → IsOk result }
 {
     let at = lettering::spill(to, out, used)?;
-    let here = show(t, row, path, out, at);
-    let count = here.count;
-    let mut next = here.next;
+    let Shown { mut next, count } = show(t, row, path, out, at);
     let n = path.len;
     if 16 <= n {
         return Ok(next);
     }
     let mut child = path;
     child.len = n + 1;
-    let mut i: usize = 0;
-    while i < count {
+    for i in 0..count {
         child.steps[n] = i as u32;
         next = place(to, t, row, child, out, next)?;
-        i += 1;
     }
     Ok(next)
 }

@@ -21,14 +21,14 @@ fn mark(out: &mut [u8], at: usize, w: u64) -> usize
     text::byte(out, next, (m >> 8) as u8)
 }
 
-// A container has no contents of its own, and a refusal none at all.
+// A container has no contents of its own.
 fn contents(out: &mut [u8], at: usize, row: &[u8], x: Answer) -> usize
     requires { Room out.old at row.now (meaning x) }
     ensures { Puts out.old at (contents_of row.now (meaning x)) result out.new }
 {
     match x {
         Answer::Null => text::put(out, at, b"null"),
-        Answer::Bool(v) => text::byte(out, at, 48 + v as u8),
+        Answer::Bool(v) => text::byte(out, at, b'0' + v as u8),
         Answer::Number(n) => text::signed(out, at, n),
         Answer::Float32(v) => text::hex(out, at, floats::bits32(v) as u64, 8),
         Answer::Float32Nan(v) => text::hex(out, at, v as u64, 8),
@@ -40,7 +40,6 @@ fn contents(out: &mut [u8], at: usize, row: &[u8], x: Answer) -> usize
             len: _,
             count: _,
         } => at,
-        Answer::Refused(_) => at,
     }
 }
 

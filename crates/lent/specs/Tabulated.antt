@@ -1,9 +1,7 @@
 -- What `table` answers and leaves in the lent output, both functions of the schema and the output. Assumes nothing: these are definitions.
-use Rattle.std.specs.Prelude.{◌≡◌, List, ℕ, length, take}
-use Rattle.std.proofs.lemmas.List.Edits.{sets}
+use Rattle.std.specs.Prelude.{◌≡◌, List, ℕ, length}
 use Rattle.layout.specs.Entries.{Sized, schema_bad, sized_after, filled}
-use Rattle.answers.specs.declared.Length.{Length}
-use Rattle.answers.specs.Meaning.{length_means}
+use Rattle.answers.specs.Meaning.{Length, length_means}
 use Rattle.table.specs.Tables.{table_of}
 
 -- how many words the table has; or 1; or 4, with the words needed
@@ -18,7 +16,3 @@ tabled_of s out = filled (tabulate_of s (length out)) (table_of s) out
 pub record TablesTo (s out : List ℕ) (r : Length) (out' : List ℕ) : Type 0 where
   pub answers : length_means r ≡ tabulate_of s (length out)
   pub leaves : out' ≡ tabled_of s out
-
--- the first n words of t at the start of the output, the rest as it was
-pub record Copied (t : List ℕ) (n : ℕ) (out out' : List ℕ) : Type 0 where
-  pub is : out' ≡ sets out 0 (take n t)

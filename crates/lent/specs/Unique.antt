@@ -3,7 +3,7 @@
 -- Assumes nothing: these are definitions.
 use Rattle.std.specs.Prelude.{◌≡◌, List, ℕ}
 use Rattle.std.specs.Borrow.{Bor}
-use Rattle.answers.specs.declared.Length.{Length}
+use Rattle.answers.specs.Meaning.{Length}
 use Rattle.row.specs.Unique as R
 use Rattle.row.specs.Unique.{Same}
 use Rattle.batch.specs.Unique as B

@@ -9,14 +9,15 @@ use lib.Bits.{bit_and}
 use lib.IntN.{ℤ, pos, negsuc}
 use lib.Signed.{mag}
 use lib.ListN.{length, take, drop, get_or, length-append}
-use lib.Seq.{sets, take-suc, take_all, length-take-le, drop-append-le}
+use lib.Seq.{sets, sets-eq, take-suc, take_all, drop-drop, length-take-le, drop-append-le}
+use borrow.Rule.Slice.PartMut.{put_mid}
 use borrow.Author.Tests.{lt-ltb, le-ltb}
 use Rattle.io.specs.Digits.{hex_digit_ascii}
 use Rattle.words.specs.Bytes.{part}
 use Rattle.words.specs.Signed.{is_negative}
 use Rattle.words.proofs.Powers.{mask_is}
 use Rattle.words.proofs.Runs.{sets_then}
-use Rattle.words.proofs.Parts.{length_part, part-snoc, part-whole}
+use Rattle.words.proofs.Parts.{length_part}
 use Rattle.lettering.specs.Text.{hex, decimal_in, decimal, signed, hexes, bytes, dotted, path, Puts}
 use Rattle.lettering.specs.Held.{Spilt, Walked}
 
@@ -105,6 +106,13 @@ signed-minus z m h e p q = puts-as (signed-under z m h e) (puts_then p q)
 
 -- ---- bytes
 
+-- those lent out of a row
+pub run-is : (row : List ℕ) (i n : ℕ) → take (i + n - i) (drop i row) ≡ part row i n
+run-is row i n = ap (λ (k : ℕ). take k (drop i row)) (omega arith)
+
+pub run-long : (row : List ℕ) (i n : ℕ) → i + n ≤ length row → length (take (i + n - i) (drop i row)) ≡ n
+run-long row i n h = ap length (run-is row i n) ∙ length_part row i n h
+
 hexes-append : (xs ys : List ℕ) → hexes (xs ++ ys) ≡ hexes xs ++ hexes ys
 unfolding hexes
 hexes-append [] ys = refl
@@ -114,18 +122,18 @@ hexes-one : (b : ℕ) → hexes (b ∷ []) ≡ hex 2 b
 unfolding hexes
 hexes-one b = append-nil (hex 2 b)
 
-pub hexes-none : (out row : List ℕ) (at start : ℕ) → Puts out at (hexes (part row start 0)) at out
+pub hexes-none : (out bytes : List ℕ) (at : ℕ) → Puts out at (hexes (take 0 bytes)) at out
 unfolding hexes
-hexes-none out row at start = puts_none out at
+hexes-none out bytes at = puts_none out at
 
-pub hexes-more : {a b c : List ℕ} {at m r : ℕ} (row : List ℕ) (start i x : ℕ) → start + i < length row → x ≡ get_or row (start + i) 0
-    → Puts a at (hexes (part row start i)) m b → Puts b m (hex 2 x) r c → Puts a at (hexes (part row start (i + 1))) r c
-hexes-more row start i x h e p q =
-    puts-as (ap (λ (y : ℕ). hexes (part row start i) ++ hex 2 y) e
-    ∙ ap (λ (l : List ℕ). hexes (part row start i) ++ l) (sym (hexes-one (get_or row (start + i) 0)))
-    ∙ sym (hexes-append (part row start i) (get_or row (start + i) 0 ∷ []))
-    ∙ ap hexes (sym (part-snoc row start i h))
-    ∙ ap (λ (n : ℕ). hexes (part row start n)) (sym (add-one i)))
+pub hexes-more : {a b c : List ℕ} {at m r : ℕ} (bytes : List ℕ) (i x : ℕ) → i < length bytes → x ≡ get_or bytes i 0
+    → Puts a at (hexes (take i bytes)) m b → Puts b m (hex 2 x) r c → Puts a at (hexes (take (i + 1) bytes)) r c
+hexes-more bytes i x h e p q =
+    puts-as (ap (λ (y : ℕ). hexes (take i bytes) ++ hex 2 y) e
+    ∙ ap (λ (l : List ℕ). hexes (take i bytes) ++ l) (sym (hexes-one (get_or bytes i 0)))
+    ∙ sym (hexes-append (take i bytes) (get_or bytes i 0 ∷ []))
+    ∙ ap hexes (sym (take-suc bytes i 0 h))
+    ∙ ap (λ (n : ℕ). hexes (take n bytes)) (sym (add-one i)))
     (puts_then p q)
 
 bytes-some : (l : List ℕ) → 0 < length l → hexes l ≡ bytes l
@@ -137,11 +145,13 @@ pub bytes-none : {a b : List ℕ} {at r : ℕ} (row : List ℕ) (start n : ℕ) 
 unfolding bytes
 bytes-none row start n e p = rw e p
 
-pub bytes-all : {a b : List ℕ} {at r : ℕ} (row : List ℕ) (start n i : ℕ) → (n ≡ 0 → ⊥) → start + n ≤ length row → i ≤ n → n ≤ i
-    → Puts a at (hexes (part row start i)) r b → Puts a at (bytes (part row start n)) r b
-bytes-all row start n i z h l g p =
-    let e : i ≡ n = omega arith in
-    puts-as (ap (λ (k : ℕ). hexes (part row start k)) e ∙ bytes-some (part row start n) (rw (length_part row start n h) (omega (arith, z)))) p
+pub bytes-all : {a b : List ℕ} {at r : ℕ} (row : List ℕ) (start n i : ℕ) → (n ≡ 0 → ⊥) → start + n ≤ length row
+    → length (take (start + n - start) (drop start row)) ≤ i → Puts a at (hexes (take i (take (start + n - start) (drop start row)))) r b
+    → Puts a at (bytes (part row start n)) r b
+bytes-all row start n i z h l p =
+    puts-as (ap hexes (take_all i (take (start + n - start) (drop start row)) l ∙ run-is row start n)
+    ∙ bytes-some (part row start n) (rw (length_part row start n h) (omega (arith, z))))
+    p
 
 -- ---- a path
 
@@ -188,10 +198,19 @@ path-all p k i z h e q s =
     ∙ by-steps p z)
     (puts_then q s)
 
--- ---- a word
+-- ---- a run of bytes lent and written whole
 
-pub put_whole : {a b : List ℕ} {at : ℕ} (w : List ℕ) → b ≡ sets a at (part w 0 (length w)) → Puts a at w (at + length w) b
-put_whole {a} {at = at} w e = record { bytes = e ∙ ap (sets a at) (part-whole w); next = refl }
+put_mid-sets : (b v : List ℕ) (at k : ℕ) → length v ≡ k → at + k ≤ length b → put_mid at k b v ≡ sets b at v
+put_mid-sets b v at k e h =
+    sym (append_assoc (take at b) v _) ∙ ap (λ (t : List ℕ). take at b ++ v ++ t) (drop-drop k at b ∙ ap (λ (n : ℕ). drop (at + n) b) (sym e))
+    ∙ sym (sets-eq v b at (omega arith))
+
+pub puts_mid : {out u : List ℕ} (at n : ℕ) → length u ≡ n → at + n ≤ length out → Puts out at u (at + n) (put_mid at (at + n - at) out u)
+puts_mid {out} {u} at n e room = record { bytes = put_mid-sets out u at (at + n - at) (omega (arith, e)) (omega arith); next = omega (arith, e) }
+
+pub puts_whole : {out u : List ℕ} (w : List ℕ) (at : ℕ) → u ≡ w → at + length w ≤ length out
+    → Puts out at w (at + length w) (put_mid at (at + length w - at) out u)
+puts_whole w at e room = puts-as e (puts_mid at (length w) (ap length e) room)
 
 -- ---- text that is held
 

@@ -12,7 +12,7 @@ pub fn glyph(d: u8) -> u8
     requires { d < 16 }
     ensures { result ≡ glyph_of d }
 {
-    if d < 10 { 48 + d } else { 87 + d }
+    if d < 10 { b'0' + d } else { b'a' + (d - 10) }
 }
 
 pub fn byte(out: &mut [u8], at: usize, b: u8) -> usize
@@ -28,7 +28,7 @@ pub fn put(out: &mut [u8], at: usize, word: &[u8]) -> usize
     ensures { Puts out.old at word.now result out.new }
 {
     let n = word.len();
-    words::copies::copy(out, at, word, 0, n);
+    out[at..at + n].copy_from_slice(word);
     at + n
 }
 
@@ -109,10 +109,8 @@ pub fn bytes(out: &mut [u8], at: usize, row: &[u8], start: usize, n: usize) -> u
         return byte(out, at, b'-');
     }
     let mut next = at;
-    let mut i = 0;
-    while i < n {
-        next = hex(out, next, words::nums::wide(row[start + i]), 2);
-        i += 1;
+    for x in &row[start..start + n] {
+        next = hex(out, next, u64::from(*x), 2);
     }
     next
 }
@@ -135,10 +133,8 @@ pub fn path(out: &mut [u8], at: usize, path: Path) -> usize
         return at;
     }
     let mut next = decimal(out, at, answers::paths::step_at(path, 0) as u64);
-    let mut k = 1;
-    while k < n {
+    for k in 1..n {
         next = dotted(out, next, answers::paths::step_at(path, k));
-        k += 1;
     }
     next
 }

@@ -3,7 +3,7 @@ use mathlib.Core.Path.{◌≡◌, refl, ap, ◌∙◌, subst}
 use mathlib.Core.Bool.{Bool, true, false}
 use mathlib.Core.Option.{none}
 use mathlib.Core.List.{List, [], ◌++◌}
-use Prim.Native.Nat.{ℕ, suc, ◌+◌, ◌*◌, ◌-◌, ◌^◌, ◌≤◌, ◌<◌}
+use Prim.Native.Nat.{ℕ, suc, ◌+◌, ◌*◌, ◌^◌, ◌≤◌, ◌<◌}
 use native.Mathlib.Nat.{mul-le-mul_right}
 use native.Mathlib.Omega.{arith}
 use lib.ListN.{length, get_or, replicate, length-replicate, get_or-replicate}
@@ -50,7 +50,6 @@ pub record Counted (t : Ty) (b : List ℕ) (pos n w : ℕ) : Type 0 where
 -- before element i, whose bytes or slot start at slot
 pub record AtItem (t : Ty) (b : List ℕ) (n w pos i slot : ℕ) (out₀ out : List ℕ) (p : ℕ) : Type 0 where
   pub counted : Counted t b pos n w
-  pub most : i ≤ n
   pub slot_is : slot ≡ 8 + bitmap n + i * w
   pub going : Going (item_scripts t b) (parts (cell_of (li t) b)) out₀ pos i out p
 
@@ -74,11 +73,8 @@ module _ {t : Ty} {b : List ℕ} {pos n w : ℕ} (r : Counted t b pos n w) where
   pub list-few : n < 2 ^ 32
   list-few = omega (arith, room, r.asked.holds.small)
 
-  pub list-first : {m : ℕ} → m ≡ bitmap n → Fits w64 (8 + m)
-  list-first e = omega (arith, room, r.asked.holds.small)
-
   pub items-start : {m : ℕ} → m ≡ bitmap n → (out : List ℕ) → AtItem t b n w pos 0 (8 + m) out out pos
-  items-start e out = record { counted = r; most = omega arith; slot_is = omega arith; going = going_start _ _ out pos }
+  items-start e out = record { counted = r; slot_is = omega arith; going = going_start _ _ out pos }
 
 module _ {t : Ty} {b : List ℕ} {n w pos i slot : ℕ} {out₀ out : List ℕ} {p : ℕ} (a : AtItem t b n w pos i slot out₀ out p) where
   abbrev r₀ : Counted t b pos n w
@@ -87,9 +83,6 @@ module _ {t : Ty} {b : List ℕ} {n w pos i slot : ℕ} {out₀ out : List ℕ} 
   pub items-end : n ≤ i → Written out₀ pos (item_lines t b) out p
   unfolding item_lines
   items-end l = going_end a.going (rw length-replicate (omega (arith, count-is r₀)))
-
-  pub items_kept : length out ≡ length out₀
-  items_kept = a.going.wrote.kept
 
   module _ (l : i < n) where
     fit : i * w + w ≤ n * w
@@ -100,12 +93,6 @@ module _ {t : Ty} {b : List ℕ} {n w pos i slot : ℕ} {out₀ out : List ℕ} 
 
     pub item-more : Fits w64 (slot + w)
     item-more = omega (arith, item-fits, r₀.asked.holds.small)
-
-    pub item_on : Fits w64 (i + 1)
-    item_on = omega (arith, list-few r₀)
-
-    pub item-less : n - (i + 1) < n - i
-    item-less = omega arith
 
     slot_at : 8 + (bitmap n + i * w) ≡ slot
     slot_at = omega (arith, a.slot_is)
@@ -156,7 +143,6 @@ module _ {t : Ty} {b : List ℕ} {n w pos i slot : ℕ} {out₀ out : List ℕ} 
         → AtItem t b n w pos (i + 1) (slot + w) out₀ out' p'
     items-next f = record {
       counted = r₀;
-      most = omega arith;
       slot_is = omega (arith, a.slot_is);
       going = going_next a.going no_script (leaf []) in-scripts in_parts _ item-is f;
     }

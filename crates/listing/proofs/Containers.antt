@@ -17,7 +17,7 @@ use Rattle.table.specs.Words.{place_in, count_in, after_in}
 use Rattle.table.specs.Tables.{schema_of, pos_of, InTable, EntryAt, type_of, types_of}
 use Rattle.table.proofs.Places.{place-room, table-short, entry-list, entry-map, entry-struct}
 use Rattle.layout.specs.Cells.{parts}
-use Rattle.layout.specs.Listing.{struct_script, list_script, element, script, listing}
+use Rattle.layout.specs.Listing.{struct_script, list_script, script, listing}
 use Rattle.layout.proofs.Walked.{list-says}
 use Rattle.listing.specs.Lines.{cell_of, lines, item_lines, field_lines, Written}
 use Rattle.listing.specs.Room.{Holds, Container, Pair, Elements, Fields}

@@ -9,7 +9,7 @@ use lib.ListN.{length}
 use Rattle.words.specs.Bytes.{Bytes, le}
 use Rattle.schema.specs.Marks.{mark_at}
 use Rattle.schema.specs.Types.{Fixed, Text, Ty, fix, text, place, mark}
-use Rattle.layout.specs.Cells.{Cell, bytes}
+use Rattle.layout.specs.Cells.{Cell}
 use Rattle.layout.specs.Layout.{number, string, codec, Lays, decode}
 use Rattle.layout.specs.Listing.{number_script, text_script, script, listing}
 use Rattle.layout.specs.Setting.{is_some}

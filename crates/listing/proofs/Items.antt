@@ -5,8 +5,6 @@ use mathlib.Core.Option.{none}
 use mathlib.Core.List.{List}
 use Prim.Native.Nat.{ℕ, ◌+◌, ◌^◌, ◌≤◌, ◌<◌}
 use native.Mathlib.Omega.{arith}
-use mir.Syntax.{w64}
-use mir.Val.{Fits}
 use Rattle.words.specs.Bits.{bit}
 use Rattle.words.specs.Bytes.{bitmap}
 use Rattle.words.specs.Reads.{Reads}
@@ -20,7 +18,7 @@ use Rattle.listing.specs.Lines.{lines, item_lines, own_bytes, own_lines, Written
 use Rattle.listing.specs.Room.{leaf_at, Items, Present, Elsewhere, Leaf, Leaves, Elements, Container}
 use Rattle.listing.proofs.Wrote.{same_bytes}
 use Rattle.listing.proofs.Seats.{seat-there, slot-eight, leaf-at, place-leaf, entry-elsewhere, entry-lines, entry-container}
-use Rattle.listing.proofs.Children.{Counted, AtItem, list-few, list-first, items-start, item-seat, items-own}
+use Rattle.listing.proofs.Children.{Counted, AtItem, list-few, items-start, item-seat, items-own}
 
 -- ---- leaves
 
@@ -32,9 +30,6 @@ module _ {w : ℕ} {b : List ℕ} {pos n x : ℕ} (r : Leaves w b pos) (g : Read
   leaves-few = list-few leaves-counted
 
   module _ {m : ℕ} (em : m ≡ bitmap n) where
-    pub leaves-first : Fits w64 (8 + m)
-    leaves-first = list-first leaves-counted em
-
     pub leaves-start : (out : List ℕ) → AtItem (leaf_at (place_in w)) b n x pos 0 (8 + m) out out pos
     leaves-start = items-start leaves-counted em
 
@@ -75,9 +70,6 @@ module _ {t : List ℕ} {at d : ℕ} {b : List ℕ} {pos w : ℕ} (r : Elements 
       containers-few = list-few counted
 
       module _ {m : ℕ} (em : m ≡ bitmap n) where
-        pub containers-first : Fits w64 (8 + m)
-        containers-first = list-first counted em
-
         pub containers-start : (out : List ℕ) → AtItem (type_of t at d) b n 8 pos 0 (8 + m) out out pos
         containers-start = items-start counted em
 

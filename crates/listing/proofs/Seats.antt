@@ -8,14 +8,12 @@ use native.Mathlib.Decide.{dec_lt}
 use native.Mathlib.Omega.{arith}
 use lib.Dec.{ltb}
 use lib.ListN.{length, take, drop}
-use mir.Syntax.{w64}
-use mir.Val.{Fits}
 use borrow.Author.Tests.{lt-ltb, le-ltb}
 use Rattle.words.specs.Bytes.{Bytes, le, part}
 use Rattle.words.specs.Bits.{bit}
 use Rattle.words.specs.Reads.{Reads}
 use Rattle.schema.specs.Marks.{mark_at, line}
-use Rattle.schema.specs.Types.{Ty, fix, text, width, fixed_at, text_at, place}
+use Rattle.schema.specs.Types.{Ty, fix, text, fixed_at, text_at, place}
 use Rattle.schema.proofs.Table.{line-width, place-fixed, place-text}
 use Rattle.schema.proofs.Places.{fixed_of, text_of}
 use Rattle.table.specs.Words.{place_in}
@@ -70,16 +68,10 @@ module _ {t : Ty} {b : List ℕ} {h i slot pos : ℕ} (r : Seated t b h i slot p
 -- ---- a value elsewhere
 
 -- x is the slot's word, off and size what it says
-module _ {b : List ℕ} {slot x off size : ℕ} (r : Elsewhere b slot) (g : Reads b slot 8 x) (eo : off ≡ x / 2 ^ 32) (es : size ≡ x % 2 ^ 32) where
-  pub own-fits : off + size ≤ length b
-  own-fits = rw (eo, es, g.is) r.within
-
-  pub own-end : Fits w64 (off + size)
-  own-end = omega (arith, own-fits, r.small)
-
-  pub own_is : take (off + size - off) (drop off b) ≡ own_bytes none b slot
-  unfolding own_bytes
-  own_is = let j : off + size - off ≡ size = omega arith in rw (j, eo, es, g.is)
+pub own_is : {b : List ℕ} {slot x off size : ℕ} → Reads b slot 8 x → off ≡ x / 2 ^ 32 → size ≡ x % 2 ^ 32
+    → take (off + size - off) (drop off b) ≡ own_bytes none b slot
+unfolding own_bytes
+own_is {off = off} {size = size} g eo es = let j : off + size - off ≡ size = omega arith in rw (j, eo, es, g.is)
 
 pub slot-eight : (t : Ty) → 7 ≤ place t → 8 ≡ slot_of (codec t).wide
 unfolding slot_of

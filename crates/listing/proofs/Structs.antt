@@ -3,12 +3,10 @@ use mathlib.Core.Path.{◌≡◌, refl, sym, ap, ◌∙◌, subst}
 use mathlib.Core.Bool.{Bool, true, false}
 use mathlib.Core.Option.{none}
 use mathlib.Core.List.{List, [], ◌++◌}
-use Prim.Native.Nat.{ℕ, zero, suc, ◌+◌, ◌*◌, ◌-◌, ◌^◌, ◌≤◌, ◌<◌}
+use Prim.Native.Nat.{ℕ, zero, suc, ◌+◌, ◌*◌, ◌^◌, ◌≤◌, ◌<◌}
 use native.Mathlib.Omega.{arith}
 use native.Mathlib.Numerals.{add-one}
 use lib.ListN.{length, get_or}
-use mir.Syntax.{w64}
-use mir.Val.{Fits}
 use Rattle.words.specs.Bytes.{bitmap}
 use Rattle.words.specs.Bits.{bit}
 use Rattle.schema.specs.Types.{Ty, ro, Tys, end, ◌then◌, count, field, mark}
@@ -59,7 +57,6 @@ field-first s first d = refl
 -- before field i, whose type stands at the place at and whose slot at slot
 pub record AtField (t : List ℕ) (first n d : ℕ) (b : List ℕ) (pos at i slot : ℕ) (out₀ out : List ℕ) (p : ℕ) : Type 0 where
   pub asked : Fields t first n d b pos
-  pub most : i ≤ n
   pub at-is : pos_of t at ≡ field_at (schema_of t) (pos_of t first) d i
   pub slot_is : slot ≡ bitmap n + 8 * i
   pub going : Going (scripts (types_of t first d n)) (parts (cell_of (ro (types_of t first d n)) b)) out₀ pos i out p
@@ -91,7 +88,6 @@ module _ {t : List ℕ} {first n d : ℕ} {b : List ℕ} {pos : ℕ} (r : Fields
   pub fields-start : {m : ℕ} → m ≡ bitmap n → (out : List ℕ) → AtField t first n d b pos first 0 m out out pos
   fields-start e out = record {
     asked = r;
-    most = omega arith;
     at-is = field-first (schema_of t) (pos_of t first) d;
     slot_is = omega arith;
     going = going_start _ _ out pos;
@@ -118,15 +114,6 @@ module _ {t : List ℕ} {first n d : ℕ} {b : List ℕ} {pos at i slot : ℕ} {
   module _ (l : i < n) where
     fits : slot + 8 ≤ length b
     fits = omega (arith, a.slot_is, fields-room r₀)
-
-    pub field-more : Fits w64 (slot + 8)
-    field-more = omega (arith, fits, r₀.holds.small)
-
-    pub field_next : Fits w64 (i + 1)
-    field_next = omega (arith, r₀.high)
-
-    pub field-less : n - (i + 1) < n - i
-    field-less = omega arith
 
     law : FieldLaw (schema_of t) i (pos_of t first) d n
     law = field-typed (schema_of t) i (pos_of t first) d n r₀.typed l
@@ -183,7 +170,6 @@ module _ {t : List ℕ} {first n d : ℕ} {b : List ℕ} {pos at i slot : ℕ} {
         → Written out p (child_lines T b 0 i slot) out' p' → AtField t first n d b pos at' (i + 1) (slot + 8) out₀ out' p'
     fields-on ea f = record {
       asked = r₀;
-      most = omega arith;
       at-is = ea ∙ ap (λ (j : ℕ). next_at (schema_of t) j d) a.at-is ∙ rw (add-one i) (sym (field-on (schema_of t) (pos_of t first) d i));
       slot_is = omega (arith, a.slot_is);
       going = going_next a.going no_script (leaf []) in-scripts in_parts _ item-is f;

@@ -1,10 +1,9 @@
 -- Writing one thing after another. Assumes nothing.
 use mathlib.Core.Path.{◌≡◌, refl, ap, ◌∙◌}
-use mathlib.Core.List.{List, [], ◌∷◌, ◌++◌}
+use mathlib.Core.List.{List, [], ◌++◌}
 use Prim.Native.Nat.{ℕ, ◌+◌, ◌≤◌, ◌<◌}
 use native.Mathlib.Omega.{arith}
-use native.Mathlib.Numerals.{add-one}
-use lib.ListN.{length, set, length-append, length-set}
+use lib.ListN.{length, length-append}
 use lib.Seq.{sets, length-sets}
 use borrow.Author.Tests.{le-leb, lt-leb}
 use Rattle.words.specs.Bytes.{le, num}
@@ -23,10 +22,6 @@ wrote_none out pos v n r e q h = record { past = omega arith; kept = refl; bytes
 pub wrote-run : (out : List ℕ) (pos : ℕ) (v out' : List ℕ) (n r : ℕ) → length v ≡ n → r ≡ pos + n → out' ≡ sets out pos v
     → Written out pos v out' r
 wrote-run out pos v out' n r e q s = record { past = omega arith; kept = rw s (length-sets out pos v); bytes = λ _. s }
-
-pub wrote-two : (out : List ℕ) (pos x y r : ℕ) → r ≡ pos + 2 → Written out pos (x ∷ y ∷ []) (set (set out pos x) (pos + 1) y) r
-wrote-two out pos x y r e =
-    record { past = e; kept = length-set (set out pos x) (pos + 1) y ∙ length-set out pos x; bytes = λ _. rw add-one refl }
 
 pub nothing : (out : List ℕ) (pos : ℕ) → Written out pos [] out pos
 nothing out pos = record { past = omega arith; kept = refl; bytes = λ _. refl }

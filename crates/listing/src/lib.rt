@@ -24,7 +24,7 @@ fn put_mark(out: &mut [u8], pos: usize, w: u64) -> usize
     if out.len() < end {
         return end;
     }
-    words::nums::put2(out, pos, table::mark(w) as u64);
+    words::nums::put::<2>(out, pos, table::mark(w) as u64);
     end
 }
 
@@ -52,7 +52,7 @@ fn put_count(out: &mut [u8], pos: usize, w: u64, n: usize) -> usize
     if out.len() < end {
         return end;
     }
-    words::nums::put4(out, at, n as u64);
+    words::nums::put::<4>(out, at, n as u64);
     end
 }
 
@@ -67,19 +67,12 @@ fn put_number(out: &mut [u8], pos: usize, w: u64, b: &[u8], slot: usize) -> usiz
         return end;
     }
     let p = put_mark(out, pos, w);
-    if wide == 8 {
-        words::nums::put8(out, p, words::nums::get8(b, slot));
-        return end;
+    match wide {
+        8 => words::nums::put::<8>(out, p, words::nums::get::<8>(b, slot)),
+        4 => words::nums::put::<4>(out, p, words::nums::get::<4>(b, slot) as u64),
+        2 => words::nums::put::<2>(out, p, words::nums::get::<2>(b, slot) as u64),
+        _ => out[p] = b[slot],
     }
-    if wide == 4 {
-        words::nums::put4(out, p, words::nums::get4(b, slot) as u64);
-        return end;
-    }
-    if wide == 2 {
-        words::nums::put2(out, p, words::nums::get2(b, slot) as u64);
-        return end;
-    }
-    out[p] = b[slot];
     end
 }
 
@@ -103,7 +96,7 @@ fn own(b: &[u8], slot: usize) -> &[u8]
     requires { Elsewhere b.now slot }
     ensures { result.now ≡ own_bytes none b.now slot }
 {
-    let x = words::nums::get8(b, slot);
+    let x = words::nums::get::<8>(b, slot);
     let off = words::slots::slot_offset(x) as usize;
     let end = off + words::slots::slot_size(x) as usize;
     &b[off..end]
@@ -115,9 +108,10 @@ fn put_leaf(out: &mut [u8], pos: usize, w: u64, b: &[u8], slot: usize) -> usize
     ensures { Written out.old pos (own_lines (leaf_at (place_in w)) b.now slot) out.new result }
 {
     if table::place(w) < table::STRING {
-        return put_number(out, pos, w, b, slot);
+        put_number(out, pos, w, b, slot)
+    } else {
+        put_text(out, pos, w, own(b, slot))
     }
-    put_text(out, pos, w, own(b, slot))
 }
 
 // The elements of a list of leaves: a loop of its own, with no call of the cycle. There is no look at what lies under a null.
@@ -125,19 +119,17 @@ fn list_leaves(w: u64, b: &[u8], out: &mut [u8], pos: usize) -> usize
     requires { Leaves w b.now pos }
     ensures { Written out.old pos (item_lines (leaf_at (place_in w)) b.now) out.new result }
 {
-    let n = words::nums::get8(b, 0) as usize;
+    let n = words::nums::get::<8>(b, 0) as usize;
     let wide = table::element_width(w);
-    let mut i: usize = 0;
     let mut slot = 8 + words::sizes::bitmap_size(n);
     let mut p = pos;
-    while i < n {
+    for i in 0..n {
         if words::nulls::is_null(b, 8, i) {
             p = put_null(out, p);
         } else {
             p = put_leaf(out, p, w, b, slot);
         }
         slot += wide;
-        i += 1;
     }
     p
 }
@@ -149,17 +141,18 @@ fn list_value(t: &[u64], at: usize, depth: usize, b: &[u8], out: &mut [u8], pos:
     ensures { Written out.old pos (lines (type_of t.now at depth) b.now) out.new result }
 {
     let w = table::entry_at(t, at, depth);
-    let k = table::place(w);
     let d = depth - 1;
-    if k == table::LIST {
-        let p = put_count(out, pos, w, words::nums::get8(b, 0) as usize);
-        return list_items(t, at + 1, d, b, out, p);
+    match table::place(w) {
+        table::LIST => {
+            let p = put_count(out, pos, w, words::nums::get::<8>(b, 0) as usize);
+            list_items(t, at + 1, d, b, out, p)
+        }
+        table::MAP => list_map(t, at, depth, b, out, pos),
+        _ => {
+            let p = put_mark(out, pos, w);
+            list_fields(t, at + 1, table::count(w), d, b, out, p)
+        }
     }
-    if k == table::MAP {
-        return list_map(t, at, depth, b, out, pos);
-    }
-    let p = put_mark(out, pos, w);
-    list_fields(t, at + 1, table::count(w), d, b, out, p)
 }
 
 // A map: its count, the keys, then the values.
@@ -172,9 +165,9 @@ fn list_map(t: &[u64], at: usize, depth: usize, b: &[u8], out: &mut [u8], pos: u
     let d = depth - 1;
     let keys = at + 1;
     let values = table::after(table::entry_at(t, keys, d));
-    let size = words::nums::get8(b, 0) as usize;
+    let size = words::nums::get::<8>(b, 0) as usize;
     let end = 8 + size;
-    let p = put_count(out, pos, w, words::nums::get8(b, 8) as usize);
+    let p = put_count(out, pos, w, words::nums::get::<8>(b, 8) as usize);
     let q = list_items(t, keys, d, &b[8..end], out, p);
     list_items(t, values, d, &b[end..], out, q)
 }
@@ -189,18 +182,16 @@ fn list_items(t: &[u64], at: usize, depth: usize, b: &[u8], out: &mut [u8], pos:
     if table::place(w) < table::LIST {
         return list_leaves(w, b, out, pos);
     }
-    let n = words::nums::get8(b, 0) as usize;
-    let mut i: usize = 0;
+    let n = words::nums::get::<8>(b, 0) as usize;
     let mut slot = 8 + words::sizes::bitmap_size(n);
     let mut p = pos;
-    while i < n {
+    for i in 0..n {
         if words::nulls::is_null(b, 8, i) {
             p = put_null(out, p);
         } else {
             p = list_value(t, at, depth, own(b, slot), out, p);
         }
         slot += 8;
-        i += 1;
     }
     p
 }
@@ -220,10 +211,9 @@ fn list_fields(
     ensures { Written out.old pos (field_lines (types_of t.now first depth n) b.now) out.new result }
 {
     let mut at = first;
-    let mut i: usize = 0;
     let mut slot = words::sizes::bitmap_size(n);
     let mut p = pos;
-    while i < n {
+    for i in 0..n {
         let w = table::entry_at(t, at, depth);
         if words::nulls::is_null(b, 0, i) {
             p = put_null(out, p);
@@ -234,7 +224,6 @@ fn list_fields(
         }
         at = table::after(w);
         slot += 8;
-        i += 1;
     }
     p
 }

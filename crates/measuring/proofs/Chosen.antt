@@ -1,5 +1,5 @@
 -- A leaf and a container measured by the entry of their type, in the words of the code. Assumes nothing.
-use mathlib.Core.Path.{◌≡◌, sym, ap, ◌∙◌, subst}
+use mathlib.Core.Path.{◌≡◌, sym, ap, ◌∙◌}
 use mathlib.Core.Bool.{Bool, true, false, not}
 use mathlib.Core.List.{List}
 use Prim.Native.Nat.{ℕ, ◌+◌, ◌*◌, ◌-◌, ◌^◌, ◌≤◌, ◌<◌}
@@ -36,9 +36,6 @@ use Rattle.measuring.proofs.Bodies.{list-short, map-short, list-told, map_keys, 
 own-mark : {w x : ℕ} (t : Ty) → Lined w → x ≡ mark_in w → place_in w ≡ place t → x ≡ num (mark t)
 unfolding mark
 own-mark t h e k = e ∙ h.mark ∙ ap (λ (j : ℕ). num (mark_at j)) k
-
-pub only-null-is : {l : List ℕ} {from m r : ℕ} → 2 ≤ length l - from → Reads l from 2 m → NullTold m from r → OnlyNull l from r
-only-null-is {l} {from} {m} {r} h e z = record { short = λ g. absurd (omega arith); seen = λ _. subst (λ (j : ℕ). NullTold j from r) e.is z }
 
 -- ---- leaves: the mark's number m was read, and x is that of the entry
 

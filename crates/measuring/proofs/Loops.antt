@@ -11,7 +11,7 @@ use mir.Val.{Fits}
 use Rattle.words.specs.Bytes.{Bytes, pad, bitmap}
 use Rattle.words.specs.Pairs.{low_in, high_in, Paired}
 use Rattle.schema.specs.Marks.{element_width}
-use Rattle.schema.specs.Types.{Ty, li, ro, Tys, count, place, mark}
+use Rattle.schema.specs.Types.{Ty, li, ro, Tys, count, mark}
 use Rattle.schema.specs.Walk.{TypedAll, types_at, next_at}
 use Rattle.schema.proofs.Typing.{typed-more, typed-done, typed-count}
 use Rattle.layout.specs.Cells.{node}
@@ -50,39 +50,38 @@ child-came x er = rw er x
 pub goes-low : {l : List ℕ} {pos : ℕ} → Goes l pos → pos < 2 ^ 32
 goes-low g = omega (arith, g.inside, g.short)
 
-pub some_left : {left : ℕ} → (left ≡ 0 → ⊥) → 1 ≤ left
-some_left h = omega arith
-
-pub less-left : {left : ℕ} → (left ≡ 0 → ⊥) → left - 1 < left
-less-left h = omega arith
-
 -- ---- arrays
 
 abbrev array_total : Ty → List ℕ → ℕ → ℕ → Option (ℕ × List ℕ)
 array_total ty l n from = total_of (replicate n (element_kid ty)) (run_get (replicate n (element_script ty)) (drop from l))
 
--- sum has the bytes of all children that were measured, behind the array's own
-pub record ArrayGoing (t : List ℕ) (c d : ℕ) (l : List ℕ) (from n w left pos sum : ℕ) : Type 0 where
+-- before element i: sum has the bytes of all that were measured, behind the array's own
+pub record ArrayGoing (t : List ℕ) (c d : ℕ) (l : List ℕ) (from n w i pos sum : ℕ) : Type 0 where
   pub can : ArrayCan t c d l from n
   pub entry : EntryAt t c d w
   pub held : ℕ
   pub sums : sum ≡ 8 + bitmap n + pad (n * element_width (place_in w)) + held
-  pub going : Going (array_total (type_of t c d) l n from) (replicate left (element_kid (type_of t c d))) (replicate left (element_script (type_of t c d)))
-      l n left from pos held
+  pub going : Going (array_total (type_of t c d) l n from) (replicate (n - i) (element_kid (type_of t c d)))
+      (replicate (n - i) (element_script (type_of t c d))) l n (n - i) from pos held
 
 pub array-start : {t : List ℕ} {c d : ℕ} {l : List ℕ} {from n w : ℕ} → Bytes l → ArrayCan t c d l from n → EntryAt t c d w → {z : ℕ}
-    → z ≡ 8 + bitmap n + pad (n * element_width (place_in w)) → ArrayGoing t c d l from n w n from z
-array-start {t} {c} {d} {l} {from} {n} hb p e ez = record {
-  can = p;
-  entry = e;
-  held = 0;
-  sums = omega arith;
-  going = going_start (replicate n (element_kid (type_of t c d))) (replicate n (element_script (type_of t c d))) l n from hb p.goes;
-}
+    → z ≡ 8 + bitmap n + pad (n * element_width (place_in w)) → ArrayGoing t c d l from n w 0 from z
+array-start {t} {c} {d} {l} {from} {n} hb p e ez =
+    let all : n - 0 ≡ n = omega arith in
+    record {
+      can = p;
+      entry = e;
+      held = 0;
+      sums = omega arith;
+      going = rw all (going_start (replicate n (element_kid (type_of t c d))) (replicate n (element_script (type_of t c d))) l n from hb p.goes);
+    }
 
-module _ {t : List ℕ} {c d : ℕ} {l : List ℕ} {from n w left pos sum : ℕ} (g : ArrayGoing t c d l from n w left pos sum) where
+module _ {t : List ℕ} {c d : ℕ} {l : List ℕ} {from n w i pos sum : ℕ} (g : ArrayGoing t c d l from n w i pos sum) where
   abbrev ty : Ty
   ty = type_of t c d
+
+  abbrev left : ℕ
+  left = n - i
 
   array-wide : element_width (place_in w) ≡ slot_of (codec ty).wide
   array-wide = element-wide ty (place_in w) (entry_place g.can.stands g.entry)
@@ -90,11 +89,13 @@ module _ {t : List ℕ} {c d : ℕ} {l : List ℕ} {from n w left pos sum : ℕ}
   array-few : n * element_width (place_in w) ≤ n * 8
   array-few = mul-le-mul_left n (rw array-wide (slot_small ty))
 
-  array-one : (left ≡ 0 → ⊥) → Going (array_total ty l n from) (element_kid ty ∷ replicate (left - 1) (element_kid ty))
+  array-one : i < n → Going (array_total ty l n from) (element_kid ty ∷ replicate (left - 1) (element_kid ty))
       (element_script ty ∷ replicate (left - 1) (element_script ty)) l n left from pos g.held
-  array-one h = rw (replicate_more left (element_kid ty) h, replicate_more left (element_script ty) h) at g.going
+  array-one h =
+      let some_left : left ≡ 0 → ⊥ = λ e. omega arith in
+      rw (replicate_more left (element_kid ty) some_left, replicate_more left (element_script ty) some_left) at g.going
 
-  module _ (h : left ≡ 0 → ⊥) {r : ℕ} (x : ChildTold (type_of t c d) l pos r) where
+  module _ (h : i < n) {r : ℕ} (x : ChildTold (type_of t c d) l pos r) where
     pub array-bad : r ≡ 0 → ArrayTold (type_of t c d) l from n 0
     array-bad z =
         let bad = going-bad (array-one h) ((x.each (slot_of (codec ty).wide)).refused z) in
@@ -105,17 +106,22 @@ module _ {t : List ℕ} {c d : ℕ} {l : List ℕ} {from n w left pos sum : ℕ}
           l n (left - 1) from next (g.held + m)
       array-on = rw (en, em) (going_next (array-one h) (omega arith) ((x.each (slot_of (codec ty).wide)).good ne))
 
-      pub array-next : ArrayGoing t c d l from n w (left - 1) next (sum + m)
-      array-next = record { can = g.can; entry = g.entry; held = g.held + m; sums = omega (arith, g.sums); going = array-on }
+      pub array-next : ArrayGoing t c d l from n w (i + 1) next (sum + m)
+      array-next =
+          let e : n - (i + 1) ≡ left - 1 = omega arith in
+          record { can = g.can; entry = g.entry; held = g.held + m; sums = omega (arith, g.sums); going = rw e array-on }
 
       pub array-add : Fits w64 (sum + m)
       array-add = omega (arith, array-on.small, array-on.goes, g.can.few, g.sums, array-few)
 
-  module _ (h : left ≡ 0) where
+  module _ (h : n ≤ i) where
+    none-left : left ≡ 0
+    none-left = omega arith
+
     array-gives : Gives (run_get (replicate n (element_script ty)) (drop from l)) (λ cs. size (li ty) (node cs)) l (16 * from) 24 pos sum
     array-gives =
         let e : Going (array_total ty l n from) [] [] l n left from pos g.held =
-        rw (replicate-none left (element_kid ty) h, replicate-none left (element_script ty) h) at g.going in
+        rw (replicate-none left (element_kid ty) none-left, replicate-none left (element_script ty) none-left) at g.going in
         let x = total-some (replicate n (element_kid ty)) (run_get (replicate n (element_script ty)) (drop from l)) (going_end e) in
         let f = array_fit ty l from n x.cells (drop pos l) g.going.bytes (omega (arith, g.can.few)) x.reads in
         let q : pad (n * element_width (place_in w)) ≡ pad (n * slot_of (codec ty).wide) = ap (λ (j : ℕ). pad (n * j)) array-wide in
@@ -139,42 +145,48 @@ module _ {t : List ℕ} {c d : ℕ} {l : List ℕ} {from n w left pos sum : ℕ}
 abbrev fields_total : Tys → List ℕ → ℕ → Option (ℕ × List ℕ)
 fields_total ts l from = total_of (kids ts) (run_get (scripts ts) (drop from l))
 
--- sum has the bytes of all fields that were measured, behind the struct's own
-pub record FieldsGoing (t : List ℕ) (first n d : ℕ) (l : List ℕ) (from c left pos sum : ℕ) : Type 0 where
+-- before field i, whose type stands at c: sum has the bytes of all that were measured, behind the struct's own
+pub record FieldsGoing (t : List ℕ) (first n d : ℕ) (l : List ℕ) (from c i pos sum : ℕ) : Type 0 where
   pub can : FieldsCan t first n d l from
-  pub typed : TypedAll (schema_of t) (pos_of t c) d left
+  pub typed : TypedAll (schema_of t) (pos_of t c) d (n - i)
   pub held : ℕ
   pub sums : sum ≡ bitmap n + 8 * n + held
-  pub going : Going (fields_total (types_of t first d n) l from) (kids (types_of t c d left)) (scripts (types_of t c d left)) l n left from pos held
+  pub going : Going (fields_total (types_of t first d n) l from) (kids (types_of t c d (n - i))) (scripts (types_of t c d (n - i)))
+      l n (n - i) from pos held
 
 pub fields-start : {t : List ℕ} {first n d : ℕ} {l : List ℕ} {from : ℕ} → Bytes l → FieldsCan t first n d l from
-    → {z : ℕ} → z ≡ bitmap n + 8 * n → FieldsGoing t first n d l from first n from z
-fields-start {t} {first} {n} {d} {l} {from} hb p ez = record {
-  can = p;
-  typed = p.typed;
-  held = 0;
-  sums = omega arith;
-  going = going_start (kids (types_of t first d n)) (scripts (types_of t first d n)) l n from hb p.goes;
-}
+    → {z : ℕ} → z ≡ bitmap n + 8 * n → FieldsGoing t first n d l from first 0 from z
+fields-start {t} {first} {n} {d} {l} {from} hb p ez =
+    let all : n - 0 ≡ n = omega arith in
+    record {
+      can = p;
+      typed = rw all p.typed;
+      held = 0;
+      sums = omega arith;
+      going = rw all (going_start (kids (types_of t first d n)) (scripts (types_of t first d n)) l n from hb p.goes);
+    }
 
-module _ {t : List ℕ} {first n d : ℕ} {l : List ℕ} {from c left pos sum : ℕ} (g : FieldsGoing t first n d l from c left pos sum) where
-  module _ (h : left ≡ 0 → ⊥) where
+module _ {t : List ℕ} {first n d : ℕ} {l : List ℕ} {from c i pos sum : ℕ} (g : FieldsGoing t first n d l from c i pos sum) where
+  abbrev to-come : ℕ
+  to-come = n - i
+
+  module _ (h : i < n) where
     abbrev on : ℕ
     on = next_at (schema_of t) (pos_of t c) d
 
     abbrev rest : Tys
-    rest = types_at (schema_of t) on d (left - 1)
+    rest = types_at (schema_of t) on d (to-come - 1)
 
     pub field-stands : InTable t c d
-    field-stands = record { table = g.can.table; typed = (typed-more (schema_of t) (pos_of t c) d left g.typed (omega arith)).first }
+    field-stands = record { table = g.can.table; typed = (typed-more (schema_of t) (pos_of t c) d to-come g.typed (omega arith)).first }
 
     field-one : Going (fields_total (types_of t first d n) l from) (kid 8 (codec (type_of t c d)) ∷ kids rest)
-        (item 8 (mark (type_of t c d)) (script (type_of t c d)) ∷ scripts rest) l n left from pos g.held
+        (item 8 (mark (type_of t c d)) (script (type_of t c d)) ∷ scripts rest) l n to-come from pos g.held
     field-one =
         let u = type_of t c d in
-        let m = typed-more (schema_of t) (pos_of t c) d left g.typed (omega arith) in
-        let k : kids (types_of t c d left) ≡ kid 8 (codec u) ∷ kids rest = ap kids m.whole ∙ kids-then u rest in
-        let q : scripts (types_of t c d left) ≡ item 8 (mark u) (script u) ∷ scripts rest = ap scripts m.whole ∙ scripts-then u rest in
+        let m = typed-more (schema_of t) (pos_of t c) d to-come g.typed (omega arith) in
+        let k : kids (types_of t c d to-come) ≡ kid 8 (codec u) ∷ kids rest = ap kids m.whole ∙ kids-then u rest in
+        let q : scripts (types_of t c d to-come) ≡ item 8 (mark u) (script u) ∷ scripts rest = ap scripts m.whole ∙ scripts-then u rest in
         rw (k, q) at g.going
 
     module _ {r : ℕ} (x : ChildTold (type_of t c d) l pos r) where
@@ -182,31 +194,32 @@ module _ {t : List ℕ} {first n d : ℕ} {l : List ℕ} {from c left pos sum : 
       fields-bad z = record { told = told_none (total-none (kids (types_of t first d n)) _ (going-bad field-one ((x.each 8).refused z))) }
 
       module _ (ne : r ≡ 0 → ⊥) {next m : ℕ} (en : next ≡ low_in r) (em : m ≡ high_in r) where
-        fields-on : Going (fields_total (types_of t first d n) l from) (kids rest) (scripts rest) l n (left - 1) from next (g.held + m)
+        fields-on : Going (fields_total (types_of t first d n) l from) (kids rest) (scripts rest) l n (to-come - 1) from next (g.held + m)
         fields-on = rw (en, em) (going_next field-one (omega arith) ((x.each 8).good ne))
 
         pub fields-add : Fits w64 (sum + m)
         fields-add = omega (arith, fields-on.small, fields-on.goes, g.can.high, g.sums)
 
-        pub fields-next : {w : ℕ} → EntryAt t c d w → {c' : ℕ} → c' ≡ after_in w → FieldsGoing t first n d l from c' (left - 1) next (sum + m)
+        pub fields-next : {w : ℕ} → EntryAt t c d w → {c' : ℕ} → c' ≡ after_in w → FieldsGoing t first n d l from c' (i + 1) next (sum + m)
         fields-next e {c'} ec =
             let q : pos_of t c' ≡ on = ap (pos_of t) ec ∙ e.next in
+            let y : n - (i + 1) ≡ to-come - 1 = omega arith in
             record {
               can = g.can;
-              typed = rw q (typed-more (schema_of t) (pos_of t c) d left g.typed (omega arith)).others;
+              typed = rw (q, y) (typed-more (schema_of t) (pos_of t c) d to-come g.typed (omega arith)).others;
               held = g.held + m;
               sums = omega (arith, g.sums);
-              going = rw q fields-on;
+              going = rw (q, y) fields-on;
             }
 
-  module _ (h : left ≡ 0) where
+  module _ (h : n ≤ i) where
     fields-gives : Gives (run_get (scripts (types_of t first d n)) (drop from l)) (λ cs. size (ro (types_of t first d n)) (node cs)) l (16 * from) 0 pos sum
     fields-gives =
         let ts = types_of t first d n in
-        let done = typed-done (schema_of t) (pos_of t c) d left g.typed h in
-        let k : kids (types_of t c d left) ≡ [] = ap kids done ∙ kids-end in
-        let q : scripts (types_of t c d left) ≡ [] = ap scripts done ∙ scripts-end in
-        let e : Going (fields_total ts l from) [] [] l n left from pos g.held = rw (k, q) at g.going in
+        let done = typed-done (schema_of t) (pos_of t c) d to-come g.typed (omega arith) in
+        let k : kids (types_of t c d to-come) ≡ [] = ap kids done ∙ kids-end in
+        let q : scripts (types_of t c d to-come) ≡ [] = ap scripts done ∙ scripts-end in
+        let e : Going (fields_total ts l from) [] [] l n to-come from pos g.held = rw (k, q) at g.going in
         let x = total-some (kids ts) (run_get (scripts ts) (drop from l)) (going_end e) in
         let f = fields_fit ts l from x.cells (drop pos l) g.going.bytes x.reads in
         let m : count ts ≡ n = typed-count (schema_of t) (pos_of t first) d n g.can.typed in

@@ -34,6 +34,3 @@ module _ (n k : ℕ) (few : n < 4294967296) {e : ℕ} (ee : e ≡ element_width 
   module _ {b p : ℕ} (eb : b ≡ bitmap n) (ep : p ≡ pad (n * e)) where
     pub front_fits : Fits w64 (8 + b + p)
     front_fits = omega (arith, wide)
-
-    pub front-is : 8 + b + p ≡ 8 + bitmap n + pad (n * element_width k)
-    front-is = rw (eb, ep, ee)

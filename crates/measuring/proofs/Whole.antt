@@ -10,9 +10,8 @@ use Rattle.words.specs.Bytes.{Bytes, num, part, pad}
 use Rattle.words.specs.Reads.{Reads}
 use Rattle.words.specs.Pairs.{low_in, high_in}
 use Rattle.schema.specs.Marks.{types, mark_at}
-use Rattle.schema.specs.Types.{Ty, ro, Tys, count, place, mark}
+use Rattle.schema.specs.Types.{Ty, ro, Tys, place, mark}
 use Rattle.schema.specs.Walk.{fields_of}
-use Rattle.schema.proofs.Judging.{accepted-root}
 use Rattle.layout.specs.Reader.{◌>>=◌, assert, cut}
 use Rattle.layout.specs.Cells.{Cell, node}
 use Rattle.layout.specs.Layout.{kid, kid_tail, codec, content, kids}
@@ -25,7 +24,7 @@ use Rattle.layout.proofs.Listed.{not-nu}
 use Rattle.table.specs.Tables.{Table, schema_of, type_of}
 use Rattle.table.proofs.Places.{root_stands, root-whole, root-place}
 use Rattle.measuring.specs.Measure.{size, Gives, ChildTold, ChildCan}
-use Rattle.measuring.specs.Row.{RowTold}
+use Rattle.measuring.specs.Row.{RowGives}
 use Rattle.measuring.proofs.Records.{assert-no, cut_short, cut_at, item-body}
 use Rattle.measuring.proofs.Bodies.{tail-varies, ro-none, tail-here, read_here}
 use Rattle.measuring.proofs.Totals.{fields_fit, fields-size}
@@ -114,16 +113,12 @@ struct_cells ts b c r e = go (run_get (scripts ts) b) refl e
           is = sym (ap (λ (x : Cell × List ℕ). x.0) p);
         }
 
--- a struct is whole words, and not empty
-record Words (n : ℕ) : Type 0 where
-  pub even : n % 8 ≡ 0
-  pub some : 1 ≤ n
-
-struct-words : (ts : Tys) (l : List ℕ) (from : ℕ) (cs : List Cell) (r : List ℕ) → Bytes l → 1 ≤ count ts
-    → run_get (scripts ts) (drop from l) ≡ some (cs, r) → Words (size (ro ts) (node cs))
-struct-words ts l from cs r hb low e =
+-- a struct is whole words
+struct-words : (ts : Tys) (l : List ℕ) (from : ℕ) (cs : List Cell) (r : List ℕ) → Bytes l
+    → run_get (scripts ts) (drop from l) ≡ some (cs, r) → size (ro ts) (node cs) % 8 ≡ 0
+struct-words ts l from cs r hb e =
     let z = fields-size ts cs (fields_fit ts l from cs r hb e) in
-    record { even = omega (arith, tails-eight 8 (kids ts) cs (kids-lawful ts)); some = omega arith }
+    omega (arith, tails-eight 8 (kids ts) cs (kids-lawful ts))
 
 size_is : (t : Ty) (c : Cell) → size t c ≡ length (content t c)
 unfolding size
@@ -136,15 +131,12 @@ zero-next r e = rw e
 -- ---- in the words of the code
 
 module _ {t : List ℕ} (h : Table t) where
-  pub row-long : {l : List ℕ} → 65536 < length l → RowTold (schema_of t) l 0
-  row-long {l} g = record { refused = λ _. image-long (schema_of t) l g; good = λ ne. absurd (ne refl) }
+  pub row-long : (l : List ℕ) → 65536 < length l → image_of (schema_of t) l ≡ none
+  row-long = image-long (schema_of t)
 
-  module _ {l : List ℕ} (hl : length l ≤ 65536) where
-    row-none : image_of (schema_of t) l ≡ none → RowTold (schema_of t) l 0
-    row-none e = record { refused = λ _. e; good = λ ne. absurd (ne refl) }
-
-    pub row-short : length l < 2 → RowTold (schema_of t) l 0
-    row-short g = row-none (image-short (schema_of t) l hl g)
+  module _ (l : List ℕ) (hl : length l ≤ 65536) where
+    pub row-short : length l < 2 → image_of (schema_of t) l ≡ none
+    row-short = image-short (schema_of t) l hl
 
     pub row-can : ChildCan t 0 8 l 0
     row-can = record {
@@ -154,8 +146,8 @@ module _ {t : List ℕ} (h : Table t) where
     }
 
     module _ (h2 : 2 ≤ length l) {m : ℕ} (em : Reads l 0 2 m) where
-      pub row_other : (m ≡ 28530 → ⊥) → RowTold (schema_of t) l 0
-      row_other f = row-none (image-other (schema_of t) l hl h2 (λ e. f (em.is ∙ e)))
+      pub row_other : (m ≡ 28530 → ⊥) → image_of (schema_of t) l ≡ none
+      row_other f = image-other (schema_of t) l hl h2 (λ e. f (em.is ∙ e))
 
       -- the fields were measured as r, and the listing goes on at next
       module _ (e : m ≡ 28530) (hb : Bytes l) {r : ℕ} (x : ChildTold (type_of t 0 8) l 0 r) {next : ℕ} (en : next ≡ low_in r) where
@@ -173,8 +165,8 @@ module _ {t : List ℕ} (h : Table t) where
             let own : num (part l 0 2) ≡ num (mark (ro fs)) = first-mark ∙ sym (ro-mark fs) in
             item-body 8 (mark (ro fs)) (script (ro fs)) l 0 (omega arith) (λ q. not-nu (ro fs) (sym own ∙ q)) own
 
-        pub row-left : (next ≡ length l → ⊥) → RowTold (schema_of t) l 0
-        row-left f = row-none (go (ℕ_discrete r 0))
+        pub row-left : (next ≡ length l → ⊥) → image_of (schema_of t) l ≡ none
+        row-left f = go (ℕ_discrete r 0)
           where
             go : Dec (r ≡ 0) → image_of (schema_of t) l ≡ none
             go (yes z) = image-bad (schema_of t) l hl h2 first-mark (sym body ∙ (there.each 8).refused z)
@@ -193,8 +185,8 @@ module _ {t : List ℕ} (h : Table t) where
           parts : Cells fs (drop 2 l) given.thing (drop (low_in r) l)
           parts = struct_cells fs (drop 2 l) given.thing (drop (low_in r) l) (sym body ∙ given.reads)
 
-          filled : Words (size (ro fs) (node parts.cells))
-          filled = struct-words fs l 2 parts.cells (drop (low_in r) l) hb (accepted-root (schema_of t) h.accepted).low parts.reads
+          even : size (ro fs) (node parts.cells) % 8 ≡ 0
+          even = struct-words fs l 2 parts.cells (drop (low_in r) l) hb parts.reads
 
           row-size : high_in r ≡ size (ro fs) (node parts.cells)
           row-size =
@@ -202,19 +194,16 @@ module _ {t : List ℕ} (h : Table t) where
               let p : high_in r ≡ pad (size (ro fs) (node parts.cells)) =
               given.is ∙ sym (tail-here 8 (ro fs) given.thing here) ∙ tail-varies (ro fs) (ro-none fs) given.thing
               ∙ ap (λ (c : Cell). pad (size (ro fs) c)) parts.is in
-              omega (arith, filled.even)
+              omega (arith, even)
 
-          pub row-good : {n : ℕ} → n ≡ high_in r → RowTold (schema_of t) l n
+          pub row-good : {n : ℕ} → n ≡ high_in r → RowGives (schema_of t) l n
           row-good q = record {
-            refused = λ z. absurd (omega (arith, row-size, filled.some));
-            good = λ _. record {
-              cells = parts.cells;
-              rest = drop (low_in r) l;
-              reads = parts.reads;
-              image =
-                  image-good (schema_of t) l hl h2 first-mark given.thing (low_in r) (sym body ∙ given.reads) (sym en ∙ f)
-                  ∙ ap (λ (c : Cell). some (content (ro fs) c)) parts.is;
-              is = q ∙ row-size ∙ size_is (ro fs) (node parts.cells);
-              short = hl;
-            };
+            cells = parts.cells;
+            rest = drop (low_in r) l;
+            reads = parts.reads;
+            image =
+                image-good (schema_of t) l hl h2 first-mark given.thing (low_in r) (sym body ∙ given.reads) (sym en ∙ f)
+                ∙ ap (λ (c : Cell). some (content (ro fs) c)) parts.is;
+            is = q ∙ row-size ∙ size_is (ro fs) (node parts.cells);
+            short = hl;
           }

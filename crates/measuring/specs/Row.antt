@@ -1,5 +1,5 @@
 -- What measuring a whole listing against an accepted schema answers. Assumes nothing: these are definitions.
-use Rattle.std.specs.Prelude.{◌≡◌, List, ℕ, ◌≤◌, length, drop}
+use Rattle.std.specs.Prelude.{◌≡◌, List, ℕ, ◌≤◌, length, drop, Option, MatchOption}
 use Rattle.std.proofs.Math.Option.{none, some}
 use Rattle.schema.specs.Types.{ro}
 use Rattle.schema.specs.Walk.{fields_of}
@@ -17,7 +17,6 @@ pub record RowGives (s l : List ℕ) (n : ℕ) : Type 0 where
   pub is : n ≡ length (content (ro (fields_of s)) (node cells))
   pub short : length l ≤ 65536
 
--- how many bytes its row has, 0 where the listing is refused
-pub record RowTold (s l : List ℕ) (r : ℕ) : Type 0 where
-  pub refused : r ≡ 0 → image_of s l ≡ none
-  pub good : (r ≡ 0 → ⊥) → RowGives s l r
+-- how many bytes its row has, none where the listing is refused
+abbrev pub RowTold : List ℕ → List ℕ → Option ℕ → Type 0
+RowTold s l r = MatchOption r (image_of s l ≡ none) (λ n. RowGives s l n)

@@ -42,10 +42,7 @@ fn unmarked(m: usize, from: usize) -> u64
     requires { from ≤ 65536 }
     ensures { NullTold m from result }
 {
-    if m == NULL {
-        return from as u64 + 2;
-    }
-    0
+    if m == NULL { from as u64 + 2 } else { 0 }
 }
 
 // Where too little of the listing is left for the contents of a leaf, only a null can stand.
@@ -56,7 +53,7 @@ fn only_null(l: &[u8], from: usize) -> u64
     if l.len() - from < 2 {
         return 0;
     }
-    unmarked(words::nums::get2(l, from), from)
+    unmarked(words::nums::get::<2>(l, from) as usize, from)
 }
 
 // A number of fixed width with its mark, by its entry: it goes into its slot, and takes no bytes elsewhere.
@@ -68,14 +65,11 @@ fn measure_fixed(w: u64, l: &[u8], from: usize) -> u64
     if l.len() - from < v {
         return only_null(l, from);
     }
-    let m = words::nums::get2(l, from);
+    let m = words::nums::get::<2>(l, from) as usize;
     if m != table::mark(w) {
         return unmarked(m, from);
     }
-    if table::place(w) != table::BOOL {
-        return pairs::pair(from + v, 0);
-    }
-    if 1 < l[from + 2] {
+    if table::place(w) == table::BOOL && 1 < l[from + 2] {
         return 0;
     }
     pairs::pair(from + v, 0)
@@ -89,11 +83,11 @@ fn measure_text(w: u64, l: &[u8], from: usize) -> u64
     if l.len() - from < 6 {
         return only_null(l, from);
     }
-    let m = words::nums::get2(l, from);
+    let m = words::nums::get::<2>(l, from) as usize;
     if m != table::mark(w) {
         return unmarked(m, from);
     }
-    let n = words::nums::get4(l, from + 2);
+    let n = words::nums::get::<4>(l, from + 2) as usize;
     if l.len() - from - 6 < n {
         return 0;
     }
@@ -114,14 +108,15 @@ fn measure_child(t: &[u64], c: usize, depth: usize, l: &[u8], from: usize) -> u6
         return 0;
     }
     let w = table::entry_at(t, c, depth);
-    let m = words::nums::get2(l, from);
+    let m = words::nums::get::<2>(l, from) as usize;
     if m != table::mark(w) {
         return unmarked(m, from);
     }
     if table::place(w) == table::STRUCT {
-        return measure_fields(t, c + 1, table::count(w), depth - 1, l, from + 2);
+        measure_fields(t, c + 1, table::count(w), depth - 1, l, from + 2)
+    } else {
+        measure_lists(t, c, depth, w, l, from + 2)
     }
-    measure_lists(t, c, depth, w, l, from + 2)
 }
 
 // The contents of a list or a map, whose entry w stands at place c.
@@ -133,7 +128,7 @@ fn measure_lists(t: &[u64], c: usize, depth: usize, w: u64, l: &[u8], from: usiz
     if l.len() - from < 4 {
         return 0;
     }
-    let n = words::nums::get4(l, from);
+    let n = words::nums::get::<4>(l, from) as usize;
     let d = depth - 1;
     let keys = measure_array(t, c + 1, d, l, from + 4, n);
     if table::place(w) == table::LIST {
@@ -166,10 +161,9 @@ fn measure_array(t: &[u64], c: usize, depth: usize, l: &[u8], from: usize, n: us
     ensures { ArrayTold (type_at (schema_of t.now) (pos_of t.now c) depth) l.now from n result }
 {
     let w = table::entry_at(t, c, depth);
-    let mut left = n;
     let mut pos = from;
     let mut sum = array_size(w, n);
-    while left != 0 {
+    for _ in 0..n {
         let r = if table::place(w) < table::STRING {
             measure_fixed(w, l, pos)
         } else if table::place(w) < table::LIST {
@@ -182,7 +176,6 @@ fn measure_array(t: &[u64], c: usize, depth: usize, l: &[u8], from: usize, n: us
         }
         pos = pairs::low(r);
         sum += pairs::high(r);
-        left -= 1;
     }
     pairs::pair(pos, sum)
 }
@@ -194,10 +187,9 @@ fn measure_fields(t: &[u64], first: usize, n: usize, depth: usize, l: &[u8], fro
     ensures { FieldsTold (types_at (schema_of t.now) (pos_of t.now first) depth n) l.now from result }
 {
     let mut c = first;
-    let mut left = n;
     let mut pos = from;
     let mut sum = struct_size(n);
-    while left != 0 {
+    for _ in 0..n {
         let w = table::entry_at(t, c, depth);
         let r = if table::place(w) < table::STRING {
             measure_fixed(w, l, pos)
@@ -212,28 +204,27 @@ fn measure_fields(t: &[u64], first: usize, n: usize, depth: usize, l: &[u8], fro
         pos = pairs::low(r);
         sum += pairs::high(r);
         c = table::after(w);
-        left -= 1;
     }
     pairs::pair(pos, sum)
 }
 
-// The bytes of the row of a whole listing, 0 where it is refused: the root is not null, and nothing is left over.
-pub fn measure_row(t: &[u64], l: &[u8]) -> usize
+// The bytes of the row of a whole listing, none where it is refused: the root is not null, and nothing is left over.
+pub fn measure_row(t: &[u64], l: &[u8]) -> Option<usize>
     requires { Table t.now }
     ensures { RowTold (schema_of t.now) l.now result }
 {
     if 65536 < l.len() {
-        return 0;
+        return None;
     }
     if l.len() < 2 {
-        return 0;
+        return None;
     }
-    if words::nums::get2(l, 0) != STRUCT_MARK {
-        return 0;
+    if words::nums::get::<2>(l, 0) as usize != STRUCT_MARK {
+        return None;
     }
     let m = measure_child(t, 0, 8, l, 0);
     if pairs::low(m) != l.len() {
-        return 0;
+        return None;
     }
-    pairs::high(m)
+    Some(pairs::high(m))
 }

@@ -8,18 +8,21 @@ use native.Mathlib.Omega.{arith}
 use native.Mathlib.Numerals.{add-one}
 use lib.Bits.{bit_and}
 use lib.Dec.{eqb, ltb}
-use lib.ListN.{length, take, drop, get_or, length-append, length-take}
+use lib.ListN.{length, take, drop, get_or, replicate, length-append, length-take, length-drop}
+use lib.Seq.{take-suc, take_all}
+use borrow.Rule.Slice.PartMut.{put_mid}
 use borrow.Author.Tests.{lt-ltb, le-ltb, eq-eqb, ne_eqb, ltb-true, ltb-false}
 use Rattle.io.specs.Digits.{hex_digit_ascii}
 use Rattle.words.specs.Bytes.{part}
-use Rattle.words.proofs.Parts.{length_part, part-snoc}
+use Rattle.words.proofs.Parts.{length_part}
 use Rattle.words.proofs.Powers.{mask_is}
 use Rattle.chart.specs.Claims.{what_at, held, steps_at}
 use Rattle.chart.proofs.Claiming.{held-few}
 use Rattle.lettering.specs.Text.{hex, path, Puts}
-use Rattle.lettering.proofs.Putting.{puts_none, puts_then, puts-as, less_one, last-digit}
+use Rattle.lettering.proofs.Putting.{puts_none, puts_then, puts-as, puts_mid, run-is, less_one, last-digit}
 use Rattle.lettering.proofs.Lengths.{hex-length, path-most}
 use Rattle.picture.specs.Picture.{spaces, right, spaced, on_line, word, padding, link, linked, label, labelled, line_of, mark, under, behind, fault_of}
+use Rattle.std.specs.Prelude.{Option as Fault, None, Some}
 
 -- ---- spaces
 
@@ -28,20 +31,18 @@ unfolding spaces
 spaces-length zero = refl
 spaces-length (suc n) = ap suc (spaces-length n)
 
-spaces-last : (n : ℕ) → spaces n ++ (32 ∷ []) ≡ spaces (suc n)
+spaces-are : (n : ℕ) → replicate n 32 ≡ spaces n
 unfolding spaces
-spaces-last zero = refl
-spaces-last (suc n) = ap (λ (l : List ℕ). 32 ∷ l) (spaces-last n)
+spaces-are zero = refl
+spaces-are (suc n) = ap (λ (l : List ℕ). 32 ∷ l) (spaces-are n)
 
-pub spaces-none : (out : List ℕ) (at : ℕ) → Puts out at (spaces 0) at out
-unfolding spaces
-spaces-none out at = puts_none out at
-
-pub spaces-more : {a b c : List ℕ} {at m r : ℕ} (i : ℕ) → Puts a at (spaces i) m b → Puts b m (32 ∷ []) r c → Puts a at (spaces (i + 1)) r c
-spaces-more i p q = puts-as (spaces-last i ∙ ap spaces (sym (add-one i))) (puts_then p q)
-
-pub spaces-all : {a b : List ℕ} {at r : ℕ} (i n : ℕ) → i ≤ n → n ≤ i → Puts a at (spaces i) r b → Puts a at (spaces n) r b
-spaces-all i n l g p = let e : i ≡ n = omega arith in puts-as (ap spaces e) p
+-- a run of bytes filled with spaces
+pub spaces-puts : {u : List ℕ} (out : List ℕ) (at n : ℕ) → u ≡ replicate (length (take (at + n - at) (drop at out))) 32 → at + n ≤ length out
+    → Puts out at (spaces n) (at + n) (put_mid at (at + n - at) out u)
+spaces-puts {u} out at n e h =
+    let k : length (take (at + n - at) (drop at out)) ≡ n = rw (length-take, length-drop) (omega arith) in
+    let s : u ≡ spaces n = rw (e, k) (spaces-are n) in
+    puts-as s (puts_mid at n (ap length s ∙ spaces-length n) h)
 
 -- ---- a number in its columns
 
@@ -93,23 +94,26 @@ unfolding spaced
 spaced-length [] = refl
 spaced-length (b ∷ bs) = length-append (32 ∷ hex 2 b) (spaced bs) ∙ rw (hex-length 2 b, spaced-length bs) (omega arith)
 
-pub spaced-none : (out row : List ℕ) (at start : ℕ) → Puts out at (spaced (part row start 0)) at out
+pub spaced-none : (out bytes : List ℕ) (at : ℕ) → Puts out at (spaced (take 0 bytes)) at out
 unfolding spaced
-spaced-none out row at start = puts_none out at
+spaced-none out bytes at = puts_none out at
 
-pub spaced-more : {a b c d : List ℕ} {at m k r : ℕ} (row : List ℕ) (start i x : ℕ) → start + i < length row → x ≡ get_or row (start + i) 0
-    → Puts a at (spaced (part row start i)) m b → Puts b m (32 ∷ []) k c → Puts c k (hex 2 x) r d → Puts a at (spaced (part row start (i + 1))) r d
-spaced-more row start i x h e p s q =
-    puts-as (ap (λ (y : ℕ). spaced (part row start i) ++ (32 ∷ hex 2 y)) e
-    ∙ ap (λ (l : List ℕ). spaced (part row start i) ++ l) (sym (spaced-one (get_or row (start + i) 0)))
-    ∙ sym (spaced-append (part row start i) (get_or row (start + i) 0 ∷ []))
-    ∙ ap spaced (sym (part-snoc row start i h))
-    ∙ ap (λ (n : ℕ). spaced (part row start n)) (sym (add-one i)))
+pub spaced-more : {a b c d : List ℕ} {at m k r : ℕ} (bytes : List ℕ) (i x : ℕ) → i < length bytes → x ≡ get_or bytes i 0
+    → Puts a at (spaced (take i bytes)) m b → Puts b m (32 ∷ []) k c → Puts c k (hex 2 x) r d → Puts a at (spaced (take (i + 1) bytes)) r d
+spaced-more bytes i x h e p s q =
+    puts-as (ap (λ (y : ℕ). spaced (take i bytes) ++ (32 ∷ hex 2 y)) e
+    ∙ ap (λ (l : List ℕ). spaced (take i bytes) ++ l) (sym (spaced-one (get_or bytes i 0)))
+    ∙ sym (spaced-append (take i bytes) (get_or bytes i 0 ∷ []))
+    ∙ ap spaced (sym (take-suc bytes i 0 h))
+    ∙ ap (λ (n : ℕ). spaced (take n bytes)) (sym (add-one i)))
     (puts_then p (puts_then s q))
 
-pub spaced-all : {a b : List ℕ} {at r : ℕ} (row : List ℕ) (start i n : ℕ) → i ≤ n → n ≤ i
-    → Puts a at (spaced (part row start i)) r b → Puts a at (spaced (part row start n)) r b
-spaced-all row start i n l g p = let e : i ≡ n = omega arith in puts-as (ap (λ (k : ℕ). spaced (part row start k)) e) p
+pub spaced-all : {a b : List ℕ} {at r : ℕ} (bytes : List ℕ) (i : ℕ) → length bytes ≤ i → Puts a at (spaced (take i bytes)) r b → Puts a at (spaced bytes) r b
+spaced-all bytes i h p = puts-as (ap spaced (take_all i bytes h)) p
+
+pub spaced-run : {a b : List ℕ} {at r : ℕ} (row : List ℕ) (i n : ℕ) → Puts a at (spaced (take (i + n - i) (drop i row))) r b
+    → Puts a at (spaced (part row i n)) r b
+spaced-run row i n p = puts-as (ap spaced (run-is row i n)) p
 
 pub on-line-fits : (n u : ℕ) → 8 * u < n → (on_line n u ≤ 8) × (8 * u + on_line n u ≤ n)
 on-line-fits n u h = go (ltb (n - 8 * u) 8) refl
@@ -131,19 +135,6 @@ word_none out at w e = rw e (puts_none out at)
 
 pub word-is : {a b : List ℕ} {at r : ℕ} (k w : ℕ) → w ≡ k → Puts a at (word k) r b → Puts a at (word w) r b
 word-is k w e p = puts-as (ap word (sym e)) p
-
-past : (w k : ℕ) → k ≤ w → (w ≡ k → ⊥) → k + 1 ≤ w
-past w k l h = omega (arith, h)
-
--- the seventh is what is left
-pub word-left : (w : ℕ) → w < 8 → (w ≡ 0 → ⊥) → (w ≡ 1 → ⊥) → (w ≡ 2 → ⊥) → (w ≡ 3 → ⊥) → (w ≡ 4 → ⊥) → (w ≡ 5 → ⊥) → (w ≡ 6 → ⊥) → w ≡ 7
-word-left w l a b c d e f g =
-    let three = past w 2 (past w 1 (past w 0 (omega arith) a) b) c in
-    let seven : 7 ≤ w = past w 6 (past w 5 (past w 4 (past w 3 three d) e) f) g in
-    small w l seven
-  where
-    small : (n : ℕ) → n < 8 → 7 ≤ n → n ≡ 7
-    small n l h = omega arith
 
 pub word-most : (w : ℕ) → w < 8 → length (word w) ≤ 12
 unfolding word
@@ -252,31 +243,32 @@ mark-most : (place : ℕ) → length (mark place) ≤ 31
 unfolding mark
 mark-most place = omega (arith, length-append (spaces (7 + 3 * (place % 8))) (94 ∷ 94 ∷ 10 ∷ []), spaces-length (7 + 3 * (place % 8)))
 
-module _ (sound : Bool) (place u : ℕ) where
+module _ (f : Fault ℕ) (u : ℕ) where
   module _ (out : List ℕ) (at : ℕ) where
-    pub under-sound : sound ≡ true → Puts out at (under (fault_of sound place) u) at out
+    pub under-none : f ≡ None → Puts out at (under (fault_of f) u) at out
     unfolding under
-    under-sound e = rw e (puts_none out at)
+    under-none e = rw e (puts_none out at)
 
-    pub under-other : sound ≡ false → (place / 8 ≡ u → ⊥) → Puts out at (under (fault_of sound place) u) at out
+    pub behind-none : f ≡ None → Puts out at (behind (fault_of f) u) at out
+    unfolding behind
+    behind-none e = rw e (puts_none out at)
+
+  module _ (place : ℕ) (e : f ≡ Some place) where
+    pub under-other : (out : List ℕ) (at : ℕ) → (place / 8 ≡ u → ⊥) → Puts out at (under (fault_of f) u) at out
     unfolding under
-    under-other e h = rw (e, ne_eqb (place / 8) u h) (puts_none out at)
+    under-other out at h = rw (e, ne_eqb (place / 8) u h) (puts_none out at)
 
-    pub behind-sound : sound ≡ true → Puts out at (behind (fault_of sound place) u) at out
+    pub behind-inside : (out : List ℕ) (at : ℕ) → place / 8 < u → Puts out at (behind (fault_of f) u) at out
     unfolding behind
-    behind-sound e = rw e (puts_none out at)
+    behind-inside out at h = rw (e, lt-ltb (place / 8) u h) (puts_none out at)
 
-    pub behind-inside : sound ≡ false → place / 8 < u → Puts out at (behind (fault_of sound place) u) at out
+    pub under-here : {a b : List ℕ} {at r : ℕ} → place / 8 ≡ u → Puts a at (mark place) r b → Puts a at (under (fault_of f) u) r b
+    unfolding under
+    under-here h p = rw (e, eq-eqb (place / 8) u h) p
+
+    pub behind-last : {a b : List ℕ} {at r : ℕ} → u ≤ place / 8 → Puts a at (mark place) r b → Puts a at (behind (fault_of f) u) r b
     unfolding behind
-    behind-inside e h = rw (e, lt-ltb (place / 8) u h) (puts_none out at)
-
-  pub under-here : {a b : List ℕ} {at r : ℕ} → sound ≡ false → place / 8 ≡ u → Puts a at (mark place) r b → Puts a at (under (fault_of sound place) u) r b
-  unfolding under
-  under-here e h p = rw (e, eq-eqb (place / 8) u h) p
-
-  pub behind-last : {a b : List ℕ} {at r : ℕ} → sound ≡ false → u ≤ place / 8 → Puts a at (mark place) r b → Puts a at (behind (fault_of sound place) u) r b
-  unfolding behind
-  behind-last e h p = rw (e, le-ltb (place / 8) u h) p
+    behind-last h p = rw (e, le-ltb (place / 8) u h) p
 
 pub under-most : (f : Option ℕ) (u : ℕ) → length (under f u) ≤ 31
 unfolding under

@@ -1,5 +1,5 @@
 -- The picture of a row: a line for each 8 of its bytes, and a mark under its first wrong byte. Assumes nothing: these are definitions.
-use Rattle.std.specs.Prelude.{Bool, cond, List, [], ◌∷◌, ◌++◌, ℕ, zero, suc, ◌+◌, ◌-◌, ◌*◌, ◌/◌, ◌%◌, eqb, ltb, length, get_or}
+use Rattle.std.specs.Prelude.{Option as Fault, None, Some, cond, List, [], ◌∷◌, ◌++◌, ℕ, zero, suc, ◌+◌, ◌-◌, ◌*◌, ◌/◌, ◌%◌, eqb, ltb, length, get_or}
 use Rattle.std.proofs.Math.Option.{Option, none, some}
 use Rattle.io.specs.Digits.{hex_digit_ascii}
 use Rattle.words.specs.Bytes.{part, zeros}
@@ -89,9 +89,10 @@ line_count row = (length row + 7) / 8
 unfoldable pub picture : List ℕ → List ℕ → Option ℕ → List ℕ
 picture row m fault = lines_to row m fault (line_count row) ++ behind fault (line_count row)
 
--- a sound row has no fault
-abbrev pub fault_of : Bool → ℕ → Option ℕ
-fault_of sound place = cond sound none (some place)
+-- the place of a row's fault, as code says it: a sound row has none
+abbrev pub fault_of : Fault ℕ → Option ℕ
+fault_of None = none
+fault_of (Some place) = some place
 
 -- the picture with the chart of the row's places
 abbrev pub shown : List ℕ → List ℕ → Option ℕ → List ℕ

@@ -2,7 +2,7 @@
 #![tactic(auto)]
 
 ghost use Rattle.std.specs.Prelude.{◌≡◌, ◌+◌, ◌*◌, ◌≤◌, ◌<◌, length, IfOk, IsOk};
-ghost use Rattle.words.specs.Bytes.{part, zeros};
+ghost use Rattle.words.specs.Bytes.{zeros};
 ghost use Rattle.answers.specs.Paths.{path_of};
 ghost use Rattle.table.specs.Tables.{schema_of};
 ghost use Rattle.reading.specs.Finding.{Open};
@@ -22,13 +22,8 @@ fn spaces(out: &mut [u8], at: usize, n: usize) -> usize
     requires { at + n ≤ length out.old }
     ensures { Puts out.old at (spaces_of n) result out.new }
 {
-    let mut next = at;
-    let mut i = 0;
-    while i < n {
-        next = text::byte(out, next, b' ');
-        i += 1;
-    }
-    next
+    out[at..at + n].fill(b' ');
+    at + n
 }
 
 // The decimal digits of a number, and no more than the last k, right aligned in k columns.
@@ -48,17 +43,15 @@ fn right(out: &mut [u8], at: usize, n: usize, k: usize) -> usize
     text::byte(out, next, text::glyph((n - 10 * q) as u8))
 }
 
-// The n bytes from the one numbered start on, each a space and two digits.
-fn spaced(out: &mut [u8], at: usize, row: &[u8], start: usize, n: usize) -> usize
-    requires { (at + 3 * n ≤ length out.old) × (start + n ≤ length row.now) }
-    ensures { Puts out.old at (spaced_of (part row.now start n)) result out.new }
+// Bytes, each a space and two digits.
+fn spaced(out: &mut [u8], at: usize, bytes: &[u8]) -> usize
+    requires { at + 3 * length bytes.now ≤ length out.old }
+    ensures { Puts out.old at (spaced_of bytes.now) result out.new }
 {
     let mut next = at;
-    let mut i = 0;
-    while i < n {
+    for x in bytes {
         let digits = text::byte(out, next, b' ');
-        next = text::hex(out, digits, words::nums::wide(row[start + i]), 2);
-        i += 1;
+        next = text::hex(out, digits, u64::from(*x), 2);
     }
     next
 }
@@ -68,36 +61,23 @@ fn on_line(n: usize, u: usize) -> usize
     requires { (8 * u < n) × (n ≤ 16384) }
     ensures { result ≡ on_line n u }
 {
-    let left = n - 8 * u;
-    if left < 8 { left } else { 8 }
+    (n - 8 * u).min(8)
 }
 
 fn word(out: &mut [u8], at: usize, w: u32) -> usize
     requires { (w < 8) × (at + 12 ≤ length out.old) }
     ensures { Puts out.old at (word_of w) result out.new }
 {
-    if w == 0 {
-        return at;
+    match w {
+        0 => at,
+        1 => text::put(out, at, b"bitmap"),
+        2 => text::put(out, at, b"count"),
+        3 => text::put(out, at, b"size of keys"),
+        4 => text::put(out, at, b"slot"),
+        5 => text::put(out, at, b"slots"),
+        6 => text::put(out, at, b"text"),
+        _ => text::put(out, at, b"binary"),
     }
-    if w == 1 {
-        return text::put(out, at, b"bitmap");
-    }
-    if w == 2 {
-        return text::put(out, at, b"count");
-    }
-    if w == 3 {
-        return text::put(out, at, b"size of keys");
-    }
-    if w == 4 {
-        return text::put(out, at, b"slot");
-    }
-    if w == 5 {
-        return text::put(out, at, b"slots");
-    }
-    if w == 6 {
-        return text::put(out, at, b"text");
-    }
-    text::put(out, at, b"binary")
 }
 
 fn padding(out: &mut [u8], at: usize, w: u32) -> usize
@@ -160,7 +140,7 @@ fn line(out: &mut [u8], at: usize, row: &[u8], chart: &[u32], u: usize) -> usize
     let k = on_line(row.len(), u);
     let s = right(out, at, 8 * u, 5);
     let b = text::byte(out, s, b' ');
-    let l = spaced(out, b, row, 8 * u, k);
+    let l = spaced(out, b, &row[8 * u..8 * u + k]);
     let end = labelled(out, l, chart, u, k);
     text::byte(out, end, b'\n')
 }
@@ -174,55 +154,46 @@ fn mark(out: &mut [u8], at: usize, place: usize) -> usize
 }
 
 // The mark under the line u, where that line has the first wrong byte.
-fn under(out: &mut [u8], at: usize, sound: bool, place: usize, u: usize) -> usize
+fn under(out: &mut [u8], at: usize, fault: Option<usize>, u: usize) -> usize
     requires { at + 31 ≤ length out.old }
-    ensures { Puts out.old at (under_of (fault_of sound place) u) result out.new }
+    ensures { Puts out.old at (under_of (fault_of fault) u) result out.new }
 {
-    if sound {
-        return at;
+    match fault {
+        Some(place) if place >> 3 == u => mark(out, at, place),
+        _ => at,
     }
-    if place >> 3 == u {
-        return mark(out, at, place);
-    }
-    at
 }
 
 // The mark behind the last of n lines, where none of them has the first wrong byte.
-fn behind(out: &mut [u8], at: usize, sound: bool, place: usize, n: usize) -> usize
+fn behind(out: &mut [u8], at: usize, fault: Option<usize>, n: usize) -> usize
     requires { at + 31 ≤ length out.old }
-    ensures { Puts out.old at (behind_of (fault_of sound place) n) result out.new }
+    ensures { Puts out.old at (behind_of (fault_of fault) n) result out.new }
 {
-    if sound {
-        return at;
+    match fault {
+        Some(place) if n <= place >> 3 => mark(out, at, place),
+        _ => at,
     }
-    if place >> 3 < n {
-        return at;
-    }
-    mark(out, at, place)
 }
 
 fn picture<W: Write>(
     to: &mut W,
     row: &[u8],
     chart: &[u32],
-    sound: bool,
-    place: usize,
+    fault: Option<usize>,
     out: &mut [u8],
 ) -> Result<usize>
     requires { Long chart.now × (length row.now ≤ 16384) × (length out.old ≡ 262144) }
-    ensures walked { IfOk result (λ r. Walked (picture_of row.now chart.now (fault_of sound place)) out.old 0 r out.new) }
-    ensures held { length (picture_of row.now chart.now (fault_of sound place)) ≤ 229000 → IsOk result }
+    ensures walked { IfOk result (λ r. Walked (picture_of row.now chart.now (fault_of fault)) out.old 0 r out.new) }
+    ensures held { length (picture_of row.now chart.now (fault_of fault)) ≤ 229000 → IsOk result }
 {
     let n = (row.len() + 7) >> 3;
     let mut used = 0;
-    let mut u = 0;
-    while u < n {
+    for u in 0..n {
         let at = lettering::spill(to, out, used)?;
         let next = line(out, at, row, chart, u);
-        used = under(out, next, sound, place, u);
-        u += 1;
+        used = under(out, next, fault, u);
     }
-    Ok(behind(out, used, sound, place, n))
+    Ok(behind(out, used, fault, n))
 }
 
 fn empty_chart() -> [u32; 36864]
@@ -236,15 +207,14 @@ pub fn charted<W: Write>(
     to: &mut W,
     t: &[u64],
     row: &[u8],
-    sound: bool,
-    place: usize,
+    fault: Option<usize>,
     out: &mut [u8],
 ) -> Result<usize>
     requires { Open t.now row.now × (length out.old ≡ 262144) }
-    ensures walked { IfOk result (λ r. Walked (shown (schema_of t.now) row.now (fault_of sound place)) out.old 0 r out.new) }
-    ensures held { length (shown (schema_of t.now) row.now (fault_of sound place)) ≤ 229000 → IsOk result }
+    ensures walked { IfOk result (λ r. Walked (shown (schema_of t.now) row.now (fault_of fault)) out.old 0 r out.new) }
+    ensures held { length (shown (schema_of t.now) row.now (fault_of fault)) ≤ 229000 → IsOk result }
 {
     let mut chart = empty_chart();
     chart::draw(t, row, &mut chart);
-    picture(to, row, &chart, sound, place, out)
+    picture(to, row, &chart, fault, out)
 }

@@ -14,7 +14,7 @@ use Rattle.words.specs.Pairs.{low_in, high_in, Paired}
 use Rattle.words.proofs.Numbers.{length-le, slice-bytes}
 use Rattle.words.proofs.Runs.{sets_then}
 use Rattle.schema.specs.Marks.{element_width}
-use Rattle.schema.specs.Types.{Ty, li, place, mark}
+use Rattle.schema.specs.Types.{Ty, li, mark}
 use Rattle.schema.proofs.Places.{typed-place}
 use Rattle.layout.specs.Cells.{Cell, node}
 use Rattle.layout.specs.Layout.{Kid, kid, slot_of, tails, AllFit, array, codec, content, body_put}
@@ -121,7 +121,6 @@ module _ {t : List ℕ} {c d : ℕ} {l : List ℕ} {from n pos len : ℕ} (p : P
       low = q.low;
       map = paints-bit q h;
       slots = paints-slot q h;
-      few = omega (arith, p.few);
       small = omega (arith, p.small);
       short = p.short;
     };
@@ -130,9 +129,6 @@ module _ {t : List ℕ} {c d : ℕ} {l : List ℕ} {from n pos len : ℕ} (p : P
   pub array-front : FrontCan n w pos len
   array-front = record { few = p.few; room = omega (arith, array_at.room); small = p.small }
 
-  pub array_map : Fits w64 (pos + 8)
-  array_map = omega (arith, array-front.room, p.small)
-
   pub array-cells : n * w < 2 ^ 40
   array-cells = omega (arith, array-front.room, p.small)
 
@@ -140,9 +136,6 @@ module _ {t : List ℕ} {c d : ℕ} {l : List ℕ} {from n pos len : ℕ} (p : P
   array-size-fits = omega (arith, array-cells)
 
   module _ {bits : ℕ} (eb : bits ≡ bitmap n) where
-    pub array-slots : Fits w64 (pos + 8 + bits)
-    array-slots = omega (arith, array-front.room, p.small)
-
     pub array-start : {room : ℕ} → room ≡ pad (n * w) → Fits w64 (pos + 8 + bits + room)
     array-start e = omega (arith, array-front.room, p.small)
 

@@ -141,7 +141,6 @@ module _ {t : List ℕ} {c d : ℕ} {l : List ℕ} {from pos len : ℕ} (p : Put
           low = q.low;
           map = paints-bit q h;
           slots = paints-slot q h;
-          few = omega (arith, s.high);
           small = omega (arith, p.put.small);
           short = p.put.short;
         };
@@ -168,9 +167,6 @@ module _ {t : List ℕ} {c d : ℕ} {l : List ℕ} {from pos len : ℕ} (p : Put
   fields-clear = record { low = (at-struct p en ec).low; high = (at-struct p en ec).high; room = omega (arith, fields-room) }
 
   module _ {bits : ℕ} (eb : bits ≡ bitmap n) where
-    pub fields-slots : Fits w64 (pos + bits)
-    fields-slots = omega (arith, fields-room, p.put.small)
-
     pub fields-start : Fits w64 (pos + bits + 8 * n)
     fields-start = omega (arith, fields-room, p.put.small)
 

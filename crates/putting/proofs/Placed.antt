@@ -78,7 +78,6 @@ pub record Child (t : List ℕ) (c d w : ℕ) (l : List ℕ) (from base bm i slo
   pub low : base ≤ cur
   pub map : bm + i / 8 < slot
   pub slots : slot + w ≤ cur
-  pub few : i < 2 ^ 32
   pub small : length x ≤ 16384
   pub short : length l ≤ 65536
 
@@ -130,9 +129,6 @@ module _ {t : List ℕ} {c d w : ℕ} {l : List ℕ} {from base bm i n slot cur 
     room-two : 2 ≤ length l - from
     room-two = omega (arith, child-two)
 
-    pub child-behind : Fits w64 (from + 2)
-    child-behind = omega (arith, child-two, p.short)
-
     child-cur : cur ≤ length x
     child-cur = omega (arith, p.ready.room)
 
@@ -144,12 +140,6 @@ module _ {t : List ℕ} {c d w : ℕ} {l : List ℕ} {from base bm i n slot cur 
 
     pub bit_in : bm + i / 8 < length x
     bit_in = omega (arith, p.map, p.slots, child-cur)
-
-    pub child-count : Fits w64 (i + 1)
-    child-count = omega (arith, p.few)
-
-    pub child-fewer : n - (i + 1) < n - i
-    child-fewer = omega arith
 
     -- m is its mark
     module _ {m : ℕ} (r : Reads l from 2 m) where

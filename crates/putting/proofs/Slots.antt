@@ -5,21 +5,20 @@ use Prim.Native.Nat.{ℕ, ◌+◌, ◌*◌, ◌-◌, ◌%◌, ◌^◌, ◌≤◌
 use native.Mathlib.Nat.{mod-eq_of_lt, lt_of_le_of_lt, one-mul}
 use native.Mathlib.Omega.{arith}
 use lib.Dec.{lit<}
-use lib.Pow.{pow_mono, pow_pos}
+use lib.Pow.{pow_mono}
 use lib.Bits.{bit_and}
 use lib.ListN.{length, get_or, length-append}
-use lib.Seq.{sets, length-sets}
-use mir.Syntax.{w8, w64}
+use lib.Seq.{sets}
+use mir.Syntax.{w8}
 use mir.Val.{Fits}
 use Rattle.words.specs.Bytes.{Bytes, le, num, part, zeros, pad, padded, fill, bitmap}
-use Rattle.words.specs.Pairs.{low_in, high_in, Paired}
 use Rattle.words.specs.Reads.{Reads}
 use Rattle.words.proofs.Powers.{mask_is}
 use Rattle.words.proofs.Runs.{sets_then}
 use Rattle.words.proofs.Parts.{length_part, bytes-part, part-add}
 use Rattle.words.proofs.Numbers.{le-num, length-le, slice-bytes}
 use Rattle.words.proofs.NumLaws.{pow256, part-lt, num-low, le-pad, le-zero}
-use Rattle.putting.specs.Put.{PaddedCan, TextCan, TextWrote, ClearCan, FrontCan, front_of}
+use Rattle.putting.specs.Put.{PaddedCan, ClearCan}
 
 -- what a place of the code knows of the listing's bytes
 abbrev pub Octets : List ℕ → Type 0
@@ -31,13 +30,10 @@ short-power k h =
     let m : 2 ^ (8 * k) ≤ 2 ^ 56 = pow_mono {i = 8 * k} {j = 56} (omega arith) in
     rw one-mul (mod-eq_of_lt (lt_of_le_of_lt m (lit< tt)))
 
-pub short-some : (k : ℕ) → k < 8 → 1 ≤ 1 * 2 ^ (8 * k) % 2 ^ 64
-short-some k h = rw (short-power k h) (pow_pos (8 * k))
-
 pub short-reads : {l : List ℕ} {at k x : ℕ} → Octets l → at + k ≤ length l → k < 8 → Reads l at 8 x
     → Reads l at k (bit_and x (1 * 2 ^ (8 * k) % 2 ^ 64 - 1))
 short-reads {l} {at} {k} {x} o h lo r =
-    let hb = slice-bytes o in
+    let hb : Bytes l = slice-bytes o in
     let q : k + (8 - k) ≡ 8 = omega arith in
     let low = rw q at (num-low {b = l} at k (8 - k) hb h) in
     let e : bit_and x (1 * 2 ^ (8 * k) % 2 ^ 64 - 1) ≡ num (part l at k) = rw (short-power k lo, mask_is x (8 * k), ← pow256 k, r.is) low in
@@ -72,19 +68,21 @@ pub padded-starts : {l : List ℕ} {from n to : ℕ} {x₀ : List ℕ} → Padde
 padded-starts p o = record { can = p; octets = slice-bytes o; most = omega arith; eight = omega arith; stands = refl }
 
 module _ {l : List ℕ} {from n to : ℕ} {x₀ x : List ℕ} {i : ℕ} (g : PaddedGoing l from n to x₀ x i) where
-  pub padded-long : length x ≡ length x₀
-  padded-long = ap length g.stands ∙ length-sets x₀ to (part l from i)
-
   done-long : length (part l from i) ≡ i
   done-long = length_part l from i (omega (arith, g.can.inside))
+
+  -- the same of i by another name
+  pub padded-at : {j : ℕ} → j ≡ i → PaddedGoing l from n to x₀ x j
+  padded-at e = rw e g
 
   -- the next bytes behind those that stand
   behind : (u : List ℕ) {y : List ℕ} → y ≡ sets x (to + i) u → y ≡ sets x₀ to (part l from i ++ u)
   behind u e = e ∙ rw g.stands (sets_then x₀ to (to + i) (part l from i) u (omega (arith, done-long)))
 
-  pub padded-goes : i + 8 ≤ n → {r : ℕ} → Reads l (from + i) 8 r → {y : List ℕ} → y ≡ sets x (to + i) (le 8 r) → PaddedGoing l from n to x₀ y (i + 8)
+  pub padded-goes : {j : ℕ} → j ≡ i + 8 → j ≤ n → {r : ℕ} → Reads l (from + i) 8 r → {y : List ℕ} → y ≡ sets x (to + i) (le 8 r)
+      → PaddedGoing l from n to x₀ y j
   unfolding fill
-  padded-goes h {r} b {y} e =
+  padded-goes ej h {r} b {y} e =
       let u = part l (from + i) 8 in
       let long : length u ≡ 8 = length_part l (from + i) 8 (omega (arith, g.can.inside)) in
       let w : le 8 r ≡ u = ap (le 8) b.is ∙ rw long at (le-num (bytes-part (from + i) 8 g.octets)) in
@@ -93,7 +91,7 @@ module _ {l : List ℕ} {from n to : ℕ} {x₀ x : List ℕ} {i : ℕ} (g : Pad
         octets = g.octets;
         most = h;
         eight = omega (arith, g.eight);
-        stands = behind u (rw w at e) ∙ ap (sets x₀ to) (sym (part-add l from i 8));
+        stands = rw ej (behind u (rw w at e) ∙ ap (sets x₀ to) (sym (part-add l from i 8)));
       }
 
   pub padded-last : i < n → n < i + 8 → {r : ℕ} → Reads l (from + i) (n - i) r → {y : List ℕ} → y ≡ sets x (to + i) (le 8 r)
@@ -116,46 +114,6 @@ module _ {l : List ℕ} {from n to : ℕ} {x₀ x : List ℕ} {i : ℕ} (g : Pad
       let e : i ≡ n = omega (arith, g.most) in
       g.stands ∙ rw e (ap (sets x₀ to) (sym (padded-whole (part l from n) (rw (length_part l from n g.can.inside) (rw e at g.eight)))))
 
-  pub padded-test : Fits w64 (i + 8)
-  padded-test = omega (arith, g.most, g.can.inside, g.can.short)
-
-  module _ (h : i < n) where
-    pub padded-room : to + i + 8 ≤ length x
-    padded-room = omega (arith, padded-long, g.can.room, g.eight)
-
-    pub padded-to : Fits w64 (to + i)
-    padded-to = omega (arith, padded-room, padded-long, g.can.small)
-
-    pub padded-from : Fits w64 (from + i)
-    padded-from = omega (arith, g.can.inside, g.can.short)
-
-    pub padded-rest : n < i + 8 → (from + i + (n - i) ≤ length l) × (n - i < 8)
-    padded-rest k = (omega (arith, g.can.inside), omega arith)
-
-  -- a whole word is left
-  module _ (h : i + 8 ≤ n) where
-    pub padded-some : i < n
-    padded-some = omega arith
-
-    pub padded-word : from + i + 8 ≤ length l
-    padded-word = omega (arith, g.can.inside)
-
-    pub padded-less : n - (i + 8) < n - i
-    padded-less = omega arith
-
--- what a text's count says
-pub text-padded : {l : List ℕ} {from pos len n : ℕ} → TextCan l from pos len → Reads l from 4 n → PaddedCan l (from + 4) n pos len
-text-padded p g = record {
-  inside = omega (arith, p.inside, g.is);
-  room = omega (arith, p.room, g.is);
-  small = p.small;
-  short = p.short;
-}
-
-pub text-wrote : {l : List ℕ} {from pos n : ℕ} → Reads l from 4 n → {x y : List ℕ} → y ≡ sets x pos (padded (part l (from + 4) n))
-    → {r : ℕ} → Paired (from + 4 + n) (pos + n) r → TextWrote l from pos x y (low_in r) (high_in r)
-text-wrote g e p = record { bytes = rw g.is at e; goes_on = rw g.is at p.low-is; ends = rw g.is at p.high_is }
-
 -- ---- fixed parts
 
 module _ (x : List ℕ) {n at len : ℕ} (p : ClearCan n at len) where
@@ -167,8 +125,3 @@ module _ (x : List ℕ) {n at len : ℕ} (p : ClearCan n at len) where
       let q : bitmap n ≡ 16 = omega (arith, p.high) in
       let z : le 8 0 ++ le 8 0 ≡ zeros (bitmap n) = rw (q, le-zero) in
       e ∙ rw e₁ (sets_then x at (at + 8) (le 8 0) (le 8 0) (rw length-le refl) ∙ ap (sets x at) z)
-
-pub front-is : (x : List ℕ) {n w pos len : ℕ} → FrontCan n w pos len → {bits p : ℕ} → bits ≡ bitmap n → p ≡ pad (n * w)
-    → {x₁ x₂ y : List ℕ} → x₁ ≡ sets x pos (le 8 n) → x₂ ≡ sets x₁ (pos + 8) (zeros bits)
-    → y ≡ sets x₂ (pos + 8 + bits + n * w) (zeros (p - n * w)) → y ≡ front_of x n w pos
-front-is x f eb ep e₁ e₂ e = e ∙ rw (e₂, e₁, ep, eb)

@@ -13,7 +13,7 @@ use Rattle.words.specs.Bytes.{Bytes, le, padded}
 use Rattle.words.specs.Reads.{Reads}
 use Rattle.words.proofs.Numbers.{length-le, slice-bytes}
 use Rattle.words.proofs.Runs.{sets_then, sets-comm}
-use Rattle.schema.specs.Types.{Ty, li, ma, place}
+use Rattle.schema.specs.Types.{Ty, li, ma}
 use Rattle.schema.specs.Kinds.{place_at}
 use Rattle.schema.specs.Walk.{type_at, next_at, ListAt, MapAt}
 use Rattle.schema.proofs.Typing.{typed-deep}
@@ -170,17 +170,11 @@ module _ {t : List ℕ} {c d : ℕ} {l : List ℕ} {from pos len : ℕ} (p : Put
         short = p.short;
       }
 
-      pub head-fits : Fits w64 (pos + 8)
-      head-fits = omega (arith, both.room, p.small)
-
       pub head_in : {m : ℕ} → m ≡ len → pos + 8 ≤ m
       head_in e = omega (arith, both.room)
 
       -- where the keys end is stop, the listing goes on at mid, and v is the place of the values' type, behind the keys' entry e₁
       module _ {x x₁ : List ℕ} {mid stop : ℕ} (a : ArrayWrote key_ty l (from + 4) n (pos + 8) x x₁ mid stop) where
-        pub keys-long : {m : ℕ} → m ≡ stop → pos + 8 ≤ m
-        keys-long e = omega (arith, a.ends)
-
         module _ {e₁ v : ℕ} (en₁ : EntryAt t (c + 1) (d - 1) e₁) (ev : v ≡ after_in e₁) {mid₁ stop₁ : ℕ} (em : mid₁ ≡ mid) (es : stop₁ ≡ stop) where
           values-at : pos_of t v ≡ next_at (schema_of t) (pos_of t (c + 1)) (d - 1)
           values-at = ap (pos_of t) ev ∙ en₁.next

@@ -16,7 +16,7 @@ fn short_number(l: &[u8], at: usize, k: usize) -> u64
     if l.len() - at < 8 {
         return words::nums::get_num(l, at, k);
     }
-    words::nums::get8(l, at) & ((1 << (8 * k)) - 1)
+    words::nums::get::<8>(l, at) & ((1 << (8 * k)) - 1)
 }
 
 // The number of v bytes.
@@ -24,13 +24,11 @@ pub fn number(l: &[u8], at: usize, v: usize) -> u64
     requires { (at + v ≤ length l.now) × (v ≤ 8) }
     ensures { Reads l.now at v result }
 {
-    if v == 8 {
-        return words::nums::get8(l, at);
+    match v {
+        8 => words::nums::get::<8>(l, at),
+        4 => words::nums::get::<4>(l, at) as u64,
+        _ => short_number(l, at, v),
     }
-    if v == 4 {
-        return words::nums::get4(l, at) as u64;
-    }
-    short_number(l, at, v)
 }
 
 // A number in a slot of w bytes.
@@ -38,15 +36,11 @@ pub fn put_slot(out: &mut [u8], slot: usize, w: usize, x: u64)
     requires { slot + w ≤ length out.old }
     ensures { out.new ≡ sets out.old slot (le w x) }
 {
-    if w == 8 {
-        words::nums::put8(out, slot, x);
-        return;
+    match w {
+        8 => words::nums::put::<8>(out, slot, x),
+        4 => words::nums::put::<4>(out, slot, x),
+        _ => words::nums::put_num(out, slot, w, x),
     }
-    if w == 4 {
-        words::nums::put4(out, slot, x);
-        return;
-    }
-    words::nums::put_num(out, slot, w, x);
 }
 
 // n bytes of the listing, and zeros up to Pad: whole words, since the room is padded too.
@@ -54,13 +48,14 @@ fn put_padded(out: &mut [u8], to: usize, l: &[u8], from: usize, n: usize)
     requires { PaddedCan l.now from n to (length out.old) }
     ensures { out.new ≡ sets out.old to (padded (part l.now from n)) }
 {
-    let mut i: usize = 0;
-    while i + 8 <= n {
-        words::nums::put8(out, to + i, words::nums::get8(l, from + i));
-        i += 8;
+    let whole = n >> 3;
+    for k in 0..whole {
+        let i = 8 * k;
+        words::nums::put::<8>(out, to + i, words::nums::get::<8>(l, from + i));
     }
-    if i < n {
-        words::nums::put8(out, to + i, short_number(l, from + i, n - i));
+    let done = 8 * whole;
+    if done < n {
+        words::nums::put::<8>(out, to + done, short_number(l, from + done, n - done));
     }
 }
 
@@ -69,7 +64,7 @@ pub fn put_text(l: &[u8], from: usize, out: &mut [u8], pos: usize) -> u64
     requires { TextCan l.now from pos (length out.old) }
     ensures { TextWrote l.now from pos out.old out.new (low_in result) (high_in result) }
 {
-    let n = words::nums::get4(l, from);
+    let n = words::nums::get::<4>(l, from) as usize;
     let text = from + 4;
     put_padded(out, pos, l, text, n);
     pairs::pair(text + n, pos + n)
@@ -97,9 +92,9 @@ pub fn clear_bits(out: &mut [u8], at: usize, n: usize)
     requires { ClearCan n at (length out.old) }
     ensures { out.new ≡ sets out.old at (zeros (bitmap n)) }
 {
-    words::nums::put8(out, at, 0);
+    words::nums::put::<8>(out, at, 0);
     if 64 < n {
-        words::nums::put8(out, at + 8, 0);
+        words::nums::put::<8>(out, at + 8, 0);
     }
 }
 
@@ -111,7 +106,7 @@ pub fn put_front(out: &mut [u8], pos: usize, n: usize, w: usize)
     let map = pos + 8;
     let bits = words::sizes::bitmap_size(n);
     let size = n * w;
-    words::nums::put8(out, pos, n as u64);
+    words::nums::put::<8>(out, pos, n as u64);
     words::copies::zero(out, map, bits);
     words::copies::zero(out, map + bits + size, words::sizes::pad_size(size) - size);
 }

@@ -31,23 +31,24 @@ fn put_value(
     requires { PutValue t.now c depth l.now from pos (length out.old) }
     ensures { Held (type_of t.now c depth) l.now from pos out.old out.new (low_in result) (high_in result) }
 {
-    let kind = table::place(table::entry_at(t, c, depth));
-    if kind == table::STRUCT {
-        return put_fields(t, c, depth, l, from, out, pos);
-    }
-    let n = words::nums::get4(l, from);
     let d = depth - 1;
     let held = c + 1;
-    let body = from + 4;
-    if kind == table::LIST {
-        return put_array(t, held, d, l, body, n, out, pos);
+    match table::place(table::entry_at(t, c, depth)) {
+        table::STRUCT => put_fields(t, c, depth, l, from, out, pos),
+        table::LIST => {
+            let n = words::nums::get::<4>(l, from) as usize;
+            put_array(t, held, d, l, from + 4, n, out, pos)
+        }
+        _ => {
+            let n = words::nums::get::<4>(l, from) as usize;
+            let start = pos + 8;
+            let keys = put_array(t, held, d, l, from + 4, n, out, start);
+            let end = pairs::high(keys);
+            words::nums::put::<8>(out, pos, (end - start) as u64);
+            let values = table::after(table::entry_at(t, held, d));
+            put_array(t, values, d, l, pairs::low(keys), n, out, end)
+        }
     }
-    let start = pos + 8;
-    let keys = put_array(t, held, d, l, body, n, out, start);
-    let end = pairs::high(keys);
-    words::nums::put8(out, pos, (end - start) as u64);
-    let values = table::after(table::entry_at(t, held, d));
-    put_array(t, values, d, l, pairs::low(keys), n, out, end)
 }
 
 // An array of n elements of the type at a place, from pos on: its count, its bitmap, its elements and the zeros up to Pad, and the
@@ -73,12 +74,11 @@ fn put_array(
     let map = pos + 8;
     let mut slot = map + words::sizes::bitmap_size(n);
     let mut cur = slot + words::sizes::pad_size(n * w);
-    let mut i: usize = 0;
     let mut at = from;
-    while i < n {
+    for i in 0..n {
         let body = at + 2;
         let mut x: u64 = 0;
-        if words::nums::get2(l, at) == NULL {
+        if words::nums::get::<2>(l, at) as usize == NULL {
             words::nulls::set_null(out, map, i);
             at = body;
         } else if kind < table::STRING {
@@ -96,7 +96,6 @@ fn put_array(
         }
         put_slot(out, slot, w, x);
         slot += w;
-        i += 1;
     }
     pairs::pair(at, cur)
 }
@@ -121,14 +120,13 @@ fn put_fields(
     let mut slot = pos + words::sizes::bitmap_size(n);
     let mut cur = slot + 8 * n;
     let mut field = c + 1;
-    let mut i: usize = 0;
     let mut at = from;
-    while i < n {
+    for i in 0..n {
         let e = table::entry_at(t, field, d);
         let kind = table::place(e);
         let body = at + 2;
         let mut x: u64 = 0;
-        if words::nums::get2(l, at) == NULL {
+        if words::nums::get::<2>(l, at) as usize == NULL {
             words::nulls::set_null(out, pos, i);
             at = body;
         } else if kind < table::STRING {
@@ -145,10 +143,9 @@ fn put_fields(
             at = pairs::low(p);
             cur = held_end(p, cur);
         }
-        words::nums::put8(out, slot, x);
+        words::nums::put::<8>(out, slot, x);
         field = table::after(e);
         slot += 8;
-        i += 1;
     }
     pairs::pair(at, cur)
 }

@@ -32,9 +32,13 @@ use Rattle.reading.specs.declared.TypeParts.{TypeParts}
 use Rattle.reading.specs.declared.Seat.{Seat}
 use Rattle.reading.specs.declared.Place.{Place}
 use Rattle.reading.specs.declared.Child.{Child}
-use Rattle.reading.specs.declared.Child.TheVariants.{Broken as CBroken, Null as CNull, At}
-use Rattle.reading.specs.declared.Next.{Next}
-use Rattle.reading.specs.declared.Next.TheVariants.{Nowhere, Broken, Null, To}
+use Rattle.reading.specs.declared.Child.TheVariants.{Null as CNull, At as CAt}
+use Rattle.reading.specs.declared.Found.{Found}
+use Rattle.reading.specs.declared.Found.TheVariants.{Null, At}
+use Rattle.std.specs.Prelude.{Result, Ok, Err}
+use Rattle.answers.specs.declared.Refusal.{Refusal as Answered}
+use Rattle.answers.specs.declared.Refusal.TheVariants as N
+use Rattle.answers.specs.Meaning.{refusal_means}
 use Rattle.reading.proofs.Pointing.{wide-8, slot-codec, step-no}
 use Rattle.reading.proofs.Opening.{ty-fixed, ty-text, ty-list, ty-map, ty_struct, struct_left, leaf-width, wide-open}
 use Rattle.reading.proofs.Opening.{assert-same, assert-none, no-leaf, no-array, no-count, of_struct}
@@ -47,20 +51,16 @@ sized-at K k (inr q) = λ h. q
 sized-at {y} K k (inl q) = λ h. absurd (omega (arith, leaf-width K (λ e. omega arith), fixed-some y.kind h))
 
 module _ (y : TypeParts) (c : Child) where
-  pub enter-broken : (j : ℕ) → c ≡ CBroken j → Entered y c (Broken j)
-  unfolding next_as child_as
-  enter-broken j q t row E = rw q (record { means = refl; lands = tt; tells = tt })
-
   pub enter-null : (z : Seat) → c ≡ CNull z → Entered y c (Null y z)
   unfolding next_as child_as
   enter-null z q t row E =
-      let l : ChildIn row (width_in y.entry) (CNull z) = rw q at E.lands in
+      let l : ChildIn row (width_in y.entry) (Ok (CNull z)) = rw q at E.lands in
       rw q (record { means = refl; lands = record { is = E.is; seated = l }; tells = refl })
 
-  pub enter-at : (z : Seat) (o k : ℕ) → c ≡ At z o k → Entered y c (To (record { opened = y; seat = z; start = o; len = k }))
+  pub enter-at : (z : Seat) (o k : ℕ) → c ≡ CAt z o k → Entered y c (At (record { opened = y; seat = z; start = o; len = k }))
   unfolding next_as child_as
   enter-at z o k q t row E =
-      let l : ChildIn row (width_in y.entry) (At z o k) = rw q at E.lands in
+      let l : ChildIn row (width_in y.entry) (Ok (CAt z o k)) = rw q at E.lands in
       rw q (record {
         means = refl;
         lands = record {
@@ -76,7 +76,7 @@ module _ (y : TypeParts) (c : Child) where
 -- ---- no step
 
 stopped : (t row : List ℕ) (p : Place) (i : ℕ)
-    → step_in (place_ty t p) i (seat_as p.seat) p.start (bytes_of row p) ≡ stop (numbered 5) → Steps t row p i Nowhere
+    → step_in (place_ty t p) i (seat_as p.seat) p.start (bytes_of row p) ≡ stop (numbered 5) → Steps t row p i (Err N.NoPlace)
 unfolding next_as
 stopped t row p i e = record { means = sym e; lands = tt; tells = tt }
 
@@ -92,13 +92,13 @@ no-kin (ma k v) (suc (suc i)) z o b e = refl
 no-kin (ro ts) i z o b e = step-no (dec_lt i (count ts)) (numbered 5) _ (assert-none (dec_lt i (count ts)) _ e)
 
 module _ {t row : List ℕ} {p : Place} (S : PlaceHolds t row p) (i : ℕ) where
-  pub leaf-stop : p.opened.kind < 9 → Steps t row p i Nowhere
+  pub leaf-stop : p.opened.kind < 9 → Steps t row p i (Err N.NoPlace)
   leaf-stop h = stopped t row p i (no-kin (place_ty t p) i _ _ _ (no-leaf S.rests.is i h))
 
-  pub map-stop : p.opened.kind ≡ 10 → 2 ≤ i → Steps t row p i Nowhere
+  pub map-stop : p.opened.kind ≡ 10 → 2 ≤ i → Steps t row p i (Err N.NoPlace)
   map-stop e h = stopped t row p i (no-kin (place_ty t p) i _ _ _ (no-array S.rests.is i e h))
 
-  pub struct-stop : p.opened.kind ≡ 11 → {n : ℕ} → n ≡ count_in p.opened.entry → n ≤ i → Steps t row p i Nowhere
+  pub struct-stop : p.opened.kind ≡ 11 → {n : ℕ} → n ≡ count_in p.opened.entry → n ≤ i → Steps t row p i (Err N.NoPlace)
   struct-stop e q h = stopped t row p i (no-kin (place_ty t p) i _ _ _ (no-count S.rests.is i e q h))
 
 -- ---- a step from a place
@@ -114,8 +114,8 @@ module _ {t : List ℕ} {x : TypeParts} {i : ℕ} {y : TypeParts} (K : Kin t x i
   small : v ≤ 8
   small = rw wide_is at (wide-8 (open_ty t y))
 
-  enters : {row : List ℕ} {c : Child} → length row ≤ 16384 → ChildIn row v c → Enters t row y c
-  enters {row} {c} h l = record { is = K.is; short = h; lands = subst (λ (w : ℕ). ChildIn row w c) u l }
+  enters : {row : List ℕ} {c : Child} → length row ≤ 16384 → ChildIn row v (Ok c) → Enters t row y c
+  enters {row} {c} h l = record { is = K.is; short = h; lands = subst (λ (w : ℕ). ChildIn row w (Ok c)) u l }
 
 -- an element
 module _ {t row : List ℕ} {p : Place} (F : From t row 9 p) where
@@ -138,7 +138,7 @@ module _ {t row : List ℕ} {p : Place} (F : From t row 9 p) where
     counted : num (take 8 (bytes_of row p)) ≡ n
     counted = header_is (rest-row F.stands.rests) header q
 
-    pub list-stop : {i : ℕ} → n ≤ i → Steps t row p i Nowhere
+    pub list-stop : {i : ℕ} → n ≤ i → Steps t row p i (Err N.NoPlace)
     unfolding step_in W.child
     list-stop {i} h = stopped t row p i (rw (list-ty, counted) (step-no (dec_lt i n) (numbered 5) _ (λ l. omega arith)))
 
@@ -165,15 +165,19 @@ module _ {t row : List ℕ} {p : Place} (F : From t row 9 p) where
         points = λ z. g ∙ sym (slot-zero v z);
       }
 
-      pub list-step : {c : Child} → Comes row p.start p.len 8 n w v i c → {r : Next} → Entered y c r → Steps t row p i r
+      pub list-step : {c : Child} → Comes row p.start p.len 8 n w v i (Ok c) → {r : Found} → Entered y c r → Steps t row p i (Ok r)
       unfolding step_in
       list-step {c} k {r} m =
           let e = m t row (enters K u F.stands.rests.short k.lands) in
           record {
             means = e.means ∙ k.means (open_ty t y) (wide_is K u) ∙ rw (list-ty, slot_is, counted, same-ty);
             lands = e.lands;
-            tells = subst (λ o. Tells t r o) K.same e.tells;
+            tells = subst (λ o. Tells t (Ok r) o) K.same e.tells;
           }
+
+      pub list-refused : {f : Answered} → Comes row p.start p.len 8 n w v i (Err f) → Steps t row p i (Err f)
+      unfolding step_in next_as child_as
+      list-refused k = record { means = k.means (open_ty t y) (wide_is K u) ∙ rw (list-ty, slot_is, counted, same-ty); lands = tt; tells = tt }
 
 -- a field
 module _ {t row : List ℕ} {p : Place} (F : From t row 11 p) {n : ℕ} (q : n ≡ count_in p.opened.entry) where
@@ -213,15 +217,19 @@ module _ {t row : List ℕ} {p : Place} (F : From t row 11 p) {n : ℕ} (q : n �
         points = λ _. refl;
       }
 
-      pub struct-step : {c : Child} → Comes row p.start p.len 0 n 8 v i c → {r : Next} → Entered y c r → Steps t row p i r
+      pub struct-step : {c : Child} → Comes row p.start p.len 0 n 8 v i (Ok c) → {r : Found} → Entered y c r → Steps t row p i (Ok r)
       unfolding step_in
       struct-step {c} k {r} m =
           let e = m t row (enters K u F.stands.rests.short k.lands) in
           record {
             means = e.means ∙ k.means (open_ty t y) (wide_is K u) ∙ rw (struct-ty, fields-count, field-ty);
             lands = e.lands;
-            tells = subst (λ o. Tells t r o) K.same e.tells;
+            tells = subst (λ o. Tells t (Ok r) o) K.same e.tells;
           }
+
+      pub struct-refused : {f : Answered} → Comes row p.start p.len 0 n 8 v i (Err f) → Steps t row p i (Err f)
+      unfolding step_in next_as child_as
+      struct-refused k = record { means = k.means (open_ty t y) (wide_is K u) ∙ rw (struct-ty, fields-count, field-ty); lands = tt; tells = tt }
 
 -- a map's arrays
 drop-part : (b : List ℕ) (k : ℕ) → drop k b ≡ part b k (length b - k)
@@ -298,12 +306,12 @@ module _ {t row : List ℕ} {p : Place} (F : From t row 10 p) where
         seated = λ l. absurd (holder t y (rw u tt) l);
       }
 
-      pub keys_step : i ≡ 0 → {r : Next} → r ≡ array_at y (p.start + 8) z → Steps t row p i r
+      pub keys_step : i ≡ 0 → {r : Found} → r ≡ array_at y (p.start + 8) z → Steps t row p i (Ok r)
       unfolding step_in next_as
       keys_step j {r} e = rw e (go arrays)
         where
           go : ((i ≡ 0) × (open_ty t y ≡ li (held_ty t p.opened.first))) ⊎ ((i ≡ 1) × (open_ty t y ≡ li (values_ty t p.opened.first)))
-              → Steps t row p i (array_at y (p.start + 8) z)
+              → Steps t row p i (Ok (array_at y (p.start + 8) z))
           go (inl x) = record {
             means = rw (map-ty, j, keys-size, part-part row p.start p.len 8 z keys-room, x.1);
             lands = array-rests _ x.1 _ _ (omega (arith, keys-room, F.stands.rests.within));
@@ -316,12 +324,12 @@ module _ {t row : List ℕ} {p : Place} (F : From t row 10 p) where
           drop-part (bytes_of row p) (8 + z)
           ∙ rw (rest-size F.stands.rests) (part-part row p.start p.len (8 + z) (p.len - (8 + z)) (omega (arith, keys-room)))
 
-      pub values-step : (i ≡ 0 → ⊥) → {r : Next} → r ≡ array_at y (p.start + (8 + z)) (p.len - (8 + z)) → Steps t row p i r
+      pub values-step : (i ≡ 0 → ⊥) → {r : Found} → r ≡ array_at y (p.start + (8 + z)) (p.len - (8 + z)) → Steps t row p i (Ok r)
       unfolding step_in next_as
       values-step j {r} e = rw e (go arrays)
         where
           go : ((i ≡ 0) × (open_ty t y ≡ li (held_ty t p.opened.first))) ⊎ ((i ≡ 1) × (open_ty t y ≡ li (values_ty t p.opened.first)))
-              → Steps t row p i (array_at y (p.start + (8 + z)) (p.len - (8 + z)))
+              → Steps t row p i (Ok (array_at y (p.start + (8 + z)) (p.len - (8 + z))))
           go (inl x) = absurd (j x.0)
           go (inr x) = record {
             means = rw (map-ty, x.0, keys-size, values-bytes, x.1);

@@ -31,12 +31,14 @@ use Rattle.reading.specs.Finding.{found_as, FoundTells, FoundLands, Open, Asked,
 use Rattle.reading.specs.declared.TypeParts.{TypeParts}
 use Rattle.reading.specs.declared.Seat.{Seat}
 use Rattle.reading.specs.declared.Place.{Place}
-use Rattle.reading.specs.declared.Lot.{Lot}
-use Rattle.reading.specs.declared.Lot.TheVariants.{Nowhere as LNowhere, Of}
-use Rattle.reading.specs.declared.Next.{Next}
-use Rattle.reading.specs.declared.Next.TheVariants.{Nowhere, Broken, Null, To}
+use Rattle.std.specs.Prelude as P
+use Rattle.std.specs.Prelude.{Some, None}
+use Rattle.std.specs.Prelude.{Result, Ok, Err}
+use Rattle.answers.specs.declared.Refusal.{Refusal as Answered}
+use Rattle.answers.specs.declared.Refusal.TheVariants as F
+use Rattle.answers.specs.Meaning.{refusal_means}
 use Rattle.reading.specs.declared.Found.{Found}
-use Rattle.reading.specs.declared.Found.TheVariants.{NoPlace, NullBefore, Broken as FBroken, Null as FNull, At}
+use Rattle.reading.specs.declared.Found.TheVariants.{Null, At}
 use Rattle.reading.proofs.Opening.{root-type}
 use Rattle.reading.proofs.Rules.{own_is}
 use Rattle.reading.proofs.Moving.{holder}
@@ -100,25 +102,25 @@ module _ {t : List ℕ} {path : Path} {from : TypeParts} {done : ℕ} {x : TypeP
     pub kin-fits : Fits w64 (k + 1)
     kin-fits = omega (arith, O.few)
 
-    module _ {i : ℕ} (q : i ≡ get_or path.steps k 0) {r : Lot} (l : Lots t r (type_on (i ∷ []) (open_ty t x))) where
-      pub kin-off : r ≡ LNowhere → false ≡ is_on t from path done
+    module _ {i : ℕ} (q : i ≡ get_or path.steps k 0) {r : P.Option TypeParts} (l : Lots t r (type_on (i ∷ []) (open_ty t x))) where
+      pub kin-off : r ≡ None → false ≡ is_on t from path done
       kin-off u =
           let n = type-off (open_ty t x) i _ (rw u at l.means) in
           let z : type_on (drop done (path_of path)) (open_ty t from) ≡ none = O.same ∙ rw (step-on path k h i q) n in
           rw z
 
-      pub kin-on : {y : TypeParts} → r ≡ Of y → OnKin t path from done y (k + 1)
+      pub kin-on : {y : TypeParts} → r ≡ Some y → OnKin t path from done y (k + 1)
       kin-on {y} u = record {
         few = O.few;
         is = rw u at l.is;
         same = O.same ∙ rw (step-on path k h i q, add-one) (type-on (open_ty t x) (open_ty t y) i _ (rw u at l.means));
       }
 
-module _ {b q : Bool} (f : Found) (e : b ≡ q) where
+module _ {b q : Bool} (f : Answered) (e : b ≡ q) where
   pub or-found : b ≡ true → f ≡ or_no_place q f
   or-found h = rw (sym e ∙ h)
 
-  pub or-none : b ≡ false → NoPlace ≡ or_no_place q f
+  pub or-none : b ≡ false → F.NoPlace ≡ or_no_place q f
   or-none h = rw (sym e ∙ h)
 
 -- ---- the walk in the row
@@ -176,11 +178,11 @@ pub walk_start : {t row : List ℕ} {path : Path} {from : Place} → Asks t row 
 walk_start A = record { few = A.few; most = omega arith; rests = A.rests; same = refl; kin = refl }
 
 -- what the row shows, and before it what the schema alone does
-refused-goes : {t row : List ℕ} {from : Place} (p : List ℕ) (o : Option Ty) → type_on p (place_ty t from) ≡ o → (f : Found)
-    → ((q : Option Ty) → FoundTells t f q) → FoundLands t row f → found_as row f ≡ walked t row from p → Goes t row from p (or_no_place (is_some o) f)
+refused-goes : {t row : List ℕ} {from : Place} (p : List ℕ) (o : Option Ty) → type_on p (place_ty t from) ≡ o → (f : Answered)
+    → bad (refusal_means f) ≡ walked t row from p → Goes t row from p (Err (or_no_place (is_some o) f))
 unfolding found_as
-refused-goes p none e f h l m = record { means = rw e; tells = tt; lands = tt }
-refused-goes p (some y) e f h l m = record { means = rw e m; tells = h _; lands = l }
+refused-goes p none e f m = record { means = rw e; tells = tt; lands = tt }
+refused-goes p (some y) e f m = record { means = rw e m; tells = tt; lands = tt }
 
 some-seen : {o : Option Ty} {y : Ty} → o ≡ some y → (w : Seen) → w ≡ seen_in o w
 some-seen e w = rw e
@@ -194,22 +196,22 @@ module _ {t row : List ℕ} {path : Path} {from at : Place} {k : ℕ} (O : OnWal
   walk-asked = record { is = O.rests.is; few = O.few }
 
   -- f, or what the schema alone shows
-  refused : {r : Found} (f : Found) → r ≡ or_no_place (is_on t at.opened path k) f → ((q : Option Ty) → FoundTells t f q) → FoundLands t row f
-      → found_as row f ≡ walked t row from (path_of path) → Goes t row from (path_of path) r
-  refused f e h l m = rw (e, ← O.kin) (refused-goes (path_of path) (type_on (path_of path) (place_ty t from)) refl f h l m)
+  refused : {r : Answered} (f : Answered) → r ≡ or_no_place (is_on t at.opened path k) f → bad (refusal_means f) ≡ walked t row from (path_of path)
+      → Goes t row from (path_of path) (Err r)
+  refused f e m = rw (e, ← O.kin) (refused-goes (path_of path) (type_on (path_of path) (place_ty t from)) refl f m)
 
   pub walk-fails : {b : Bool} → b ≡ holds_of (place_ty t at) (bytes_of row at) → not b ≡ true → {q : ℕ} → Breaks at q
-      → {r : Found} → r ≡ or_no_place (is_on t at.opened path k) (FBroken q) → Goes t row from (path_of path) r
+      → {r : Answered} → r ≡ or_no_place (is_on t at.opened path k) (F.Layout q) → Goes t row from (path_of path) (Err r)
   unfolding found_as
   walk-fails g h u e =
       let w = walk_no (drop k (path_of path)) _ _ _ _ (sym g ∙ not-true _ h) in
-      refused _ e (λ _. tt) tt (ap (λ (n : ℕ). bad (broken_at n)) (u t row O.rests) ∙ sym (O.same ∙ w))
+      refused _ e (ap (λ (n : ℕ). bad (broken_at n)) (u t row O.rests) ∙ sym (O.same ∙ w))
 
   module _ {b : Bool} (g : b ≡ holds_of (place_ty t at) (bytes_of row at)) (h : not b ≡ false) where
     stands : PlaceHolds t row at
     stands = record { rests = O.rests; holds = sym g ∙ not-false _ h }
 
-    pub walk-done : path.len ≤ k → Goes t row from (path_of path) (At at)
+    pub walk-done : path.len ≤ k → Goes t row from (path_of path) (Ok (At at))
     unfolding found_as type_on
     walk-done n =
         let y : type_on (path_of path) (place_ty t from) ≡ some (place_ty t at) = O.kin ∙ rw (step_end path k n) in
@@ -226,28 +228,22 @@ module _ {t row : List ℕ} {path : Path} {from at : Place} {k : ℕ} (S : OnSte
   pub step_fits : Fits w64 (k + 1)
   step_fits = omega (arith, S.walk.few, S.more)
 
-  module _ {i : ℕ} (q : i ≡ get_or path.steps k 0) {r : Next} (m : Steps t row at i r) where
+  module _ {i : ℕ} (q : i ≡ get_or path.steps k 0) {r : Result Found Answered} (m : Steps t row at i r) where
     goes : walked t row from (path_of path) ≡ onward (drop (suc k) (path_of path)) (next_as t row r)
     goes = S.walk.same ∙ rw (step-on path k S.more i q, m.means) (walk-on i _ _ _ _ _ S.stands.holds)
 
-    pub walk-nowhere : r ≡ Nowhere → Goes t row from (path_of path) NoPlace
+    pub walk-stops : {j : Answered} → r ≡ Err j → {f : Answered} → f ≡ or_no_place (is_on t at.opened path k) j → Goes t row from (path_of path) (Err f)
     unfolding found_as next_as
-    walk-nowhere u =
-        let w : walked t row from (path_of path) ≡ bad (numbered 5) = goes ∙ rw u (on-stop _ (numbered 5)) in
-        record { means = rw w (five-seen (type_on (path_of path) (place_ty t from))); tells = tt; lands = tt }
+    walk-stops {j} u e = refused S.walk _ e (sym (goes ∙ rw u (on-stop _ (refusal_means j))))
 
-    pub walk-broken : {j : ℕ} → r ≡ Broken j → {f : Found} → f ≡ or_no_place (is_on t at.opened path k) (FBroken j) → Goes t row from (path_of path) f
-    unfolding found_as next_as
-    walk-broken {j} u e = refused S.walk _ e (λ _. tt) tt (sym (goes ∙ rw u (on-stop _ (broken_at j))))
-
-    module _ {x : TypeParts} {z : Seat} (u : r ≡ Null x z) where
+    module _ {x : TypeParts} {z : Seat} (u : r ≡ Ok (Null x z)) where
       null-in : NullIn t row x z
       null-in = rw u at m.lands
 
       null-tells : some (open_ty t x) ≡ type_on (i ∷ []) (place_ty t at)
       null-tells = rw u at m.tells
 
-      pub walk-null : k + 1 ≡ path.len → Goes t row from (path_of path) (FNull x z)
+      pub walk-null : k + 1 ≡ path.len → Goes t row from (path_of path) (Ok (Null x z))
       unfolding found_as next_as go_on
       walk-null v =
           let l : path.len ≤ suc k = omega arith in
@@ -255,13 +251,13 @@ module _ {t row : List ℕ} {path : Path} {from at : Place} {k : ℕ} (S : OnSte
           S.walk.kin ∙ rw (step-on path k S.more i q, step_end path (suc k) l) (sym null-tells) in
           record { means = sym (goes ∙ rw (u, step_end path (suc k) l)) ∙ some-seen y _; tells = sym y; lands = null-in }
 
-      pub walk-under : (k + 1 ≡ path.len → ⊥) → {f : Found} → f ≡ or_no_place (is_on t at.opened path k) NullBefore → Goes t row from (path_of path) f
+      pub walk-under : (k + 1 ≡ path.len → ⊥) → {f : Answered} → f ≡ or_no_place (is_on t at.opened path k) F.NullBefore → Goes t row from (path_of path) (Err f)
       unfolding found_as next_as go_on
       walk-under v e =
           let l : suc k < path.len = omega (arith, S.more) in
-          refused S.walk _ e (λ _. tt) tt (sym (goes ∙ rw (u, step-on path (suc k) l (get_or path.steps (suc k) 0) refl)))
+          refused S.walk _ e (sym (goes ∙ rw (u, step-on path (suc k) l (get_or path.steps (suc k) 0) refl)))
 
-    pub walk-to : {p : Place} → r ≡ To p → OnWalk t row path from p (k + 1)
+    pub walk-to : {p : Place} → r ≡ Ok (At p) → OnWalk t row path from p (k + 1)
     unfolding next_as
     walk-to u = record {
       few = S.walk.few;
@@ -273,7 +269,7 @@ module _ {t row : List ℕ} {path : Path} {from at : Place} {k : ℕ} (S : OnSte
 
 -- ---- from the root
 
-pub find-long : (t row : List ℕ) (path : Path) → 16 < path.len → Finds t row (path_of path) NoPlace
+pub find-long : (t row : List ℕ) (path : Path) → 16 < path.len → Finds t row (path_of path) (Err F.NoPlace)
 unfolding found_as placed
 find-long t row path h =
     record { means = rw (assert-no (dec_le (length (path_of path)) 16) _ (λ l. omega (arith, length-path path))); tells = tt; lands = tt }
@@ -301,5 +297,5 @@ module _ (path : Path) {t row : List ℕ} (O : Open t row) (h : path.len ≤ 16)
   unfolding placed
   placed-is = rw (assert-yes (dec_le (length (path_of path)) 16) (rw (length-path path) h))
 
-  pub root-finds : {f : Found} → Goes t row root_place (path_of path) f → Finds t row (path_of path) f
+  pub root-finds : {f : Result Found Answered} → Goes t row root_place (path_of path) f → Finds t row (path_of path) f
   root-finds w = record { means = rw placed-is (rw (ty, part-whole row) at w.means); tells = rw placed-is (rw ty at w.tells); lands = w.lands }

@@ -27,7 +27,7 @@ use Rattle.reading.specs.Children.{wide_of}
 use Rattle.reading.specs.Opening.{held_ty, values_ty, open_ty, Kinded, Both, Fields, OpenIs, Opens, FieldIn, IsField, either_of, IsEither, Lots}
 use Rattle.reading.specs.Opening.{Kin, OfKind, OfMap, OfStruct}
 use Rattle.reading.specs.declared.TypeParts.{TypeParts}
-use Rattle.reading.specs.declared.Lot.TheVariants.{Nowhere, Of}
+use Rattle.std.specs.Prelude.{Some, None}
 
 -- ---- its type by its kind
 
@@ -316,10 +316,10 @@ module _ {t : List ℕ} {x : TypeParts} (O : OpenIs t x) (i : ℕ) where
 pub of_struct : {t : List ℕ} {x : TypeParts} → OpenIs t x → x.kind ≡ 11 → {n i : ℕ} → n ≡ count_in x.entry → i < n → OfStruct t x i
 of_struct O e q h = record { of = record { is = O; kind = e }; within = rw (← q) h }
 
-pub lot-none : {t : List ℕ} {o : Option Ty} → none ≡ o → Lots t Nowhere o
+pub lot-none : {t : List ℕ} {o : Option Ty} → none ≡ o → Lots t None o
 lot-none e = record { means = e; is = tt }
 
-pub lot-kin : {t : List ℕ} {x r : TypeParts} {i : ℕ} → Kin t x i r → Lots t (Of r) (type_on (i ∷ []) (open_ty t x))
+pub lot-kin : {t : List ℕ} {x r : TypeParts} {i : ℕ} → Kin t x i r → Lots t (Some r) (type_on (i ∷ []) (open_ty t x))
 lot-kin k = record { means = k.same; is = k.is }
 
 -- ---- the root

@@ -27,7 +27,11 @@ use Rattle.reading.specs.Children.{wide_of, child_as, SeatIn, ChildIn, SlotOf, P
 use Rattle.reading.specs.Places.{slot_width}
 use Rattle.reading.specs.declared.Seat.{Seat}
 use Rattle.reading.specs.declared.Child.{Child}
-use Rattle.reading.specs.declared.Child.TheVariants.{Broken, Null, At}
+use Rattle.reading.specs.declared.Child.TheVariants.{Null, At}
+use Rattle.std.specs.Prelude.{Result, Ok, Err}
+use Rattle.answers.specs.declared.Refusal.{Refusal as Answered}
+use Rattle.answers.specs.declared.Refusal.TheVariants as F
+use Rattle.answers.specs.Meaning.{refusal_means}
 
 pub step-no : {P : Type 0} (q : Dec P) (n : Refusal) (s : W.Step) → (P → ⊥) → must_step q n s ≡ stop n
 unfolding must_step
@@ -87,16 +91,16 @@ module _ {row : List ℕ} {base size : ℕ} {s : Seat} (P : SlotOf row base size
   whole : length (part row base size) ≡ size
   whole = length_part row base size P.within
 
-  pub pointed-low : {f : ℕ} → off < f → Points row base size f s (Broken s.slot)
+  pub pointed-low : {f : ℕ} → off < f → Points row base size f s (Err (F.Layout s.slot))
   unfolding child_as by_slot
   pointed-low h = record { means = λ t. rw (slot-number, ← o, ← l) (sym (step-no _ (broken_at s.slot) _ (λ q. omega arith))); lands = tt }
 
-  pub pointed-odd : {f : ℕ} → f ≤ off → (off % 8 ≡ 0 → ⊥) → Points row base size f s (Broken s.slot)
+  pub pointed-odd : {f : ℕ} → f ≤ off → (off % 8 ≡ 0 → ⊥) → Points row base size f s (Err (F.Layout s.slot))
   unfolding child_as by_slot
   pointed-odd h k =
       record { means = λ t. rw (slot-number, ← o, ← l) (sym (must-step _ (broken_at s.slot) _ h ∙ step-no _ (broken_at s.slot) _ k)); lands = tt }
 
-  pub pointed-long : {f : ℕ} → f ≤ off → off % 8 ≡ 0 → size < off + len → Points row base size f s (Broken s.slot)
+  pub pointed-long : {f : ℕ} → f ≤ off → off % 8 ≡ 0 → size < off + len → Points row base size f s (Err (F.Layout s.slot))
   unfolding child_as by_slot
   pointed-long h k m =
       record {
@@ -105,7 +109,7 @@ module _ {row : List ℕ} {base size : ℕ} {s : Seat} (P : SlotOf row base size
         lands = tt;
       }
 
-  pub pointed-at : {f : ℕ} → f ≤ off → off % 8 ≡ 0 → off + len ≤ size → Points row base size f s (At s (base + off) len)
+  pub pointed-at : {f : ℕ} → f ≤ off → off % 8 ≡ 0 → off + len ≤ size → Points row base size f s (Ok (At s (base + off) len))
   unfolding child_as by_slot
   pointed-at h k m = record {
     means = λ t. rw (slot-number, ← o, ← l, whole, part-part row base size off len m)
@@ -161,7 +165,7 @@ module _ {row : List ℕ} {base size h n w v i : ℕ} (s : IsChild row base size
         (bit-num (base + h) (bitmap n) i b (omega (arith, s.child)) ∙ sym e)
 
     module _ (b : Bytes row) {t : Bool} (e : t ≡ bit row (base + h) i) where
-      pub null-child : t ≡ true → Comes row base size h n w v i (Null (seat_in m))
+      pub null-child : t ≡ true → Comes row base size h n w v i (Ok (Null (seat_in m)))
       unfolding child_as W.child by_flag
       null-child g =
           let z : num (part (part row base size) h (bitmap n)) / 2 ^ i % 2 ≡ 1 = eqb-true _ 1 (flag_is b _ e ∙ g) in
@@ -179,7 +183,7 @@ module _ {row : List ℕ} {base size h n w v i : ℕ} (s : IsChild row base size
         wide_is : (y : Ty) (k : ℕ) → wide_of y ≡ k → (codec y).wide ≡ wide_opt k
         wide_is y k u = wide-codec y ∙ ap wide_opt u
 
-        pub far-child : v ≡ 0 → {f : ℕ} → f ≡ front h w n → {r : Child} → Points row base size f (seat_in m) r → Comes row base size h n w v i r
+        pub far-child : v ≡ 0 → {f : ℕ} → f ≡ front h w n → {r : Result Child Answered} → Points row base size f (seat_in m) r → Comes row base size h n w v i r
         far-child z {f} u {r} k = record {
           means = λ y p.
               let j : base + (h + (bitmap n + i * w)) - base ≡ h + (bitmap n + i * w) = omega arith in
@@ -188,10 +192,10 @@ module _ {row : List ℕ} {base size h n w v i : ℕ} (s : IsChild row base size
           lands = lift r k.lands;
         }
           where
-            lift : (r : Child) → ChildIn row 0 r → ChildIn row v r
-            lift (Broken k) l = tt
-            lift (Null x) l = record { flag = l.flag; room = l.room; wide = rw z l.wide }
-            lift (At x o c) l =
+            lift : (r : Result Child Answered) → ChildIn row 0 r → ChildIn row v r
+            lift (Err k) l = tt
+            lift (Ok (Null x)) l = record { flag = l.flag; room = l.room; wide = rw z l.wide }
+            lift (Ok (At x o c)) l =
                 record { within = l.within; sized = inl z; seated = record { flag = l.seated.flag; room = l.seated.room; wide = rw z l.seated.wide } }
 
         near : (v ≡ 0 → ⊥) → wide_opt v ≡ some v
@@ -201,7 +205,7 @@ module _ {row : List ℕ} {base size h n w v i : ℕ} (s : IsChild row base size
             go zero z = absurd (z refl)
             go (suc k) z = refl
 
-        pub near-child : (v ≡ 0 → ⊥) → Comes row base size h n w v i (At (seat_in m) (base + (h + (m + i * w))) v)
+        pub near-child : (v ≡ 0 → ⊥) → Comes row base size h n w v i (Ok (At (seat_in m) (base + (h + (m + i * w))) v))
         unfolding child_as by_slot
         near-child z = record {
           means = λ y p.

@@ -43,7 +43,10 @@ use Rattle.reading.specs.Texts.{count_of, Showable, show_of, InRow, Reads, PartO
 use Rattle.reading.specs.declared.TypeParts.{TypeParts}
 use Rattle.reading.specs.declared.Place.{Place}
 use Rattle.reading.specs.declared.Found.{Found}
-use Rattle.reading.specs.declared.Found.TheVariants.{NoPlace, NullBefore, Broken, Null, At}
+use Rattle.reading.specs.declared.Found.TheVariants.{Null, At}
+use Rattle.std.specs.Prelude.{Result, Ok, Err}
+use Rattle.answers.specs.declared.Refusal.{Refusal as Answered}
+use Rattle.answers.specs.Meaning.{refusal_means, Read, read_means}
 use Rattle.reading.proofs.Opening.{ty-fixed, ty-text, ty-list, ty-map, ty_struct, struct_left}
 use Rattle.reading.proofs.Rules.{rest-leaf, rest-row, rest-size, header_is, list-says}
 
@@ -198,11 +201,11 @@ module _ (row : List ℕ) (x : TypeParts) (o : ℕ) where
 
 -- ---- the refusals in their order
 
-pub read-long : (t row p : List ℕ) → Table t → 16384 < length row → Reads (schema_of t) row p (A.Refused F.TooLong)
+pub read-long : (t row p : List ℕ) → Table t → 16384 < length row → Reads (schema_of t) row p (Err F.TooLong)
 unfolding read_of
 read-long t row p T h = record { means = rw (T.accepted, lt-leb (length row) 16384 h); within = rw (T.accepted, lt-leb (length row) 16384 h) tt }
 
-module _ {t row p : List ℕ} (O : Open t row) {r : Found} (G : Finds t row p r) where
+module _ {t row p : List ℕ} (O : Open t row) {r : Result Found Answered} (G : Finds t row p r) where
   abbrev s : List ℕ
   s = schema_of t
 
@@ -222,17 +225,10 @@ module _ {t row p : List ℕ} (O : Open t row) {r : Found} (G : Finds t row p r)
   refused : (n : Refusal) → found_as row r ≡ bad n → read_of s row p ≡ R.refused n
   refused n e = read_is ∙ refuses (placed p (root_ty t)) _ n (sym e ∙ G.means)
 
-  pub read-nowhere : r ≡ NoPlace → Reads s row p (A.Refused F.NoPlace)
+  pub read-refused : {f : Answered} → r ≡ Err f → Reads s row p (Err f)
   unfolding found_as
-  read-nowhere e = let q : read_of s row p ≡ R.refused (numbered 5) = refused (numbered 5) (rw e) in record { means = sym q; within = rw q tt }
-
-  pub read_under : r ≡ NullBefore → Reads s row p (A.Refused F.NullBefore)
-  unfolding found_as
-  read_under e = let q : read_of s row p ≡ R.refused (numbered 6) = refused (numbered 6) (rw e) in record { means = sym q; within = rw q tt }
-
-  pub read-broken : {j : ℕ} → r ≡ Broken j → Reads s row p (A.Refused (F.Layout j))
-  unfolding found_as
-  read-broken {j} e = let q : read_of s row p ≡ R.refused (broken_at j) = refused (broken_at j) (rw e) in record { means = sym q; within = rw q tt }
+  read-refused {f} e =
+      let q : read_of s row p ≡ R.refused (refusal_means f) = refused (refusal_means f) (rw e) in record { means = sym q; within = rw q tt }
 
   -- at a place of a type
   finds : (y : Ty) → some y ≡ placed p (root_ty t) → read_of s row p ≡ answer_of y (found_as row r)
@@ -247,20 +243,20 @@ module _ {t row p : List ℕ} (O : Open t row) {r : Found} (G : Finds t row p r)
   null_is (ma k v) z = refl
   null_is (ro ts) z = refl
 
-  pub read-null : {x : TypeParts} {z : _} → r ≡ Null x z → Reads s row p A.Null
+  pub read-null : {x : TypeParts} {z : _} → r ≡ Ok (Null x z) → Reads s row p (Ok A.Null)
   unfolding found_as
   read-null {x} {z} e =
       let q : read_of s row p ≡ R.null = finds (open_ty t x) (rw e at G.tells) ∙ rw e (null_is (open_ty t x) (seat_as z)) in
       record { means = sym q; within = rw q tt }
 
-  module _ {y : Place} (e : r ≡ At y) where
+  module _ {y : Place} (e : r ≡ Ok (At y)) where
     found-stands : PlaceHolds t row y
     found-stands = rw e at G.lands
 
     pub found-shows : Showable row y
     found-shows = stands-shows found-stands
 
-    pub read_at : {a : Answer} → meaning a ≡ show_of row y → Reads s row p a
+    pub read_at : {a : Answer} → meaning a ≡ show_of row y → Reads s row p (Ok a)
     unfolding found_as
     read_at m =
         let q : read_of s row p ≡ show_of row y = finds (place_ty t y) (rw e at G.tells) ∙ rw e (sym (shown-as found-stands)) in
@@ -269,17 +265,17 @@ module _ {t row p : List ℕ} (O : Open t row) {r : Found} (G : Finds t row p r)
 -- ---- a text with its stand-in
 
 -- an answer that is no byte range
-abbrev pub NoText : Answer → Type 0
-NoText A.Null = Unit {0}
-NoText (A.Bool v) = Unit {0}
-NoText (A.Number z) = Unit {0}
-NoText (A.Float32 x) = Unit {0}
-NoText (A.Float32Nan b) = Unit {0}
-NoText (A.Float64 x) = Unit {0}
-NoText (A.Float64Nan b) = Unit {0}
-NoText (A.Bytes o n) = ⊥
-NoText (A.Container o n k) = Unit {0}
-NoText (A.Refused r) = Unit {0}
+abbrev pub NoText : Read → Type 0
+NoText (Ok A.Null) = Unit {0}
+NoText (Ok (A.Bool v)) = Unit {0}
+NoText (Ok (A.Number z)) = Unit {0}
+NoText (Ok (A.Float32 x)) = Unit {0}
+NoText (Ok (A.Float32Nan b)) = Unit {0}
+NoText (Ok (A.Float64 x)) = Unit {0}
+NoText (Ok (A.Float64Nan b)) = Unit {0}
+NoText (Ok (A.Bytes o n)) = ⊥
+NoText (Ok (A.Container o n k)) = Unit {0}
+NoText (Err r) = Unit {0}
 
 module _ (row other : Bor (List ℕ)) where
   float-stands : (b : Bool) (f : Format) (n : ℕ) → TextOf (cond b (float f n) no_answer) row other other
@@ -287,19 +283,19 @@ module _ (row other : Bor (List ℕ)) where
   float-stands true binary64 n = refl
   float-stands false f n = refl
 
-  stands : (r : Answer) → NoText r → TextOf (meaning r) row other other
-  stands A.Null h = refl
-  stands (A.Bool v) h = refl
-  stands (A.Number z) h = refl
-  stands (A.Float32 x) h = float-stands (plain binary32 x) binary32 (to_bits binary32 x)
-  stands (A.Float32Nan b) h = float-stands (nan_bits binary32 b) binary32 b
-  stands (A.Float64 x) h = float-stands (plain binary64 x) binary64 (to_bits binary64 x)
-  stands (A.Float64Nan b) h = float-stands (nan_bits binary64 b) binary64 b
-  stands (A.Bytes o n) h = absurd h
-  stands (A.Container o n k) h = refl
-  stands (A.Refused r) h = refl
+  stands : (r : Read) → NoText r → TextOf (read_means r) row other other
+  stands (Ok A.Null) h = refl
+  stands (Ok (A.Bool v)) h = refl
+  stands (Ok (A.Number z)) h = refl
+  stands (Ok (A.Float32 x)) h = float-stands (plain binary32 x) binary32 (to_bits binary32 x)
+  stands (Ok (A.Float32Nan b)) h = float-stands (nan_bits binary32 b) binary32 b
+  stands (Ok (A.Float64 x)) h = float-stands (plain binary64 x) binary64 (to_bits binary64 x)
+  stands (Ok (A.Float64Nan b)) h = float-stands (nan_bits binary64 b) binary64 b
+  stands (Ok (A.Bytes o n)) h = absurd h
+  stands (Ok (A.Container o n k)) h = refl
+  stands (Err r) h = refl
 
-  pub stand-in : {s p : List ℕ} {r : Answer} → Reads s row.now p r → (q : Answer) → r ≡ q → NoText q
+  pub stand-in : {s p : List ℕ} {r : Read} → Reads s row.now p r → (q : Read) → r ≡ q → NoText q
       → TextOf (read_of s row.now p) row other other
   stand-in R q e h = rw (← R.means, e) (stands q h)
 
@@ -307,9 +303,9 @@ module _ (row other : Bor (List ℕ)) where
 pub part_end : (row : List ℕ) (o n : ℕ) → take (o + n - o) (drop o row) ≡ part row o n
 part_end row o n = let e : o + n - o ≡ n = omega arith in ap (λ (m : ℕ). take m (drop o row)) e
 
-pub text-room : {s row p : List ℕ} {r : Answer} → Reads s row p r → {o n : ℕ} → r ≡ A.Bytes o n → o + n ≤ length row
-text-room {s} {row} R e = subst (InRow row) (sym R.means ∙ ap meaning e) R.within
+pub text-room : {s row p : List ℕ} {r : Read} → Reads s row p r → {o n : ℕ} → r ≡ Ok (A.Bytes o n) → o + n ≤ length row
+text-room {s} {row} R e = subst (InRow row) (sym R.means ∙ ap read_means e) R.within
 
-pub text-is : (row other x : Bor (List ℕ)) {s p : List ℕ} {r : Answer} → Reads s row.now p r → {o n : ℕ} → r ≡ A.Bytes o n
+pub text-is : (row other x : Bor (List ℕ)) {s p : List ℕ} {r : Read} → Reads s row.now p r → {o n : ℕ} → r ≡ Ok (A.Bytes o n)
     → PartOf row x o n → TextOf (read_of s row.now p) row other x
 text-is row other x R e h = rw (← R.means, e) h

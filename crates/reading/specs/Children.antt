@@ -9,7 +9,10 @@ use Rattle.layout.specs.Walk as W
 use Rattle.layout.specs.Walk.{stop, to_null, into, by_slot}
 use Rattle.reading.specs.declared.Seat.{Seat}
 use Rattle.reading.specs.declared.Child.{Child}
-use Rattle.reading.specs.declared.Child.TheVariants.{Broken, Null, At}
+use Rattle.reading.specs.declared.Child.TheVariants.{Null, At}
+use Rattle.std.specs.Prelude.{Result, Ok, Err}
+use Rattle.answers.specs.declared.Refusal.{Refusal}
+use Rattle.answers.specs.Meaning.{refusal_means}
 
 -- the seat as the layout has it
 abbrev pub seat_as : Seat → W.Seat
@@ -24,10 +27,10 @@ wide_of (ma k v) = 0
 wide_of (ro ts) = 0
 
 -- what the code found of a child of type t, as a step of the walk
-unfoldable pub child_as : Ty → List ℕ → Child → W.Step
-child_as t row (Broken q) = stop (broken_at q)
-child_as t row (Null s) = to_null (seat_as s)
-child_as t row (At s o k) = into t (seat_as s) o (part row o k)
+unfoldable pub child_as : Ty → List ℕ → Result Child Refusal → W.Step
+child_as t row (Err r) = stop (refusal_means r)
+child_as t row (Ok (Null s)) = to_null (seat_as s)
+child_as t row (Ok (At s o k)) = into t (seat_as s) o (part row o k)
 
 -- the seat's bit and slot lie in the row, and the slot has room for v bytes
 pub record SeatIn (row : List ℕ) (v : ℕ) (s : Seat) : Type 0 where
@@ -41,10 +44,10 @@ pub record Lies (row : List ℕ) (v : ℕ) (s : Seat) (o k : ℕ) : Type 0 where
   pub sized : (v ≡ 0) ⊎ (k ≡ v)
   pub seated : SeatIn row v s
 
-abbrev pub ChildIn : List ℕ → ℕ → Child → Type 0
-ChildIn row v (Broken q) = Unit {0}
-ChildIn row v (Null s) = SeatIn row v s
-ChildIn row v (At s o k) = Lies row v s o k
+abbrev pub ChildIn : List ℕ → ℕ → Result Child Refusal → Type 0
+ChildIn row v (Err r) = Unit {0}
+ChildIn row v (Ok (Null s)) = SeatIn row v s
+ChildIn row v (Ok (At s o k)) = Lies row v s o k
 
 -- a seat whose slot of 8 bytes lies in the container of size bytes at base
 pub record SlotOf (row : List ℕ) (base size : ℕ) (s : Seat) : Type 0 where
@@ -55,7 +58,7 @@ pub record SlotOf (row : List ℕ) (base size : ℕ) (s : Seat) : Type 0 where
   pub seated : SeatIn row 0 s
 
 -- where the slot points, for a child of any type that varies
-pub record Points (row : List ℕ) (base size fixed : ℕ) (s : Seat) (r : Child) : Type 0 where
+pub record Points (row : List ℕ) (base size fixed : ℕ) (s : Seat) (r : Result Child Refusal) : Type 0 where
   pub means : (t : Ty) → child_as t row r ≡ by_slot none t (seat_as s) fixed base (s.slot - base) (part row base size)
   pub lands : ChildIn row 0 r
 
@@ -71,6 +74,6 @@ pub record IsChild (row : List ℕ) (base size h n w v i : ℕ) : Type 0 where
   pub points : v ≡ 0 → w ≡ 8
 
 -- the child, of any type of v bytes, as the walk has it
-pub record Comes (row : List ℕ) (base size h n w v i : ℕ) (r : Child) : Type 0 where
+pub record Comes (row : List ℕ) (base size h n w v i : ℕ) (r : Result Child Refusal) : Type 0 where
   pub means : (t : Ty) → wide_of t ≡ v → child_as t row r ≡ W.child h w n t i base (part row base size)
   pub lands : ChildIn row v r

@@ -1,10 +1,10 @@
 -- What a walk along a path comes to, and what that means. Assumes nothing: these are definitions.
-use Rattle.std.specs.Prelude.{◌≡◌, Bool, List, ℕ, ◌≤◌, length, drop}
+use Rattle.std.specs.Prelude.{◌≡◌, Bool, List, ℕ, ◌≤◌, length, drop, Result, Ok, Err}
 use Rattle.std.proofs.Math.Option.{Option, none, some}
 use Rattle.schema.specs.Kinds.{pick}
 use Rattle.schema.specs.Types.{Ty, ro}
 use Rattle.schema.specs.Walk.{fields_of}
-use Rattle.layout.specs.Refusals.{numbered, broken_at}
+use Rattle.layout.specs.Refusals.{numbered}
 use Rattle.layout.specs.Walk.{Seen, bad, null_at, seen, root_seat, walk}
 use Rattle.layout.specs.Reading.{type_along as type_on, placed}
 use Rattle.layout.specs.Setting.{is_some}
@@ -17,33 +17,30 @@ use Rattle.reading.specs.Places.{place_ty, bytes_of, NullIn, Rests, PlaceHolds}
 use Rattle.reading.specs.declared.TypeParts.{TypeParts}
 use Rattle.reading.specs.declared.Place.{Place}
 use Rattle.reading.specs.declared.Found.{Found}
-use Rattle.reading.specs.declared.Found.TheVariants.{NoPlace, NullBefore, Broken, Null, At}
+use Rattle.reading.specs.declared.Found.TheVariants.{Null, At}
+use Rattle.answers.specs.declared.Refusal.{Refusal}
+use Rattle.answers.specs.declared.Refusal.TheVariants.{NoPlace}
+use Rattle.answers.specs.Meaning.{refusal_means}
 
 -- ---- what was found
 
 -- as the walk sees it
-unfoldable pub found_as : List ℕ → Found → Seen
-found_as row NoPlace = bad (numbered 5)
-found_as row NullBefore = bad (numbered 6)
-found_as row (Broken q) = bad (broken_at q)
-found_as row (Null x z) = null_at (seat_as z)
-found_as row (At p) = seen (seat_as p.seat) p.start (bytes_of row p)
+unfoldable pub found_as : List ℕ → Result Found Refusal → Seen
+found_as row (Err r) = bad (refusal_means r)
+found_as row (Ok (Null x z)) = null_at (seat_as z)
+found_as row (Ok (At p)) = seen (seat_as p.seat) p.start (bytes_of row p)
 
 -- the type of the null or of the place is o
-abbrev pub FoundTells : List ℕ → Found → Option Ty → Type 0
-FoundTells t NoPlace o = Unit {0}
-FoundTells t NullBefore o = Unit {0}
-FoundTells t (Broken q) o = Unit {0}
-FoundTells t (Null x z) o = some (open_ty t x) ≡ o
-FoundTells t (At p) o = some (place_ty t p) ≡ o
+abbrev pub FoundTells : List ℕ → Result Found Refusal → Option Ty → Type 0
+FoundTells t (Err r) o = Unit {0}
+FoundTells t (Ok (Null x z)) o = some (open_ty t x) ≡ o
+FoundTells t (Ok (At p)) o = some (place_ty t p) ≡ o
 
 -- it lies in the row, and its own rules hold
-abbrev pub FoundLands : List ℕ → List ℕ → Found → Type 0
-FoundLands t row NoPlace = Unit {0}
-FoundLands t row NullBefore = Unit {0}
-FoundLands t row (Broken q) = Unit {0}
-FoundLands t row (Null x z) = NullIn t row x z
-FoundLands t row (At p) = PlaceHolds t row p
+abbrev pub FoundLands : List ℕ → List ℕ → Result Found Refusal → Type 0
+FoundLands t row (Err r) = Unit {0}
+FoundLands t row (Ok (Null x z)) = NullIn t row x z
+FoundLands t row (Ok (At p)) = PlaceHolds t row p
 
 -- ---- what is asked
 
@@ -68,9 +65,9 @@ pub record Asks (t row : List ℕ) (p : Place) (path : Path) : Type 0 where
 abbrev pub is_on : List ℕ → TypeParts → Path → ℕ → Bool
 is_on t x path done = is_some (type_on (drop done (path_of path)) (open_ty t x))
 
--- and f, or that there is no such place
-abbrev pub or_no_place : Bool → Found → Found
-or_no_place b f = pick b f NoPlace
+-- and r, or that there is no such place
+abbrev pub or_no_place : Bool → Refusal → Refusal
+or_no_place b r = pick b r NoPlace
 
 -- 5 for what the schema alone shows; then the walk
 abbrev pub seen_in : Option Ty → Seen → Seen
@@ -78,7 +75,7 @@ seen_in none w = bad (numbered 5)
 seen_in (some t) w = w
 
 -- the path p from a place
-pub record Goes (t row : List ℕ) (from : Place) (p : List ℕ) (r : Found) : Type 0 where
+pub record Goes (t row : List ℕ) (from : Place) (p : List ℕ) (r : Result Found Refusal) : Type 0 where
   pub means : found_as row r ≡ seen_in (type_on p (place_ty t from)) (walk p (place_ty t from) (seat_as from.seat) from.start (bytes_of row from))
   pub tells : FoundTells t r (type_on p (place_ty t from))
   pub lands : FoundLands t row r
@@ -87,7 +84,7 @@ pub record Goes (t row : List ℕ) (from : Place) (p : List ℕ) (r : Found) : T
 abbrev pub root_ty : List ℕ → Ty
 root_ty t = ro (fields_of (schema_of t))
 
-pub record Finds (t row p : List ℕ) (r : Found) : Type 0 where
+pub record Finds (t row p : List ℕ) (r : Result Found Refusal) : Type 0 where
   pub means : found_as row r ≡ seen_in (placed p (root_ty t)) (walk p (root_ty t) root_seat 0 row)
   pub tells : FoundTells t r (placed p (root_ty t))
   pub lands : FoundLands t row r

@@ -9,8 +9,8 @@ use Rattle.layout.specs.Reading.{type_along as type_on}
 use Rattle.table.specs.Words.{Lined, place_in, width_in, count_in}
 use Rattle.table.specs.Tables.{Table, schema_of, pos_of}
 use Rattle.reading.specs.declared.TypeParts.{TypeParts}
-use Rattle.reading.specs.declared.Lot.{Lot}
-use Rattle.reading.specs.declared.Lot.TheVariants.{Nowhere, Of}
+use Rattle.std.specs.Prelude.{Some, None}
+use Rattle.std.specs.Prelude as P
 
 -- No type of an accepted schema is more than eight deep, and what one holds is at most seven deep: the type at a place that another holds,
 abbrev pub held_ty : List ℕ → ℕ → Ty
@@ -78,16 +78,16 @@ IsEither t first i c = pos_of t c ≡ either_of i (pos_of t first) (next_at (sch
 
 -- ---- a step by the schema alone
 
-abbrev pub lot_as : List ℕ → Lot → Option Ty
-lot_as t Nowhere = none
-lot_as t (Of x) = some (open_ty t x)
+abbrev pub lot_as : List ℕ → P.Option TypeParts → Option Ty
+lot_as t None = none
+lot_as t (Some x) = some (open_ty t x)
 
-abbrev pub LotIs : List ℕ → Lot → Type 0
-LotIs t Nowhere = Unit {0}
-LotIs t (Of x) = OpenIs t x
+abbrev pub LotIs : List ℕ → P.Option TypeParts → Type 0
+LotIs t None = Unit {0}
+LotIs t (Some x) = OpenIs t x
 
 -- what was found is the type o
-pub record Lots (t : List ℕ) (r : Lot) (o : Option Ty) : Type 0 where
+pub record Lots (t : List ℕ) (r : P.Option TypeParts) (o : Option Ty) : Type 0 where
   pub means : lot_as t r ≡ o
   pub is : LotIs t r
 

@@ -18,8 +18,11 @@ use Rattle.reading.specs.declared.TypeParts.{TypeParts}
 use Rattle.reading.specs.declared.Child.{Child}
 use Rattle.reading.specs.declared.Seat.{Seat}
 use Rattle.reading.specs.declared.Place.{Place}
-use Rattle.reading.specs.declared.Next.{Next}
-use Rattle.reading.specs.declared.Next.TheVariants.{Nowhere, Broken, Null, To}
+use Rattle.reading.specs.declared.Found.{Found}
+use Rattle.reading.specs.declared.Found.TheVariants.{Null, At}
+use Rattle.std.specs.Prelude.{Result, Ok, Err}
+use Rattle.answers.specs.declared.Refusal.{Refusal}
+use Rattle.answers.specs.Meaning.{refusal_means}
 
 -- the bytes of a slot in an array, for those of a type, 0 where they vary
 unfoldable pub slot_width : ℕ → ℕ
@@ -100,32 +103,29 @@ Breaks p q = (t row : List ℕ) → Rests t row p → q ≡ broken_in (place_ty 
 
 -- ---- a step in the row
 
-unfoldable pub next_as : List ℕ → List ℕ → Next → W.Step
-next_as t row Nowhere = stop (numbered 5)
-next_as t row (Broken q) = stop (broken_at q)
-next_as t row (Null x z) = to_null (seat_as z)
-next_as t row (To p) = into (place_ty t p) (seat_as p.seat) p.start (bytes_of row p)
+unfoldable pub next_as : List ℕ → List ℕ → Result Found Refusal → W.Step
+next_as t row (Err r) = stop (refusal_means r)
+next_as t row (Ok (Null x z)) = to_null (seat_as z)
+next_as t row (Ok (At p)) = into (place_ty t p) (seat_as p.seat) p.start (bytes_of row p)
 
 -- a null's type stands in the table, its seat in the row
 pub record NullIn (t row : List ℕ) (x : TypeParts) (z : Seat) : Type 0 where
   pub is : OpenIs t x
   pub seated : SeatIn row (width_in x.entry) z
 
-abbrev pub Lands : List ℕ → List ℕ → Next → Type 0
-Lands t row Nowhere = Unit {0}
-Lands t row (Broken q) = Unit {0}
-Lands t row (Null x z) = NullIn t row x z
-Lands t row (To p) = Rests t row p
+abbrev pub Lands : List ℕ → List ℕ → Result Found Refusal → Type 0
+Lands t row (Err r) = Unit {0}
+Lands t row (Ok (Null x z)) = NullIn t row x z
+Lands t row (Ok (At p)) = Rests t row p
 
 -- the type of the null or of the place is o
-abbrev pub Tells : List ℕ → Next → Option Ty → Type 0
-Tells t Nowhere o = Unit {0}
-Tells t (Broken q) o = Unit {0}
-Tells t (Null x z) o = some (open_ty t x) ≡ o
-Tells t (To p) o = some (place_ty t p) ≡ o
+abbrev pub Tells : List ℕ → Result Found Refusal → Option Ty → Type 0
+Tells t (Err r) o = Unit {0}
+Tells t (Ok (Null x z)) o = some (open_ty t x) ≡ o
+Tells t (Ok (At p)) o = some (place_ty t p) ≡ o
 
 -- the code's answer is the step z to the type o
-pub record Moves (t row : List ℕ) (r : Next) (z : W.Step) (o : Option Ty) : Type 0 where
+pub record Moves (t row : List ℕ) (r : Result Found Refusal) (z : W.Step) (o : Option Ty) : Type 0 where
   pub means : next_as t row r ≡ z
   pub lands : Lands t row r
   pub tells : Tells t r o
@@ -134,13 +134,13 @@ pub record Moves (t row : List ℕ) (r : Next) (z : W.Step) (o : Option Ty) : Ty
 pub record Enters (t row : List ℕ) (y : TypeParts) (c : Child) : Type 0 where
   pub is : OpenIs t y
   pub short : length row ≤ 16384
-  pub lands : ChildIn row (width_in y.entry) c
+  pub lands : ChildIn row (width_in y.entry) (Ok c)
 
-abbrev pub Entered : TypeParts → Child → Next → Type 0
-Entered y c r = (t row : List ℕ) → Enters t row y c → Moves t row r (child_as (open_ty t y) row c) (some (open_ty t y))
+abbrev pub Entered : TypeParts → Child → Found → Type 0
+Entered y c r = (t row : List ℕ) → Enters t row y c → Moves t row (Ok r) (child_as (open_ty t y) row (Ok c)) (some (open_ty t y))
 
 -- step i from a place
-abbrev pub Steps : List ℕ → List ℕ → Place → ℕ → Next → Type 0
+abbrev pub Steps : List ℕ → List ℕ → Place → ℕ → Result Found Refusal → Type 0
 Steps t row p i r = Moves t row r (step_in (place_ty t p) i (seat_as p.seat) p.start (bytes_of row p)) (type_on (i ∷ []) (place_ty t p))
 
 -- a place of the kind k, from which a step may be taken
@@ -152,5 +152,5 @@ pub record From (t row : List ℕ) (k : ℕ) (p : Place) : Type 0 where
 abbrev pub array_place : TypeParts → ℕ → ℕ → Place
 array_place y o n = record { opened = y; seat = record { bits = 0; number = 0; slot = o; wide = 0 }; start = o; len = n }
 
-abbrev pub array_at : TypeParts → ℕ → ℕ → Next
-array_at y o n = To (array_place y o n)
+abbrev pub array_at : TypeParts → ℕ → ℕ → Found
+array_at y o n = At (array_place y o n)

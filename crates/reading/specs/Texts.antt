@@ -8,8 +8,7 @@ use Rattle.schema.specs.Types.{fixed_at}
 use Rattle.layout.specs.Reading as R
 use Rattle.layout.specs.Reading.{value_of}
 use Rattle.layout.specs.Entries.{read_of}
-use Rattle.answers.specs.declared.Answer.{Answer}
-use Rattle.answers.specs.Meaning.{meaning}
+use Rattle.answers.specs.Meaning.{Read, read_means}
 use Rattle.table.specs.Words.{count_in}
 use Rattle.reading.specs.Places.{Leaf}
 use Rattle.reading.specs.declared.TypeParts.{TypeParts}
@@ -46,8 +45,8 @@ InRow row (R.container o n k) = Unit {0}
 InRow row (R.refused r) = Unit {0}
 
 -- the answer, and that its byte range lies in the row
-pub record Reads (s row p : List ℕ) (r : Answer) : Type 0 where
-  pub means : meaning r ≡ read_of s row p
+pub record Reads (s row p : List ℕ) (r : Read) : Type 0 where
+  pub means : read_means r ≡ read_of s row p
   pub within : InRow row (read_of s row p)
 
 -- r is the part of the row itself: it points into the row, n bytes from the byte o on

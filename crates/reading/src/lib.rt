@@ -42,49 +42,28 @@ pub struct Place {
     pub len: usize,
 }
 
-// Where a child's bytes are: its slot breaks the layout, at a byte of the row; it is null; or its start and size in the row.
+// Where a child's bytes are: it is null, or its start and size in the row.
 #[derive(Clone, Copy)]
 enum Child {
-    Broken(usize),
     Null(Seat),
     At(Seat, usize, usize),
 }
 
-// The type that a step leads to by the schema alone.
-#[derive(Clone, Copy)]
-enum Lot {
-    Nowhere,
-    Of(TypeParts),
-}
-
-// What a step comes to: no such place, a slot that breaks the layout, at a byte of the row, a null of a type, or a place.
-#[derive(Clone, Copy)]
-enum Next {
-    Nowhere,
-    Broken(usize),
-    Null(TypeParts, Seat),
-    To(Place),
-}
-
-// What a walk comes to: no such place, a null before the path's end, a place that breaks the layout, at a byte of the row, a null of a
-// type at the path's end, or the place.
+// What a step or a path leads to: a null of a type, or a place.
 #[derive(Clone, Copy)]
 pub enum Found {
-    NoPlace,
-    NullBefore,
-    Broken(usize),
     Null(TypeParts, Seat),
     At(Place),
 }
 
-// The place that a path leads to in a row. The root stands in no container, and has all of the row's bytes.
-pub fn find(t: &[u64], row: &[u8], path: Path) -> Found
+// What a path leads to in a row, or refused with 5, 6 or 7. The root stands in no container, and has all of the row's bytes.
+pub fn find(t: &[u64], row: &[u8], path: Path) -> Result<Found, Refusal>
     requires { Open t.now row.now }
     ensures { Finds t.now row.now (path_of path) result }
 {
     let n = path.len;
     if 16 < n {
-        return Found::NoPlace;
+        return Err(Refusal::NoPlace);
     }
     let opened = types::open(t, 0);
     let seat = Seat {
@@ -103,26 +82,23 @@ pub fn find(t: &[u64], row: &[u8], path: Path) -> Found
 }
 
 // The answer in a row that is not too long.
-fn look_in(t: &[u64], row: &[u8], path: Path) -> Answer
+fn look_in(t: &[u64], row: &[u8], path: Path) -> Result<Answer, Refusal>
     requires { Open t.now row.now }
     ensures { Reads (schema_of t.now) row.now (path_of path) result }
 {
-    match find(t, row, path) {
-        Found::NoPlace => Answer::Refused(Refusal::NoPlace),
-        Found::NullBefore => Answer::Refused(Refusal::NullBefore),
-        Found::Broken(place) => Answer::Refused(Refusal::Layout { place }),
-        Found::Null(_, _) => Answer::Null,
-        Found::At(p) => values::answer(row, p),
+    match find(t, row, path)? {
+        Found::Null(..) => Ok(Answer::Null),
+        Found::At(p) => Ok(values::answer(row, p)),
     }
 }
 
 // One place of a row, read by its path. A row that is too long is refused before all that its place could be refused for.
-pub fn read(t: &[u64], row: &[u8], path: Path) -> Answer
+pub fn read(t: &[u64], row: &[u8], path: Path) -> Result<Answer, Refusal>
     requires { Table t.now }
     ensures { Reads (schema_of t.now) row.now (path_of path) result }
 {
     if 16384 < row.len() {
-        return Answer::Refused(Refusal::TooLong);
+        return Err(Refusal::TooLong);
     }
     look_in(t, row, path)
 }

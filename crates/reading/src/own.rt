@@ -37,7 +37,7 @@ fn list_holds(row: &[u8], base: usize, size: usize, w: usize) -> bool
     if size < 8 {
         return false;
     }
-    let n = words::nums::get8(row, base) as usize;
+    let n = words::nums::get::<8>(row, base) as usize;
     if size < n {
         return false;
     }
@@ -52,7 +52,7 @@ fn map_holds(row: &[u8], base: usize, size: usize) -> bool
     if size < 8 {
         return false;
     }
-    let z = words::nums::get8(row, base) as usize;
+    let z = words::nums::get::<8>(row, base) as usize;
     if z & 7 != 0 {
         return false;
     }

@@ -3,28 +3,29 @@ ghost use Rattle.std.specs.Prelude.{◌+◌};
 ghost use Rattle.reading.specs.Children.{SlotOf, Points, IsChild, Comes};
 
 use crate::{Child, Seat};
+use answers::Refusal;
 
 // Where the slot of a seat points to, in the container of `size` bytes at `base` whose fixed part is `fixed`. Offset and size are added
 // in 64 bits, where their sum is whole.
-fn pointed(row: &[u8], base: usize, size: usize, fixed: usize, seat: Seat) -> Child
+fn pointed(row: &[u8], base: usize, size: usize, fixed: usize, seat: Seat) -> Result<Child, Refusal>
     requires { SlotOf row.now base size seat }
     ensures { Points row.now base size fixed seat result }
 {
-    let at = seat.slot;
-    let x = words::nums::get8(row, at);
+    let broken = Err(Refusal::Layout { place: seat.slot });
+    let x = words::nums::get::<8>(row, seat.slot);
     let off = words::slots::slot_offset(x);
     let len = words::slots::slot_size(x);
     if off < fixed as u64 {
-        return Child::Broken(at);
+        return broken;
     }
     if off & 7 != 0 {
-        return Child::Broken(at);
+        return broken;
     }
     if (size as u64) < off + len {
-        return Child::Broken(at);
+        return broken;
     }
     let start = base + off as usize;
-    Child::At(seat, start, len as usize)
+    Ok(Child::At(seat, start, len as usize))
 }
 
 // Child i of the n in slots of w bytes, behind a header of h bytes, in the container of `size` bytes at `base`; the child has v bytes,
@@ -38,7 +39,7 @@ pub fn child(
     w: usize,
     v: usize,
     i: usize,
-) -> Child
+) -> Result<Child, Refusal>
     requires { IsChild row.now base size h n w v i }
     ensures { Comes row.now base size h n w v i result }
 {
@@ -52,7 +53,7 @@ pub fn child(
         wide: w,
     };
     if words::nulls::is_null(row, bits, i) {
-        return Child::Null(seat);
+        return Ok(Child::Null(seat));
     }
     if v == 0 {
         return pointed(
@@ -63,5 +64,5 @@ pub fn child(
             seat,
         );
     }
-    Child::At(seat, slot, v)
+    Ok(Child::At(seat, slot, v))
 }

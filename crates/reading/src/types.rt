@@ -4,7 +4,7 @@ ghost use Rattle.layout.specs.Reading.{type_along as type_on};
 ghost use Rattle.table.specs.Tables.{InTable};
 ghost use Rattle.reading.specs.Opening.{open_ty, OpenIs, Opens, FieldIn, IsField, IsEither, OfKind, OfMap, OfStruct, Kin, Lots};
 
-use crate::{Lot, TypeParts};
+use crate::TypeParts;
 
 // The type at a place of the table.
 pub fn open(t: &[u64], c: usize) -> TypeParts
@@ -25,10 +25,8 @@ fn field_at(t: &[u64], first: usize, i: usize) -> usize
     ensures { IsField t.now first i result }
 {
     let mut c = first;
-    let mut j = 0;
-    while j < i {
+    for j in 0..i {
         c = table::after(table::entry_at(t, c, 7));
-        j += 1;
     }
     c
 }
@@ -72,26 +70,26 @@ pub fn field(t: &[u64], x: TypeParts, i: usize) -> TypeParts
     open(t, field_at(t, x.first, i))
 }
 
-// The type that step i leads to by the schema alone.
-pub fn kin(t: &[u64], x: TypeParts, i: usize) -> Lot
+// The type that step i leads to by the schema alone, if there is one.
+pub fn kin(t: &[u64], x: TypeParts, i: usize) -> Option<TypeParts>
     requires { OpenIs t.now x }
     ensures { Lots t.now result (type_on (i ∷ []) (open_ty t.now x)) }
 {
     let k = x.kind;
     if k < table::LIST {
-        return Lot::Nowhere;
+        return None;
     }
     if k == table::LIST {
-        return Lot::Of(element(t, x));
+        return Some(element(t, x));
     }
     if k == table::MAP {
         if 2 <= i {
-            return Lot::Nowhere;
+            return None;
         }
-        return Lot::Of(array(t, x, i));
+        return Some(array(t, x, i));
     }
     if table::count(x.entry) <= i {
-        return Lot::Nowhere;
+        return None;
     }
-    Lot::Of(field(t, x, i))
+    Some(field(t, x, i))
 }

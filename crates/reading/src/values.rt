@@ -22,9 +22,9 @@ pub fn value(row: &[u8], k: usize, at: usize, size: usize) -> Answer
         return Answer::Number(words::signed::get_signed(row, at, size));
     }
     if k == table::FLOAT32 {
-        return answers::floats::float32_of(words::nums::get4(row, at) as u32);
+        return answers::floats::float32_of(words::nums::get::<4>(row, at) as u32);
     }
-    answers::floats::float64_of(words::nums::get8(row, at))
+    answers::floats::float64_of(words::nums::get::<8>(row, at))
 }
 
 // A container's count is a struct's fields, a list's elements, 2 for a map.
@@ -34,7 +34,7 @@ fn count(row: &[u8], x: TypeParts, start: usize) -> usize
 {
     let k = x.kind;
     if k == table::LIST {
-        return words::nums::get8(row, start) as usize;
+        return words::nums::get::<8>(row, start) as usize;
     }
     if k == table::MAP {
         return 2;

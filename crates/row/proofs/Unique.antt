@@ -13,10 +13,9 @@ use Rattle.layout.specs.Setting as S
 use Rattle.layout.specs.Setting.{refusal_in}
 use Rattle.layout.specs.Entries as E
 use Rattle.layout.specs.Entries.{Verdict, judge_of, check_of, read_of, set_of, set_verdict}
-use Rattle.answers.specs.declared.Outcome.{Outcome}
-use Rattle.answers.specs.declared.Answer.{Answer}
-use Rattle.answers.specs.Meaning.{outcome_means, meaning, Numbered}
-use Rattle.answers.proofs.Unique.{outcome-one, length-one, meaning-one}
+use Rattle.answers.specs.Meaning.{Outcome}
+use Rattle.answers.specs.Meaning.{outcome_means, Read, read_means, Numbered}
+use Rattle.answers.proofs.Unique.{outcome-one, length-one, read_one}
 use Rattle.reading.specs.Texts.{TextOf}
 use Rattle.row.specs.Demand1.{Ends, Gives, Sets}
 use Rattle.row.specs.Demand1 as D
@@ -64,8 +63,8 @@ numbered a h₀ h₄ (D.refused (D.place o)) =
 numbered a h₀ h₄ (D.refused (D.number {n = n} o _)) =
     record { known = λ e. let z : n ≡ 0 = cc in not-among 0 o h₀ z; roomless = λ e. let z : n ≡ 4 = cc in not-among 4 o h₄ z }
 
-reads : (s row p : List ℕ) (r r' : Answer) → meaning r ≡ read_of s row p → meaning r' ≡ read_of s row p → r ≡ r'
-reads s row p r r' e e' = meaning-one r r' (e ∙ sym e') (rw e (numbered (read_of s row p) refl refl (read-gives s row p)))
+reads : (s row p : List ℕ) (r r' : Read) → read_means r ≡ read_of s row p → read_means r' ≡ read_of s row p → r ≡ r'
+reads s row p r r' e e' = read_one r r' (e ∙ sym e') (rw e (numbered (read_of s row p) refl refl (read-gives s row p)))
 
 -- ---- texts
 

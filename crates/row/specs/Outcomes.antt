@@ -4,7 +4,7 @@ use Rattle.std.specs.Prelude.{◌≡◌, List, ℕ, ◌≤◌, length}
 use Rattle.std.proofs.Math.Option.{Option, none, some}
 use Rattle.layout.specs.Refusals.{Refusal, numbered, broken_at}
 use Rattle.layout.specs.Entries.{Verdict, done, refused, Sized, takes, refused_with, write_of, written_of}
-use Rattle.answers.specs.declared.Length.{Length}
+use Rattle.answers.specs.Meaning.{Length}
 use Rattle.answers.specs.Meaning.{length_means}
 
 -- the answer r, and what the output out holds after

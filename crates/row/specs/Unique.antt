@@ -4,10 +4,9 @@ use Rattle.std.specs.Prelude.{◌≡◌, List, ℕ}
 use Rattle.std.specs.Borrow.{Bor}
 use Rattle.layout.specs.Setting.{Setting}
 use Rattle.layout.specs.Entries.{judge_of, check_of, read_of, set_of}
-use Rattle.answers.specs.declared.Outcome.{Outcome}
-use Rattle.answers.specs.declared.Length.{Length}
-use Rattle.answers.specs.declared.Answer.{Answer}
-use Rattle.answers.specs.Meaning.{outcome_means, meaning}
+use Rattle.answers.specs.Meaning.{Outcome}
+use Rattle.answers.specs.Meaning.{Length}
+use Rattle.answers.specs.Meaning.{outcome_means, Read, read_means}
 use Rattle.reading.specs.Texts.{TextOf}
 use Rattle.setting.specs.Writes.{SetAs}
 use Rattle.engine.specs.Lists.{ListsTo}
@@ -31,7 +30,7 @@ pub record Unique : Type 0 where
   pub write : (s l out : List ℕ) (r r' : Length) (b b' : List ℕ) → WritesTo s l out r b → WritesTo s l out r' b' → Same r r' b b'
   pub list : (s row out : List ℕ) (r r' : Length) (b b' : List ℕ) → ListsTo s row out r b → ListsTo s row out r' b' → Same r r' b b'
   -- and so does `ask`, whose statement is the same
-  pub read : (s row p : List ℕ) (r r' : Answer) → meaning r ≡ read_of s row p → meaning r' ≡ read_of s row p → r ≡ r'
+  pub read : (s row p : List ℕ) (r r' : Read) → read_means r ≡ read_of s row p → read_means r' ≡ read_of s row p → r ≡ r'
   pub set : (s row p : List ℕ) (x : Setting) (r r' : Outcome) (b b' : List ℕ) → SetAs (set_of s row p x) row b r → SetAs (set_of s row p x) row b' r'
       → Same r r' b b'
   pub text-or : (s p : List ℕ) (row other r r' : Bor (List ℕ)) → TextOf (read_of s row.now p) row other r → TextOf (read_of s row.now p) row other r'

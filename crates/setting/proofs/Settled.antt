@@ -1,4 +1,5 @@
 -- From a leaf's outcome to that of its place, of the path and of the whole setting. Assumes nothing.
+use Rattle.std.specs.Prelude.{Result, Ok, Err}
 use mathlib.Core.Path.{◌≡◌, refl, sym, ap, ◌∙◌, subst}
 use mathlib.Core.Option.{Option, none, some}
 use mathlib.Core.List.{List}
@@ -18,9 +19,10 @@ use Rattle.layout.specs.Setting as S
 use Rattle.layout.specs.Setting.{Setting, suits, keeps_text, keeps, ◌or◌, refusal_in, judge_at, write, write_at, outcome, set_in}
 use Rattle.layout.specs.Entries.{set_of}
 use Rattle.layout.proofs.Told.{value-present}
-use Rattle.answers.specs.declared.Outcome.{Outcome}
-use Rattle.answers.specs.declared.Outcome.TheVariants as O
+use Rattle.answers.specs.Meaning.{Outcome}
+use Rattle.answers.specs.declared.Refusal.{Refusal as Answered}
 use Rattle.answers.specs.declared.Refusal.TheVariants as F
+use Rattle.answers.specs.Meaning.{refusal_means}
 use Rattle.answers.specs.declared.Given.{Given}
 use Rattle.answers.specs.declared.Setting.{Setting as Asked}
 use Rattle.answers.specs.Meaning.{given_means, setting_of}
@@ -32,7 +34,7 @@ use Rattle.reading.specs.declared.TypeParts.{TypeParts}
 use Rattle.reading.specs.declared.Seat.{Seat}
 use Rattle.reading.specs.declared.Place.{Place}
 use Rattle.reading.specs.declared.Found.{Found}
-use Rattle.reading.specs.declared.Found.TheVariants.{NoPlace, NullBefore, Broken, Null, At}
+use Rattle.reading.specs.declared.Found.TheVariants.{Null, At}
 use Rattle.reading.proofs.Opening.{ty-fixed, ty-text, leaf-place}
 use Rattle.reading.proofs.Moving.{Holder, held-kind}
 use Rattle.setting.specs.Writes.{SetAs, decided, leaf_outcome, fixed_outcome, text_outcome, no_text_outcome}
@@ -62,7 +64,7 @@ module _ (x : Setting) (row : List ℕ) where
   seen-text t s o b = refl
 
   -- a container takes nothing
-  holder-refused : (T : Ty) (w : Seen) → Holder T → SetAs (leaf_outcome T x w row) row row (O.Refused F.Unfit)
+  holder-refused : (T : Ty) (w : Seen) → Holder T → SetAs (leaf_outcome T x w row) row row (Err F.Unfit)
   unfolding leaf_outcome suits decided
   holder-refused (fix f) w h = absurd h
   holder-refused (text t) w h = absurd h
@@ -87,7 +89,7 @@ module _ {row : List ℕ} {x : TypeParts} {z : Seat} (N : NullThere row x z) whe
     abbrev to-null : Ty → S.Outcome
     to-null T = leaf_outcome T v (null_at (seat_as z)) row
 
-    pub null-refused : 9 ≤ x.kind → (t : List ℕ) → SetAs (to-null (open_ty t x)) row row (O.Refused F.Unfit)
+    pub null-refused : 9 ≤ x.kind → (t : List ℕ) → SetAs (to-null (open_ty t x)) row row (Err F.Unfit)
     null-refused l t = holder-refused v row (open_ty t x) (null_at (seat_as z)) (held-kind N.known t l)
 
     module _ {row' : List ℕ} {r : Outcome} where
@@ -119,7 +121,7 @@ module _ {row : List ℕ} {p : Place} (P : PlaceThere row p) where
   }
 
   module _ (x : Setting) where
-    pub place-refused : 9 ≤ p.opened.kind → (t : List ℕ) → SetAs (leaf_outcome (place_ty t p) x here row) row row (O.Refused F.Unfit)
+    pub place-refused : 9 ≤ p.opened.kind → (t : List ℕ) → SetAs (leaf_outcome (place_ty t p) x here row) row row (Err F.Unfit)
     place-refused l t = holder-refused x row (place_ty t p) here (held-kind P.known t l)
 
     module _ {row' : List ℕ} {r : Outcome} where
@@ -182,7 +184,7 @@ here-is x row o t v w e q h = rw (← e, ← q, h)
 pub checked-open : {t row : List ℕ} → Checked t row → Open t row
 checked-open C = record { table = C.table; short = C.short }
 
-module _ {t row p : List ℕ} {r : Found} (C : Checked t row) (G : Finds t row p r) where
+module _ {t row p : List ℕ} {r : Result Found Answered} (C : Checked t row) (G : Finds t row p r) where
   -- the type that the path leads to, and what the walk along it sees
   abbrev to : Option Ty
   to = placed p (root_ty t)
@@ -199,17 +201,9 @@ module _ {t row p : List ℕ} {r : Found} (C : Checked t row) (G : Finds t row p
     unfolding decided
     set-refused n e = set_is x ∙ ap (λ (o : Option Refusal). decided o (write_at to x view row)) (judge-refused x to view n (sym e ∙ G.means))
 
-    pub set-nowhere : r ≡ NoPlace → SetAs (set_of (schema_of t) row p x) row row (O.Refused F.NoPlace)
+    pub set-fails : {f : Answered} → r ≡ Err f → SetAs (set_of (schema_of t) row p x) row row (Err f)
     unfolding found_as
-    set-nowhere e = let q = set-refused (numbered 5) (rw e) in rw q (record { answers = refl; after = refl })
-
-    pub set-under : r ≡ NullBefore → SetAs (set_of (schema_of t) row p x) row row (O.Refused F.NullBefore)
-    unfolding found_as
-    set-under e = let q = set-refused (numbered 6) (rw e) in rw q (record { answers = refl; after = refl })
-
-    pub set-broken : {j : ℕ} → r ≡ Broken j → SetAs (set_of (schema_of t) row p x) row row (O.Refused (F.Layout j))
-    unfolding found_as
-    set-broken {j} e = let q = set-refused (broken_at j) (rw e) in rw q (record { answers = refl; after = refl })
+    set-fails {f} e = let q = set-refused (refusal_means f) (rw e) in rw q (record { answers = refl; after = refl })
 
   walk_is : (T : Ty) → some T ≡ to → found_as row r ≡ view
   walk_is T e = G.means ∙ rw (← e)
@@ -218,7 +212,7 @@ module _ {t row p : List ℕ} {r : Found} (C : Checked t row) (G : Finds t row p
       → set_of (schema_of t) row p x ≡ leaf_outcome T x w row
   set_here x T e w q h = set_is x ∙ here-is x row to T view w e (sym q ∙ walk_is T e) h
 
-  module _ {y : TypeParts} {z : Seat} (e : r ≡ Null y z) where
+  module _ {y : TypeParts} {z : Seat} (e : r ≡ Ok (Null y z)) where
     null-lies : NullIn t row y z
     null-lies = rw e at G.lands
 
@@ -235,7 +229,7 @@ module _ {t row p : List ℕ} {r : Found} (C : Checked t row) (G : Finds t row p
         set_here x T (rw e at G.tells) (null_at (seat_as z)) (ap (found_as row) e) (null-none T (seat_as z)) in
         subst (λ (o : S.Outcome). SetAs o row row' a) (sym q) (h t)
 
-  module _ {y : Place} (e : r ≡ At y) where
+  module _ {y : Place} (e : r ≡ Ok (At y)) where
     stands : PlaceHolds t row y
     stands = rw e at G.lands
 

@@ -15,7 +15,7 @@ use Rattle.layout.specs.Reading.{answer_of}
 use Rattle.layout.specs.Setting as S
 use Rattle.layout.specs.Setting.{Setting, is_null, in_bytes, suits, fits_text, keeps_size, keeps, unless, ◌or◌, text_of, write_fixed, write}
 use Rattle.layout.specs.Entries.{set_verdict, row_after}
-use Rattle.answers.specs.declared.Outcome.{Outcome}
+use Rattle.answers.specs.Meaning.{Outcome}
 use Rattle.answers.specs.Meaning.{outcome_means}
 use Rattle.reading.specs.Children.{SeatIn}
 use Rattle.reading.specs.Opening.{Kinded}
@@ -23,6 +23,8 @@ use Rattle.reading.specs.Places.{Seated}
 use Rattle.reading.specs.declared.TypeParts.{TypeParts}
 use Rattle.reading.specs.declared.Seat.{Seat}
 use Rattle.reading.specs.declared.Place.{Place}
+use Rattle.std.specs.Prelude as P
+use Rattle.std.specs.Prelude.{Some, None}
 use Rattle.setting.specs.declared.Leaf.{Leaf}
 use Rattle.setting.specs.declared.Leaf.TheVariants as L
 
@@ -34,10 +36,10 @@ pub record HasBits (f : Fixed) (x : Setting) (v : ℕ) : Type 0 where
   pub below : v < 256 ^ width f
   pub given : is_null x ≡ false
 
-abbrev pub LeafIs : Fixed → Setting → Leaf → Type 0
-LeafIs f x L.Unfit = suits (fix f) x ≡ false
-LeafIs f x L.Null = x ≡ S.null
-LeafIs f x (L.Bits v) = HasBits f x v
+abbrev pub LeafIs : Fixed → Setting → P.Option Leaf → Type 0
+LeafIs f x None = suits (fix f) x ≡ false
+LeafIs f x (Some L.Null) = x ≡ S.null
+LeafIs f x (Some (L.Bits v)) = HasBits f x v
 
 -- a seat's bit and slot lie in the row
 pub record Sits (row : List ℕ) (s : Seat) : Type 0 where

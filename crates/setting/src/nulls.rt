@@ -9,11 +9,11 @@ ghost use Rattle.spelling.specs.Spelling.{TextKind};
 ghost use Rattle.setting.specs.Writes.{SetAs, leaf_outcome, no_text_outcome, Sits, NullThere};
 
 use crate::{leaves, puts, texts};
-use answers::{Given, Outcome, Refusal};
+use answers::{Given, Refusal};
 use reading::{Seat, TypeParts};
 
 // A null string or binary, by its kind k, takes only null, which zeroes its slot; bytes that are no text do not fit a string.
-fn set_no_text(row: &mut [u8], k: usize, seat: Seat, g: Given, bytes: &[u8]) -> Outcome
+fn set_no_text(row: &mut [u8], k: usize, seat: Seat, g: Given, bytes: &[u8]) -> Result<(), Refusal>
     requires { TextKind k × Sits row.old seat }
     ensures { SetAs
         (no_text_outcome (text_at k) (given_means g bytes.now) (seat_as seat) row.old)
@@ -22,23 +22,26 @@ fn set_no_text(row: &mut [u8], k: usize, seat: Seat, g: Given, bytes: &[u8]) -> 
     match g {
         Given::Null => {
             puts::clear(row, seat.slot, seat.wide);
-            Outcome::Done
+            Ok(())
         }
-        Given::Bool(_) => Outcome::Refused(Refusal::Unfit),
-        Given::Number(_) => Outcome::Refused(Refusal::Unfit),
-        Given::Float32(_) => Outcome::Refused(Refusal::Unfit),
-        Given::Float64(_) => Outcome::Refused(Refusal::Unfit),
         Given::Bytes => {
             if !texts::is_fit(k, bytes) {
-                return Outcome::Refused(Refusal::Unfit);
+                return Err(Refusal::Unfit);
             }
-            Outcome::Refused(Refusal::Resize)
+            Err(Refusal::Resize)
         }
+        _ => Err(Refusal::Unfit),
     }
 }
 
 // A null of a type: a container takes nothing.
-pub fn set_null(row: &mut [u8], x: TypeParts, seat: Seat, g: Given, bytes: &[u8]) -> Outcome
+pub fn set_null(
+    row: &mut [u8],
+    x: TypeParts,
+    seat: Seat,
+    g: Given,
+    bytes: &[u8],
+) -> Result<(), Refusal>
     requires { NullThere row.old x seat }
     ensures { (t : List ℕ) → SetAs
         (leaf_outcome (open_ty t x) (given_means g bytes.now) (null_at (seat_as seat)) row.old)
@@ -50,5 +53,5 @@ pub fn set_null(row: &mut [u8], x: TypeParts, seat: Seat, g: Given, bytes: &[u8]
     if x.kind < table::LIST {
         return set_no_text(row, x.kind, seat, g, bytes);
     }
-    Outcome::Refused(Refusal::Unfit)
+    Err(Refusal::Unfit)
 }

@@ -9,37 +9,41 @@ ghost use Rattle.spelling.specs.Spelling.{TextKind};
 ghost use Rattle.setting.specs.Writes.{SetAs, leaf_outcome, text_outcome, PlaceThere};
 
 use crate::{leaves, texts};
-use answers::{Given, Outcome, Refusal};
+use answers::{Given, Refusal};
 use reading::Place;
 
 // A present string or binary, by its kind k, takes bytes of its length; a string only text, whatever the length.
-fn set_text(row: &mut [u8], k: usize, start: usize, len: usize, g: Given, bytes: &[u8]) -> Outcome
+fn set_text(
+    row: &mut [u8],
+    k: usize,
+    start: usize,
+    len: usize,
+    g: Given,
+    bytes: &[u8],
+) -> Result<(), Refusal>
     requires { TextKind k × (start + len ≤ length row.old) }
     ensures { SetAs
         (text_outcome (text_at k) (given_means g bytes.now) start len row.old)
         row.old row.new result }
 {
     match g {
-        Given::Null => Outcome::Refused(Refusal::Resize),
-        Given::Bool(_) => Outcome::Refused(Refusal::Unfit),
-        Given::Number(_) => Outcome::Refused(Refusal::Unfit),
-        Given::Float32(_) => Outcome::Refused(Refusal::Unfit),
-        Given::Float64(_) => Outcome::Refused(Refusal::Unfit),
+        Given::Null => Err(Refusal::Resize),
         Given::Bytes => {
             if !texts::is_fit(k, bytes) {
-                return Outcome::Refused(Refusal::Unfit);
+                return Err(Refusal::Unfit);
             }
             if bytes.len() != len {
-                return Outcome::Refused(Refusal::Resize);
+                return Err(Refusal::Resize);
             }
             words::copies::copy(row, start, bytes, 0, len);
-            Outcome::Done
+            Ok(())
         }
+        _ => Err(Refusal::Unfit),
     }
 }
 
 // A place that is not null: a container takes nothing.
-pub fn set_place(row: &mut [u8], p: Place, g: Given, bytes: &[u8]) -> Outcome
+pub fn set_place(row: &mut [u8], p: Place, g: Given, bytes: &[u8]) -> Result<(), Refusal>
     requires { PlaceThere row.old p }
     ensures { (t : List ℕ) → SetAs
         (leaf_outcome (place_ty t p) (given_means g bytes.now) (seen (seat_as p.seat) p.start (bytes_of row.old p)) row.old)
@@ -52,5 +56,5 @@ pub fn set_place(row: &mut [u8], p: Place, g: Given, bytes: &[u8]) -> Outcome
     if x.kind < table::LIST {
         return set_text(row, x.kind, p.start, p.len, g, bytes);
     }
-    Outcome::Refused(Refusal::Unfit)
+    Err(Refusal::Unfit)
 }

@@ -12,7 +12,7 @@ pub fn clear(row: &mut [u8], slot: usize, wide: usize)
     ensures { row.new ≡ sets row.old slot (zeros wide) }
 {
     if wide == 8 {
-        words::nums::put8(row, slot, 0);
+        words::nums::put::<8>(row, slot, 0);
         return;
     }
     words::copies::zero(row, slot, wide);
@@ -23,7 +23,7 @@ fn put(row: &mut [u8], slot: usize, wide: usize, v: u64)
     ensures { row.new ≡ sets row.old slot (le wide v) }
 {
     if wide == 8 {
-        words::nums::put8(row, slot, v);
+        words::nums::put::<8>(row, slot, v);
         return;
     }
     words::nums::put_num(row, slot, wide, v);

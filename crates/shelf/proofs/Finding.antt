@@ -1,23 +1,29 @@
 -- What judging a catalogue tells, and where the schema of a number then lies. Assumes nothing.
-use mathlib.Core.Path.{◌≡◌, refl, ap, ◌∙◌}
-use mathlib.Core.Bool.{true, false}
+use Rattle.std.specs.Prelude as P
+use Rattle.std.specs.Option.{ok_or}
+use mathlib.Core.Path.{◌≡◌, ap, ◌∙◌, subst}
+use mathlib.Core.Bool.{true}
 use mathlib.Core.List.{List}
-use Prim.Native.Nat.{ℕ, zero, suc, ◌+◌, ◌-◌, ◌≤◌, ◌<◌}
+use Prim.Native.Nat.{ℕ, ◌+◌, ◌-◌, ◌≤◌, ◌<◌}
 use native.Mathlib.Omega.{arith}
 use lib.ListN.{take, drop}
 use borrow.Author.Tests.{le-leb, lt-leb}
 use Rattle.words.specs.Reads.{Reads}
+use Rattle.answers.specs.declared.Refusal.{Refusal}
+use Rattle.answers.specs.declared.Refusal.TheVariants.{Schema}
 use Rattle.shelf.specs.Catalogue.{count_in, size_at, size_of, start_of, schema_in, is_catalogue}
-use Rattle.shelf.specs.Places.{Short, SoundBut, JudgedBut, SchemaAt, Ungiven}
+use Rattle.shelf.specs.Places.{Short, SoundBut, JudgedBut, FoundAs, is_broken, SchemaAt, Ungiven}
 use Rattle.shelf.proofs.Entries.{short-first, entry-lies}
 
-pub judged-none : (t : List ℕ) (k r : ℕ) → JudgedBut t k r → r ≡ 0 → is_catalogue t ≡ false
-judged-none t k zero j e = j
-judged-none t k (suc n) j e = absurd (omega arith)
+pub judged-some : {t : List ℕ} {k end : ℕ} {o : P.Option ℕ} → JudgedBut t k o → o ≡ P.Some end → SoundBut t k end
+judged-some {t} {k} j e = subst (JudgedBut t k) e j
 
-pub judged-some : (t : List ℕ) (k r : ℕ) → JudgedBut t k r → (r ≡ 0 → ⊥) → SoundBut t k r
-judged-some t k zero j n = absurd (n refl)
-judged-some t k (suc n) j m = j
+pub judged-none : {t : List ℕ} {k : ℕ} {o : P.Option ℕ} {r : Refusal} → JudgedBut t k o → o ≡ P.None → ◌≡◌ {A = P.Result ℕ Refusal} (P.Err r) (ok_or o Schema)
+    → FoundAs t k (P.Err r)
+judged-none {t} {k} {r = r} j e f =
+    let z : ◌≡◌ {A = P.Result ℕ Refusal} (P.Err r) (P.Err Schema) = rw e at f in
+    let q : r ≡ Schema = cc in
+    rw q (is_broken (subst (JudgedBut t k) e j))
 
 module _ {t : List ℕ} {k end : ℕ} (y : SoundBut t k end) where
   -- no schema was left out

@@ -1,4 +1,7 @@
 -- Judging a catalogue, schema after schema, the rules of schema k aside. Assumes nothing.
+use Rattle.std.specs.Prelude as P
+use Rattle.std.specs.Option.{is_some}
+use Rattle.std.specs.Result.{is_ok}
 use mathlib.Core.Path.{◌≡◌, refl, sym, ap, ◌∙◌}
 use mathlib.Core.Logic.{◌⊎◌, inl, inr}
 use mathlib.Core.Bool.{Bool, true, false, not, ◌&&◌, ◌||◌}
@@ -15,14 +18,11 @@ use Rattle.layout.specs.Refusals as N
 use Rattle.layout.specs.Setting.{unless}
 use Rattle.layout.specs.Entries.{Verdict, done, refused, verdict, is_accepted, judge_of}
 use Rattle.answers.specs.declared.Refusal.{Refusal}
-use Rattle.answers.specs.declared.Outcome.{Outcome}
-use Rattle.answers.specs.declared.Outcome.TheVariants as O
+use Rattle.answers.specs.Meaning.{Outcome}
 use Rattle.answers.specs.Meaning.{refusal_means, outcome_means}
 use Rattle.shelf.specs.Catalogue.{count_in, size_of, start_of, schema_in, schemas_to, number_among, among, stands, stand, is_catalogue}
-use Rattle.shelf.specs.Places.{Short, stands_but, SoundBut, JudgedBut}
+use Rattle.shelf.specs.Places.{Short, NumberAs, stands_but, SoundBut}
 use Rattle.shelf.proofs.Entries.{start-most}
-use Rattle.shelf.proofs.Among.{number-most}
-use Rattle.shelf.proofs.Standing.{length-schemas}
 
 -- ---- one schema
 
@@ -70,45 +70,32 @@ module _ (t : List ℕ) (i : ℕ) where
         go false false e = e
         go false true e = e
 
--- how it was found: by its number among those before it, and by what judging it answered
-module _ (t : List ℕ) (i : ℕ) (s : List ℕ) (k : ℕ) {n : ℕ} (z : n ≡ number_among s (schemas_to t i)) where
-  long : length (schemas_to t i) ≡ i
-  long = length-schemas t i
+-- whether it is among those before it, by its number there
+found-among : (s : List ℕ) (ss : List (List ℕ)) (o : P.Option ℕ) → NumberAs s ss o → is_some o ≡ among s ss
+found-among s ss P.None z = sym (le-ltb (number_among s ss) (length ss) (omega arith))
+found-among s ss (P.Some i) z = sym (lt-ltb (number_among s ss) (length ss) (omega arith))
 
-  pub but-old : (n ≡ i → ⊥) → false ≡ stands_but t i s k
+-- and whether it keeps its rules, by what judging it answered
+pub keeps-rules : (s : List ℕ) (o : Outcome) → outcome_means o ≡ judge_of s → is_ok o ≡ is_accepted (judged s)
+keeps-rules s (P.Ok u) j = go (is_accepted (judged s)) (judge-opens s j)
+  where
+    go : (v : Bool) → done ≡ verdict (unless v 1) → true ≡ v
+    go true d = refl
+    go false d = absurd (not_done d)
+keeps-rules s (P.Err r) j = go (is_accepted (judged s)) (judge-opens s j)
+  where
+    go : (v : Bool) → refused (refusal_means r) ≡ verdict (unless v 1) → false ≡ v
+    go false d = refl
+    go true d = absurd (not_done (sym d))
+
+module _ (t : List ℕ) (i : ℕ) (s : List ℕ) (k : ℕ) (o : P.Option ℕ) (z : NumberAs s (schemas_to t i) o) where
+  pub but-old : is_some o ≡ true → stands_but t i s k ≡ false
   unfolding stands_but
-  but-old h =
-      let l : n < i = go (lt-or-le n i) in
-      rw (lt-ltb (number_among s (schemas_to t i)) (length (schemas_to t i)) (omega (arith, long)))
-    where
-      go : (n < i) ⊎ (i ≤ n) → n < i
-      go (inl l) = l
-      go (inr l) = absurd (h (omega (arith, number-most s (schemas_to t i), long)))
+  but-old e = rw (sym (found-among s (schemas_to t i) o z) ∙ e) refl
 
-  module _ (e : n ≡ i) where
-    new : among s (schemas_to t i) ≡ false
-    new = le-ltb (number_among s (schemas_to t i)) (length (schemas_to t i)) (omega (arith, long))
-
-    pub but-own : i ≡ k → true ≡ stands_but t i s k
-    unfolding stands_but
-    but-own q = rw (new, eq-eqb i k q)
-
-    module _ (q : i ≡ k → ⊥) {o : Outcome} (j : outcome_means o ≡ judge_of s) where
-      pub but-kept : o ≡ O.Done → true ≡ stands_but t i s k
-      unfolding stands_but
-      but-kept f = rw (new, ne_eqb i k q) (go (is_accepted (judged s)) (sym (ap outcome_means f) ∙ judge-opens s j))
-        where
-          go : (v : Bool) → done ≡ verdict (unless v 1) → true ≡ v
-          go true d = refl
-          go false d = absurd (not_done d)
-
-      pub but-broken : {r : Refusal} → o ≡ O.Refused r → false ≡ stands_but t i s k
-      unfolding stands_but
-      but-broken {r} f = rw (new, ne_eqb i k q) (go (is_accepted (judged s)) (sym (ap outcome_means f) ∙ judge-opens s j))
-        where
-          go : (v : Bool) → refused (refusal_means r) ≡ verdict (unless v 1) → false ≡ v
-          go false d = refl
-          go true d = absurd (not_done (sym d))
+  pub but-new : is_some o ≡ false → stands_but t i s k ≡ (eqb i k || is_accepted (judged s))
+  unfolding stands_but
+  but-new e = rw (sym (found-among s (schemas_to t i) o z) ∙ e) refl
 
 -- ---- the first n
 
@@ -208,11 +195,6 @@ module _ {t : List ℕ} {k i at : ℕ} (y : Seen t k i at) where
             let q : j ≡ i = omega arith in
             rw q (ap (λ (s : List ℕ). stands_but t i s k) (sym slice_is) ∙ sym e ∙ f)
 
-start-some : (t : List ℕ) (n : ℕ) → 0 < start_of t n
-unfolding start_of
-start-some t zero = omega arith
-start-some t (suc n) = omega arith
-
 -- all were seen: they make a catalogue if schema k keeps its rules, or isn't there
 module _ {t : List ℕ} {k i at : ℕ} (s : Seen t k i at) (f : i ≡ count_in t) where
   y : Seen t k (count_in t) at
@@ -239,18 +221,10 @@ module _ {t : List ℕ} {k i at : ℕ} (s : Seen t k i at) (f : i ≡ count_in t
       go (inl h) = rw (lt-leb (count_in t) k h) (there h (is_accepted (judged (schema_in t k))) refl)
       go (inr h) = rw (le-leb (count_in t) k h) (stand-all t (count_in t) (λ i l. else-stands i l (λ p. omega arith)))
 
-  seen_all : SoundBut t k at
+  pub seen_all : SoundBut t k at
   unfolding is_catalogue
   seen_all = record {
     lies = record { size = y.size; few = y.few; short = y.short };
     ends = y.start;
     all = rw (eq-eqb (length t) 16417 y.size, le-leb (count_in t) 16 y.few) stand-by;
   }
-
-  pub seen-judged : JudgedBut t k at
-  unfolding start_of
-  seen-judged = go at refl
-    where
-      go : (n : ℕ) → n ≡ at → JudgedBut t k n
-      go zero e = absurd (omega (arith, y.start, start-some t (count_in t)))
-      go (suc n) e = rw e seen_all

@@ -1,16 +1,22 @@
 -- What the functions of `shelf` ask of a catalogue's lent bytes and hand on of them. Assumes nothing: these are definitions.
-use Rattle.std.specs.Prelude.{◌≡◌, Bool, true, false, not, ◌&&◌, ◌||◌, List, ℕ, zero, suc, ◌-◌, ◌≤◌, ◌<◌, eqb, leb, length, take, drop}
+use Rattle.std.specs.Prelude.{◌≡◌, Bool, true, false, not, ◌&&◌, ◌||◌, List, ℕ, ◌-◌, ◌≤◌, ◌<◌, eqb, leb, length, take, drop, Option, None, Some, Result, Ok, Err}
 use Rattle.schema.specs.Reading.{judged}
 use Rattle.layout.specs.Entries.{is_accepted}
-use Rattle.shelf.specs.declared.Found.{Found}
-use Rattle.shelf.specs.declared.Found.TheVariants as F
-use Rattle.shelf.specs.Catalogue.{count_in, size_of, start_of, schema_in, schemas_to, among, is_catalogue}
+use Rattle.answers.specs.declared.Refusal.{Refusal}
+use Rattle.answers.specs.declared.Refusal.TheVariants as F
+use Rattle.answers.specs.declared.Span.{Span}
+use Rattle.shelf.specs.Catalogue.{count_in, size_of, start_of, schema_in, schemas_to, number_among, among, is_catalogue}
 
 -- the first n schemas have at most 1,024 bytes each, so they lie in the lent bytes
 pub record Short (t : List ℕ) (n : ℕ) : Type 0 where
   pub size : length t ≡ 16417
   pub few : n ≤ 16
   pub short : (i : ℕ) → i < n → size_of t i ≤ 1024
+
+-- the number of s among schemas, and none where it is none of them
+abbrev pub NumberAs : List ℕ → List (List ℕ) → Option ℕ → Type 0
+NumberAs s ss None = number_among s ss ≡ length ss
+NumberAs s ss (Some i) = (i ≡ number_among s ss) × (i < length ss)
 
 -- s is none of the first i schemas, and it keeps its rules or its number is k
 unfoldable pub stands_but : List ℕ → ℕ → List ℕ → ℕ → Bool
@@ -22,10 +28,10 @@ pub record SoundBut (t : List ℕ) (k end : ℕ) : Type 0 where
   pub ends : end ≡ start_of t (count_in t)
   pub all : is_catalogue t ≡ (leb (count_in t) k || is_accepted (judged (schema_in t k)))
 
--- 0 where the bytes are no catalogue
-abbrev pub JudgedBut : List ℕ → ℕ → ℕ → Type 0
-JudgedBut t k zero = is_catalogue t ≡ false
-JudgedBut t k (suc n) = SoundBut t k (suc n)
+-- where they end, and none where the bytes are no catalogue
+abbrev pub JudgedBut : List ℕ → ℕ → Option ℕ → Type 0
+JudgedBut t k None = is_catalogue t ≡ false
+JudgedBut t k (Some end) = SoundBut t k end
 
 -- schema k lies from start to end, and the bytes are a catalogue but for its rules
 pub record SchemaAt (t : List ℕ) (k start end : ℕ) : Type 0 where
@@ -40,7 +46,8 @@ pub record Ungiven (t : List ℕ) (k : ℕ) : Type 0 where
   pub sound : is_catalogue t ≡ true
   pub past : count_in t ≤ k
 
-abbrev pub FoundAs : List ℕ → ℕ → Found → Type 0
-FoundAs t k F.Broken = is_catalogue t ≡ false
-FoundAs t k F.Past = Ungiven t k
-FoundAs t k (F.At start end) = SchemaAt t k start end
+-- what looking for schema k comes to
+pub data FoundAs (t : List ℕ) (k : ℕ) : Result Span Refusal → Type 0 where
+  is_broken : is_catalogue t ≡ false → FoundAs t k (Err F.Schema)
+  is_past : Ungiven t k → FoundAs t k (Err F.NoNumber)
+  is_at : {s : Span} → SchemaAt t k s.start s.end → FoundAs t k (Ok s)

@@ -1,9 +1,11 @@
 -- A string and a binary by their kind. Assumes nothing.
 use mathlib.Core.Path.{◌≡◌, refl, sym}
-use mathlib.Core.Bool.{Bool, true}
+use mathlib.Core.Bool.{Bool, true, not}
 use mathlib.Core.List.{List}
 use Prim.Native.Nat.{ℕ, ◌-◌, ◌≤◌}
 use native.Mathlib.Omega.{arith}
+use lib.Dec.{eqb}
+use borrow.Author.Tests.{ne_eqb}
 use Rattle.words.specs.Bytes.{part}
 use Rattle.words.specs.Tests.{is_yes}
 use Rattle.words.specs.TextTest.{is_text}
@@ -22,6 +24,9 @@ free u = record { is = refl }
 pub of-binary : {k : ℕ} → TextKind k → (k ≡ 7 → ⊥) → (u : List ℕ) → Spelling (text_at k) u true
 unfolding text_at
 of-binary {k} h ne u = let e : k ≡ 8 = omega arith in rw e (free u)
+
+pub no-string : {k : ℕ} → TextKind k → (k ≡ 7 → ⊥) → (u : List ℕ) → Spelling (text_at k) u (not (eqb k 7))
+no-string {k} h ne u = rw (ne_eqb k 7 ne) (of-binary h ne u)
 
 pub of-text : {u : List ℕ} {r : Bool} → r ≡ is_text u → Spelling st u r
 unfolding spells? is_text

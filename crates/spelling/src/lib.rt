@@ -12,13 +12,16 @@ pub fn is_spelled(b: &[u8], k: usize, at: usize, end: usize) -> bool
     requires { TextKind k × (at ≤ end) × (end ≤ length b.now) }
     ensures { Spelling (text_at k) (part b.now at (end - at)) result }
 {
-    if k != table::STRING {
-        return true;
-    }
-    if end - at <= 8 && 8 <= b.len() - at && words::texts::ascii8(b, at) {
-        return true;
-    }
-    words::texts::is_text(b, at, end)
+    k != table::STRING || is_text_at(b, at, end)
+}
+
+// Whether the bytes of a string are text: by the word of b at whose start they stand, where that has them all, or by the walk.
+fn is_text_at(b: &[u8], at: usize, end: usize) -> bool
+    requires { (at ≤ end) × (end ≤ length b.now) }
+    ensures { Spelling st (part b.now at (end - at)) result }
+{
+    (end - at <= 8 && 8 <= b.len() - at && words::texts::ascii8(b, at))
+        || words::texts::is_text(b, at, end)
 }
 
 // Whether a string in a row, padded up to `next`, takes one word at most, and that is ASCII.
@@ -26,10 +29,7 @@ fn is_short(b: &[u8], at: usize, end: usize, next: usize) -> bool
     requires { Padded b.now at end next }
     ensures { SpellingIf st (part b.now at (end - at)) result }
 {
-    if 8 < next - at {
-        return false;
-    }
-    words::texts::ascii8(b, next - 8)
+    next - at <= 8 && words::texts::ascii8(b, next - 8)
 }
 
 // Whether a string in a row is text.
@@ -37,10 +37,7 @@ pub fn is_text_in(b: &[u8], at: usize, end: usize, next: usize) -> bool
     requires { Padded b.now at end next }
     ensures { Spelling st (part b.now at (end - at)) result }
 {
-    if is_short(b, at, end, next) {
-        return true;
-    }
-    words::texts::is_text(b, at, end)
+    is_short(b, at, end, next) || words::texts::is_text(b, at, end)
 }
 
 // The same of a string or a binary, by its kind.
@@ -48,10 +45,7 @@ pub fn is_spelled_in(b: &[u8], k: usize, at: usize, end: usize, next: usize) -> 
     requires { TextKind k × Padded b.now at end next }
     ensures { Spelling (text_at k) (part b.now at (end - at)) result }
 {
-    if k == table::STRING {
-        return is_text_in(b, at, end, next);
-    }
-    true
+    k != table::STRING || is_text_in(b, at, end, next)
 }
 
 // A look by the word alone, for a caller that takes no for an answer.
@@ -59,8 +53,5 @@ pub fn looks_spelled(b: &[u8], k: usize, at: usize, end: usize, next: usize) -> 
     requires { TextKind k × Padded b.now at end next }
     ensures { SpellingIf (text_at k) (part b.now at (end - at)) result }
 {
-    if k != table::STRING {
-        return true;
-    }
-    is_short(b, at, end, next)
+    k != table::STRING || is_short(b, at, end, next)
 }

@@ -2,7 +2,7 @@
 use mathlib.Core.Path.{◌≡◌, refl, sym, ap, ◌∙◌, subst}
 use mathlib.Core.Bool.{Bool, true, false, not, true≢false}
 use mathlib.Core.List.{List, ◌∷◌}
-use Prim.Native.Nat.{ℕ, ◌+◌, ◌*◌, ◌-◌, ◌^◌, ◌≤◌, ◌<◌}
+use Prim.Native.Nat.{ℕ, ◌+◌, ◌*◌, ◌^◌, ◌≤◌, ◌<◌}
 use native.Mathlib.Decide.{ℕ_discrete}
 use native.Mathlib.Omega.{arith}
 use mir.Val.{Fits}
@@ -90,12 +90,6 @@ module _ {h : ℕ} {vary : ℕ → Bool} {b : List ℕ} {n slots start i : ℕ} 
 
     pub passed-slot : Fits w64 (slots + 8 * i)
     passed-slot = omega (arith, p.slots-in.small, p.slots-in.room, p.slots-are)
-
-    pub passed_on : Fits w64 (i + 1)
-    passed_on = omega (arith, p.slots-in.small, p.slots-in.room)
-
-    pub passed-less : n - (i + 1) < n - i
-    passed-less = omega arith
 
     pub passed-asks : ChildRoom m b h i (slots + 8 * i)
     passed-asks = record {

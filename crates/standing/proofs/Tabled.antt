@@ -2,7 +2,7 @@
 use mathlib.Core.Path.{◌≡◌, refl, sym, ap, ◌∙◌, subst}
 use mathlib.Core.Bool.{Bool, true, false, not}
 use mathlib.Core.List.{List}
-use Prim.Native.Nat.{ℕ, zero, suc, ◌+◌, ◌*◌, ◌-◌, ◌≤◌, ◌<◌}
+use Prim.Native.Nat.{ℕ, zero, suc, ◌+◌, ◌*◌, ◌≤◌, ◌<◌}
 use native.Mathlib.Numerals.{add-one}
 use native.Mathlib.Omega.{arith}
 use mir.Val.{Fits}
@@ -25,8 +25,6 @@ use Rattle.standing.proofs.Passing.{
   passed-map,
   passed-by,
   passed-slot,
-  passed_on,
-  passed-less,
   passed-asks,
   passed-fixed,
   passed-unfit,
@@ -129,12 +127,6 @@ module _ {t : List ℕ} {first d n : ℕ} {b : List ℕ} {slots start at i : ℕ
 
   pub field-asks : ChildRoom m b 0 i (slots + 8 * i)
   field-asks = passed-asks p.passed f.less
-
-  pub field-on : Fits w64 (i + 1)
-  field-on = passed_on p.passed f.less
-
-  pub field-less : n - (i + 1) < n - i
-  field-less = passed-less p.passed f.less
 
   pub fields-fixed : k < 7 → FieldsPassed t first d n b slots start next (i + 1) m
   fields-fixed h = record {

@@ -16,12 +16,10 @@ pub fn unfit_item(b: &[u8], n: usize) -> usize
     let slots = 8 + words::sizes::bitmap_size(n);
     let start = slots + 8 * n;
     let mut map = [0u8; 792];
-    let mut i: usize = 0;
-    while i < n {
+    for i in 0..n {
         if !maps::place_child(&mut map, b, 8, i, slots + 8 * i, start) {
             return i;
         }
-        i += 1;
     }
     n
 }
@@ -36,18 +34,15 @@ pub fn unfit_field(t: &[u64], first: usize, n: usize, depth: usize, b: &[u8]) ->
     let start = slots + 8 * n;
     let mut map = [0u8; 792];
     let mut at = first;
-    let mut i: usize = 0;
-    while i < n {
+    for i in 0..n {
         let w = table::entry_at(t, at, depth);
         at = table::after(w);
         if table::place(w) < table::STRING {
-            i += 1;
             continue;
         }
         if !maps::place_child(&mut map, b, 0, i, slots + 8 * i, start) {
             return i;
         }
-        i += 1;
     }
     n
 }

@@ -10,12 +10,10 @@ fn clear(m: &[u8], at: usize, a: usize, b: usize) -> bool
     requires { (a ≤ b) × (b ≤ 2048) × (at + 257 ≤ length m.now) × (at ≤ 528) }
     ensures { result ≡ clear_from m.now at a (b - a) }
 {
-    let mut q = a;
-    while q < b {
+    for q in a..b {
         if words::nulls::is_null(m, at, q) {
             return false;
         }
-        q += 1;
     }
     true
 }
@@ -25,10 +23,8 @@ fn mark(m: &mut [u8], at: usize, a: usize, b: usize)
     requires { (a ≤ b) × (b ≤ 2048) × (at + 257 ≤ length m.old) × (at ≤ 528) }
     ensures { m.new ≡ marked m.old at a (b - a) }
 {
-    let mut q = a;
-    while q < b {
+    for q in a..b {
         words::nulls::set_null(m, at, q);
-        q += 1;
     }
 }
 

@@ -1,4 +1,6 @@
 -- A chord added to a log: the gap, the last row, and the frame that is laid down where it begins. Assumes nothing.
+use Rattle.std.specs.Prelude.{Ok, Err}
+use Rattle.std.specs.Result.{result_or}
 use Rattle.std.proofs.Common.{◌≡◌, ℕ, ◌+◌, ◌-◌, ◌%◌, ◌^◌, ◌<◌, ◌≤◌, Bool, true, false, not, leb, List, [], ◌∷◌, ◌++◌, length, take, drop, sym, refl, ap, ◌∙◌, subst, append_assoc, arith, length-append, length-take-le, take-take, take_at, drop_at}
 use mathlib.Core.Option.{none, some}
 use borrow.Author.Tests.{not-true, not-false}
@@ -12,10 +14,8 @@ use Rattle.layout.specs.Setting.{◌or◌}
 use Rattle.layout.specs.Entries.{Sized, takes, refused_with, filled}
 use Rattle.answers.specs.declared.Refusal.{Refusal}
 use Rattle.answers.specs.declared.Refusal.TheVariants as F
-use Rattle.answers.specs.declared.Length.{Length}
-use Rattle.answers.specs.declared.Length.TheVariants as L
-use Rattle.answers.specs.Meaning.{refusal_means, length_of, length_means}
-use Rattle.batch.specs.Frames.{be, frame, framing, framed}
+use Rattle.answers.specs.Meaning.{Length, refusal_means, length_of, length_means}
+use Rattle.batch.specs.Frames.{be, frame, framing}
 use Rattle.batch.specs.Entries.{or_none, rows_of, framed_at}
 use Rattle.batch.specs.Places.{PutsRow}
 use Rattle.layout.proofs.Entered.{or-none}
@@ -51,10 +51,10 @@ module _ (row : List ℕ) (tick window : ℕ) {v : Bool} (e : v ≡ no_stroke ro
 -- ---- a row in its frame, with 11 for 4
 
 module _ {room row room' : List ℕ} {at : ℕ} where
-  pub frame-done : {r : Length} {n : ℕ} → r ≡ L.Done n → PutsRow room at row r room' → PutsFrame room at row (L.Done n) room'
+  frame-done : {r : Length} {n : ℕ} → r ≡ Ok n → PutsRow room at row r room' → PutsFrame room at row (Ok n) room'
   frame-done {r} {n} e p = go (leb (at + length (frame row)) (length room)) refl
     where
-      go : (v : Bool) → leb (at + length (frame row)) (length room) ≡ v → PutsFrame room at row (L.Done n) room'
+      go : (v : Bool) → leb (at + length (frame row)) (length room) ≡ v → PutsFrame room at row (Ok n) room'
       go true q =
           let z : takes n ≡ takes (at + length (frame row)) = sym (ap length_means e) ∙ p.answers ∙ rw q refl in
           record { answers = rw q z; leaves = rw q (p.leaves ∙ rw q refl) }
@@ -62,14 +62,18 @@ module _ {room row room' : List ℕ} {at : ℕ} where
           let z : takes n ≡ refused_with (N.numbered 4) (at + length (frame row)) = sym (ap length_means e) ∙ p.answers ∙ rw q refl in
           let o : ◌≡◌ {A = ℕ} 0 1 = cc in absurd (omega arith)
 
-  pub frame-short : {r : Length} {f : Refusal} → r ≡ L.Refused f → PutsRow room at row r room' → PutsFrame room at row (L.Refused F.Log) room'
+  frame-short : {r : Length} {f : Refusal} → r ≡ Err f → PutsRow room at row r room' → PutsFrame room at row (Err F.Log) room'
   frame-short {r} {f} e p = go (leb (at + length (frame row)) (length room)) refl
     where
-      go : (v : Bool) → leb (at + length (frame row)) (length room) ≡ v → PutsFrame room at row (L.Refused F.Log) room'
+      go : (v : Bool) → leb (at + length (frame row)) (length room) ≡ v → PutsFrame room at row (Err F.Log) room'
       go true q =
           let z : refused_with (refusal_means f) (length_of f) ≡ takes (at + length (frame row)) = sym (ap length_means e) ∙ p.answers ∙ rw q refl in
           let o : ◌≡◌ {A = ℕ} 0 1 = cc in absurd (omega arith)
       go false q = record { answers = rw q refl; leaves = rw q (p.leaves ∙ rw q refl) }
+
+  pub frame-put : (r : Length) → PutsRow room at row r room' → PutsFrame room at row (result_or r (Err F.Log)) room'
+  frame-put (Ok n) p = frame-done refl p
+  frame-put (Err f) p = frame-short refl p
 
 -- ---- what adding makes of the rows
 

@@ -1,4 +1,5 @@
 -- Demand 1 for logs, and one outcome for each input. Assumes nothing.
+use Rattle.std.specs.Prelude.{Result, Ok, Err}
 use Rattle.std.proofs.Common.{◌≡◌, ℕ, Bool, true, false, ltb, leb, List, [], ◌∷◌, length, get_or, sym, refl, ap, ◌∙◌, arith, leb-true}
 use mathlib.Core.Option.{Option, none}
 use Rattle.layout.specs.Refusals as N
@@ -12,8 +13,7 @@ use Rattle.row.proofs.Demand1.{Among, nothing, one, among-or, unless-among}
 use Rattle.batch.specs.Frames.{framed}
 use Rattle.batch.specs.Entries.{rows_of, lent_rows}
 use Rattle.chords.specs.declared.Chord.{Chord}
-use Rattle.strokes.specs.declared.Struck.{Struck}
-use Rattle.strokes.specs.declared.Struck.TheVariants as K
+use Rattle.answers.specs.declared.Refusal.{Refusal}
 use Rattle.chords.specs.Chords.{chord}
 use Rattle.strokes.specs.Log.{chords_of, log_bad, window_bad}
 use Rattle.strokes.specs.Entries as S
@@ -78,12 +78,12 @@ no-four v D.strikes e = let z : ◌≡◌ {A = ℕ} 0 1 = cc in absurd (omega ar
 no-four v (D.refuses (number {n = n} o _)) e = let z : n ≡ 4 = cc in not-among 4 o refl z
 no-four v (D.refuses (place o)) e = let z : ◌≡◌ {A = ℕ} 0 1 = cc in absurd (omega arith)
 
-struck : (r r' : Struck) → chord_means r ≡ chord_means r' → (chord_means r ≡ S.refused (N.numbered 4) → ⊥) → r ≡ r'
-struck (K.Chord c) (K.Chord d) e h = let z : c ≡ d = cc in ap K.Chord z
-struck (K.Chord c) (K.Refused s) e h = cc
-struck (K.Refused r) (K.Chord d) e h = cc
-struck (K.Refused r) (K.Refused s) e h =
-    let n : refusal_means r ≡ refusal_means s = cc in ap K.Refused (number-one r s n (λ q. h (ap S.refused q)))
+struck : (r r' : Result Chord Refusal) → chord_means r ≡ chord_means r' → (chord_means r ≡ S.refused (N.numbered 4) → ⊥) → r ≡ r'
+struck (Ok c) (Ok d) e h = let z : c ≡ d = cc in ap Ok z
+struck (Ok c) (Err s) e h = cc
+struck (Err r) (Ok d) e h = cc
+struck (Err r) (Err s) e h =
+    let n : refusal_means r ≡ refusal_means s = cc in ap Err (number-one r s n (λ q. h (ap S.refused q)))
 
 pub unique : Unique
 unique = record {

@@ -1,4 +1,5 @@
 -- A log walked row by row: what was passed, what it holds, and what a refused row makes of the whole. Assumes nothing.
+use Rattle.std.specs.Prelude.{Ok, Err}
 use Rattle.std.proofs.Common.{◌≡◌, ℕ, ◌+◌, ◌-◌, ◌*◌, ◌<◌, ◌≤◌, Bool, true, false, List, [], ◌∷◌, ◌++◌, length, drop, sym, refl, ap, ◌∙◌, append_assoc, append-nil, arith, length-append}
 use mathlib.Core.Option.{Option, none, some}
 use Rattle.words.specs.Bytes.{Bytes, part}
@@ -14,12 +15,12 @@ use Rattle.batch.specs.Frames.{framing, first, framed}
 use Rattle.batch.specs.Places.{Stands, joined, Passed}
 use Rattle.batch.proofs.Passing.{passed_start, start-rows, passed-few, passed-next, next-rows, passed-end, passed-broken}
 use Rattle.batch.proofs.Taken.{from-done, from-refused}
-use Rattle.strokes.specs.declared.Judged.TheVariants as J
 use Rattle.chords.specs.Chords.{no_stroke, chord_at, row_bad}
 use Rattle.strokes.specs.Log.{with_second, chords_in, chords_of, rows_bad}
 use Rattle.chords.specs.Places.{Keeps}
 use Rattle.chords.proofs.Judging.{or_assoc}
-use Rattle.strokes.specs.Places.{but_last, Sound, JudgedAs, is_sound, is_refused, RefusedAt}
+use Rattle.strokes.specs.declared.Judged.{Judged}
+use Rattle.strokes.specs.Places.{but_last, JudgedAs, is_sound, is_refused, RefusedAt}
 use Rattle.strokes.proofs.Numbers.{row-length}
 
 -- ---- rows one behind another
@@ -137,25 +138,29 @@ module _ {log : List ℕ} {at n last count end : ℕ} (w : Walked log at n last 
         none = row-length row r e;
       }
 
-pub walked_end : {log : List ℕ} {at n last count : ℕ} → Walked log at n last count → length log ≤ at → JudgedAs log (J.Sound last count)
+-- what the judge tells of an accepted log
+abbrev pub judged : ℕ → ℕ → Judged
+judged last count = record { last = last; count = count }
+
+pub walked_end : {log : List ℕ} {at n last count : ℕ} → Walked log at n last count → length log ≤ at → JudgedAs log (Ok (judged last count))
 walked_end {log} {at} {n} {last} {count} w h =
     let is : framed log ≡ some w.passed.rows = passed-end w.passed (omega (arith, w.passed.high)) in
-    is_sound {last = last} {count = count} (record {
+    is_sound {j = judged last count} (record {
       ends = record { sound = record { bytes = w.bytes; rows = w.passed.rows; is = is; sound = w.sound }; begins = w.begins };
       counts = rw is w.counts;
       few = omega (arith, chords-few w.passed.rows, w.counts, w.passed.counts, passed-few w.passed, w.passed.high);
     })
 
-pub log-broken : {log : List ℕ} → framed log ≡ none → JudgedAs log (J.Refused F.Batch)
+pub log-broken : {log : List ℕ} → framed log ≡ none → JudgedAs log (Err F.Batch)
 log-broken e = is_refused {r = F.Batch} (rw e refl) refl
 
 pub walked-broken : {log : List ℕ} {at n last count : ℕ} → Walked log at n last count → at < length log → first (drop at log) ≡ none
-    → JudgedAs log (J.Refused F.Batch)
+    → JudgedAs log (Err F.Batch)
 walked-broken w l e = log-broken (passed-broken w.passed l e)
 
 -- a refused row refuses a log that can be taken apart
 pub row-refused : {log : List ℕ} {end n : ℕ} {r : Refusal} {rows : List (List ℕ)} → RefusedAt log end n r → framed log ≡ some rows
-    → JudgedAs log (J.Refused r)
+    → JudgedAs log (Err r)
 row-refused {log} {end} {n} {r} {rows} f e = is_refused {r = r} (rw e (go (framed (drop end log)) (sym e ∙ f.passed.left))) f.none
   where
     go : (m : Option (List (List ℕ))) → some rows ≡ joined f.passed.rows m → rows_bad rows ≡ some (refusal_means r)

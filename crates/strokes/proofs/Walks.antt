@@ -5,10 +5,10 @@ use lib.ListN.{get_or-append}
 use lib.Seq.{sets, length-sets}
 use Rattle.words.proofs.Parts.{lt-or-le, bytes-part}
 use Rattle.words.proofs.Runs.{sets_then}
-use Rattle.batch.specs.Frames.{framed}
+use Rattle.batch.specs.Frames.{first, framed}
 use Rattle.batch.specs.Entries.{or_none, rows_of}
-use Rattle.batch.specs.Places.{Stands, FrameEnd, joined, Passed}
-use Rattle.batch.proofs.Passing.{passed_start, start-rows, passed-next, next-rows, passed-end, passed-stands}
+use Rattle.batch.specs.Places.{Stands, joined, Passed}
+use Rattle.batch.proofs.Passing.{passed_start, start-rows, passed-next, next-rows, passed-end, passed-over}
 use Rattle.layout.proofs.Entered.{or-none}
 use Rattle.chords.specs.declared.Chord.{Chord}
 use Rattle.chords.specs.Chords.{chord, no_stroke, chord_at, row_bad}
@@ -109,8 +109,8 @@ module _ {log : List ℕ} {n at left : ℕ} (k : Seeking log n at left) where
           let c : length (chords_of k.passed.rows) ≡ length (chords_of k.sound.rows) = ap (λ (l : List (List ℕ)). length (chords_of l)) r in
           absurd (omega (arith, k.counts, k.there))
 
-  pub seek-stands : {end : ℕ} → FrameEnd log at end → Stands log at end
-  seek-stands f = passed-stands k.passed k.sound.is f seek-before
+  pub seek-ends : first (drop at log) ≡ none → ⊥
+  seek-ends f = let e = passed-over k.passed k.sound.is f in omega (arith, seek-before)
 
   module _ {end : ℕ} (s : Stands log at end) where
     pub seek-keeps : Keeps (row_at log at end)
@@ -158,9 +158,6 @@ unfolding chords_of numbers_of
 put-start {log} w h = record { sound = w; count = 0; passed = passed_start log; next = rw start-rows; room = h; holds = rw start-rows }
 
 module _ {log out out' : List ℕ} {at i : ℕ} (k : Putting log out out' at i) where
-  pub put-stands : {end : ℕ} → at < length log → FrameEnd log at end → Stands log at end
-  put-stands l f = passed-stands k.passed k.sound.is f l
-
   module _ {end : ℕ} (s : Stands log at end) where
     pub put_keeps : Keeps (row_at log at end)
     put_keeps = next-keeps k.sound k.passed s
@@ -198,7 +195,7 @@ module _ {log out out' : List ℕ} {at i : ℕ} (k : Putting log out out' at i) 
   pub put-long : length out' ≡ length out
   put-long = ap length k.holds ∙ length-sets out 0 (numbers_of (chords_of k.passed.rows))
 
-  pub put-end : length log ≤ at → out' ≡ sets out 0 (numbers_in log)
-  put-end l =
-      let e : rows_of log ≡ k.passed.rows = ap or_none (passed-end k.passed (omega (arith, k.passed.high))) in
+  pub put-end : first (drop at log) ≡ none → out' ≡ sets out 0 (numbers_in log)
+  put-end f =
+      let e : rows_of log ≡ k.passed.rows = ap or_none (passed-end k.passed (passed-over k.passed k.sound.is f)) in
       k.holds ∙ ap (λ (r : List (List ℕ)). sets out 0 (numbers_of (chords_of r))) (sym e)

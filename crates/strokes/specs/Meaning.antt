@@ -1,9 +1,7 @@
 -- What the entries' answers mean, by the document's numbers. Assumes nothing: these are definitions.
-use Rattle.std.specs.Prelude.{◌≡◌, ℕ, List, length}
-use Rattle.answers.specs.declared.Length.{Length}
-use Rattle.answers.specs.Meaning.{refusal_means, length_means}
-use Rattle.strokes.specs.declared.Struck.{Struck}
-use Rattle.strokes.specs.declared.Struck.TheVariants as K
+use Rattle.std.specs.Prelude.{Ok, Err, ◌≡◌, ℕ, List, length, Result}
+use Rattle.answers.specs.Meaning.{Length, refusal_means, length_means}
+use Rattle.answers.specs.declared.Refusal.{Refusal}
 use Rattle.chords.specs.declared.Chord.{Chord}
 use Rattle.strokes.specs.Entries.{add_of, added_of, read_of, read_into, Reading}
 use Rattle.strokes.specs.Entries as S
@@ -19,6 +17,6 @@ pub record ReadsAll (log out : List ℕ) (r : Length) (out' : List ℕ) : Type 0
   pub leaves : out' ≡ read_into log out
 
 -- chord: a chord, or a refusal
-abbrev pub chord_means : Struck → Reading
-chord_means (K.Chord c) = S.is c
-chord_means (K.Refused r) = S.refused (refusal_means r)
+abbrev pub chord_means : Result Chord Refusal → Reading
+chord_means (Ok c) = S.is c
+chord_means (Err r) = S.refused (refusal_means r)

@@ -1,17 +1,15 @@
 -- What the functions of `strokes` hand on of a log. Assumes nothing: these are definitions.
-use Rattle.std.specs.Prelude.{◌≡◌, ℕ, ◌+◌, ◌*◌, ◌≤◌, List, [], ◌∷◌, length}
+use Rattle.std.specs.Prelude.{Result, Ok, Err, ◌≡◌, ℕ, ◌+◌, ◌*◌, ◌≤◌, List, [], ◌∷◌, length}
 use Rattle.std.proofs.Math.Option.{none, some}
 use Rattle.words.specs.Bytes.{Bytes}
 use Rattle.layout.specs.Entries.{filled}
 use Rattle.answers.specs.declared.Refusal.{Refusal}
-use Rattle.answers.specs.declared.Length.{Length}
-use Rattle.answers.specs.Meaning.{refusal_means, length_of, length_means}
+use Rattle.answers.specs.Meaning.{Length, refusal_means, length_of, length_means}
 use Rattle.batch.specs.Frames.{frame, framing, framed}
 use Rattle.batch.specs.Entries.{rows_of, framed_at}
 use Rattle.batch.specs.Places.{Passed}
 use Rattle.chords.specs.declared.Chord.{Chord}
 use Rattle.strokes.specs.declared.Judged.{Judged}
-use Rattle.strokes.specs.declared.Judged.TheVariants as J
 use Rattle.strokes.specs.Log.{chords_of, rows_bad, log_bad, added}
 use Rattle.strokes.specs.Entries.{held_after}
 
@@ -45,9 +43,9 @@ pub record InOrder (log : List ℕ) (last count : ℕ) : Type 0 where
   pub few : 2 * count ≤ length log
 
 -- what judging a log comes to
-pub data JudgedAs (log : List ℕ) : Judged → Type 0 where
-  is_sound : {last count : ℕ} → InOrder log last count → JudgedAs log (J.Sound last count)
-  is_refused : {r : Refusal} → log_bad (framed log) ≡ some (refusal_means r) → length_of r ≡ 0 → JudgedAs log (J.Refused r)
+pub data JudgedAs (log : List ℕ) : Result Judged Refusal → Type 0 where
+  is_sound : {j : Judged} → InOrder log j.last j.count → JudgedAs log (Ok j)
+  is_refused : {r : Refusal} → log_bad (framed log) ≡ some (refusal_means r) → length_of r ≡ 0 → JudgedAs log (Err r)
 
 -- n frames end at the byte numbered end, the rows before the last are as a log may have them, and the last is refused with r
 pub record RefusedAt (log : List ℕ) (end n : ℕ) (r : Refusal) : Type 0 where

@@ -13,32 +13,25 @@ ghost use Rattle.strokes.specs.Entries.{numbers_of, numbers_in, chord_of};
 ghost use Rattle.strokes.specs.Meaning.{Adds, ReadsAll, chord_means};
 ghost use Rattle.strokes.specs.Places.{PutsFrame, Sound, Ends, JudgedAs, RefusedAt, AddsTo};
 
-use answers::{Length, Outcome, Refusal};
-use batch::{Counted, frames};
+use answers::Refusal;
+use batch::frames;
 use chords::Chord;
 
-// What one chord of a log reads as.
+// What judging a log tells of it: where the frame of its last row starts, and how many chords it has.
 #[derive(Clone, Copy)]
-pub enum Struck {
-    Chord(Chord),
-    Refused(Refusal),
-}
-
-// What judging a log comes to: where the frame of its last row starts, and how many chords it has; or a refusal.
-#[derive(Clone, Copy)]
-enum Judged {
-    Sound { last: usize, count: usize },
-    Refused(Refusal),
+struct Judged {
+    last: usize,
+    count: usize,
 }
 
 // The refusal of a row whose frame is the n-th and ends at a place: 10 of the whole log comes before it.
-fn refuse_row(log: &[u8], end: usize, n: usize, r: Refusal) -> Judged
+fn refuse_row(log: &[u8], end: usize, n: usize, r: Refusal) -> Refusal
     requires { RefusedAt log.now end n r }
-    ensures { JudgedAs log.now result }
+    ensures { JudgedAs log.now (Err result) }
 {
     match frames::count_on(log, end, n) {
-        Counted::Rows(_) => Judged::Refused(r),
-        Counted::Refused(_) => Judged::Refused(Refusal::Batch),
+        Ok(_) => r,
+        Err(_) => Refusal::Batch,
     }
 }
 
@@ -51,7 +44,7 @@ fn chords_in(row: &[u8]) -> usize
 }
 
 // Frames and rows in one walk; behind a refused row the frames alone are looked at.
-fn judge_log(log: &[u8]) -> Judged
+fn judge_log(log: &[u8]) -> Result<Judged, Refusal>
     ensures { JudgedAs log.now result }
 {
     let mut at = 0;
@@ -59,37 +52,28 @@ fn judge_log(log: &[u8]) -> Judged
     let mut last = 0;
     let mut count = 0;
     while at < log.len() {
-        let end = frames::frame_end(log, at);
-        if end == 0 {
-            return Judged::Refused(Refusal::Batch);
+        let end = frames::frame_end(log, at).ok_or(Refusal::Batch)?;
+        let row = &log[at + 4..end];
+        if let Err(r) = chords::judge(row) {
+            return Err(refuse_row(log, end, n + 1, r));
         }
-        let start = at + 4;
-        match chords::judge(&log[start..end]) {
-            Outcome::Done => {}
-            Outcome::Refused(r) => {
-                return refuse_row(log, end, n + 1, r);
-            }
-        }
-        count += chords_in(&log[start..end]);
+        count += chords_in(row);
         n += 1;
         last = at;
         at = end;
     }
-    Judged::Sound { last, count }
+    Ok(Judged { last, count })
 }
 
 // A row in its frame from a place on: the new length, or refused with 11.
-fn put_frame(room: &mut [u8], at: usize, row: &[u8]) -> Length
+fn put_frame(room: &mut [u8], at: usize, row: &[u8]) -> Result<usize, Refusal>
     requires { (at ≤ length room.old) × (length row.now ≤ 16384) }
     ensures { PutsFrame room.old at row.now result room.new }
 {
-    match frames::put_row(room, at, row) {
-        Length::Done(n) => Length::Done(n),
-        Length::Refused(_) => Length::Refused(Refusal::Log),
-    }
+    frames::put_row(room, at, row).or(Err(Refusal::Log))
 }
 
-fn put_one(room: &mut [u8], at: usize, c: Chord) -> Length
+fn put_one(room: &mut [u8], at: usize, c: Chord) -> Result<usize, Refusal>
     requires { at ≤ length room.old }
     ensures { PutsFrame room.old at (row_for c none) result room.new }
 {
@@ -98,7 +82,7 @@ fn put_one(room: &mut [u8], at: usize, c: Chord) -> Length
     put_frame(room, at, &row)
 }
 
-fn put_two(room: &mut [u8], at: usize, c: Chord, d: Chord) -> Length
+fn put_two(room: &mut [u8], at: usize, c: Chord, d: Chord) -> Result<usize, Refusal>
     requires { at ≤ length room.old }
     ensures { PutsFrame room.old at (row_for c (some d)) result room.new }
 {
@@ -122,7 +106,13 @@ fn joins(row: &[u8], tick: u32, window: u32) -> bool
 
 // A chord added to the log that the first `used` bytes of a room are, the last row's frame at a place: the row it goes into is laid down
 // where its frame begins, and nothing before that is written.
-fn add_to(room: &mut [u8], used: usize, last: usize, c: Chord, window: u32) -> Length
+fn add_to(
+    room: &mut [u8],
+    used: usize,
+    last: usize,
+    c: Chord,
+    window: u32,
+) -> Result<usize, Refusal>
     requires { (used ≤ length room.old) × Ends (take used room.old) last }
     ensures { AddsTo room.old (rows_of (take used room.old)) c window result room.new }
 {
@@ -138,21 +128,23 @@ fn add_to(room: &mut [u8], used: usize, last: usize, c: Chord, window: u32) -> L
 }
 
 // A chord added to the log that the first `used` bytes of a room are: the new length, or refused with 10, 3, 7 or 11.
-pub fn add(room: &mut [u8], used: usize, tick: u32, keys: u32, window: u32) -> Length
+pub fn add(
+    room: &mut [u8],
+    used: usize,
+    tick: u32,
+    keys: u32,
+    window: u32,
+) -> Result<usize, Refusal>
     ensures { Adds room.old used (chord tick keys) window result room.new }
 {
     if room.len() < used {
-        return Length::Refused(Refusal::Batch);
+        return Err(Refusal::Batch);
     }
-    match judge_log(&room[..used]) {
-        Judged::Sound { last, count: _ } => {
-            if 1000 < window {
-                return Length::Refused(Refusal::Log);
-            }
-            add_to(room, used, last, Chord { tick, keys }, window)
-        }
-        Judged::Refused(r) => Length::Refused(r),
+    let judged = judge_log(&room[..used])?;
+    if 1000 < window {
+        return Err(Refusal::Log);
     }
+    add_to(room, used, judged.last, Chord { tick, keys }, window)
 }
 
 // The numbers of a chord from place i on.
@@ -185,29 +177,22 @@ fn put_chords(log: &[u8], out: &mut [u32])
 {
     let mut at = 0;
     let mut i = 0;
-    while at < log.len() {
-        let end = frames::frame_end(log, at);
-        let start = at + 4;
-        i = put_row(out, i, &log[start..end]);
+    while let Some(end) = frames::frame_end(log, at) {
+        i = put_row(out, i, &log[at + 4..end]);
         at = end;
     }
 }
 
 // All chords of a log, tick, keys, tick, keys .. from the start of the lent numbers on: how many numbers, or refused with 10, 3, 7 or 11.
-pub fn read(log: &[u8], out: &mut [u32]) -> Length
+pub fn read(log: &[u8], out: &mut [u32]) -> Result<usize, Refusal>
     ensures { ReadsAll log.now out.old result out.new }
 {
-    match judge_log(log) {
-        Judged::Sound { last: _, count } => {
-            let needed = 2 * count;
-            if out.len() < needed {
-                return Length::Refused(Refusal::Log);
-            }
-            put_chords(log, out);
-            Length::Done(needed)
-        }
-        Judged::Refused(r) => Length::Refused(r),
+    let needed = 2 * judge_log(log)?.count;
+    if out.len() < needed {
+        return Err(Refusal::Log);
     }
+    put_chords(log, out);
+    Ok(needed)
 }
 
 // Chord n of an accepted log that has it.
@@ -217,29 +202,24 @@ fn find(log: &[u8], n: usize) -> Chord
 {
     let mut at = 0;
     let mut left = n;
-    loop {
-        let end = frames::frame_end(log, at);
-        let start = at + 4;
-        let held = chords_in(&log[start..end]);
+    while let Some(end) = frames::frame_end(log, at) {
+        let row = &log[at + 4..end];
+        let held = chords_in(row);
         if left < held {
-            return chords::chord_at(&log[start..end], left);
+            return chords::chord_at(row, left);
         }
         left -= held;
         at = end;
     }
+    unreachable!()
 }
 
 // Chord n of a log, counted from 0: the chord, or refused with 10, 3, 7 or 5.
-pub fn chord(log: &[u8], n: usize) -> Struck
+pub fn chord(log: &[u8], n: usize) -> Result<Chord, Refusal>
     ensures { chord_means result ≡ chord_of log.now n }
 {
-    match judge_log(log) {
-        Judged::Sound { last: _, count } => {
-            if count <= n {
-                return Struck::Refused(Refusal::NoPlace);
-            }
-            Struck::Chord(find(log, n))
-        }
-        Judged::Refused(r) => Struck::Refused(r),
+    if judge_log(log)?.count <= n {
+        return Err(Refusal::NoPlace);
     }
+    Ok(find(log, n))
 }

@@ -3,7 +3,7 @@ use Rattle.std.proofs.Common.{◌≡◌, ℕ, ◌≤◌, List, length, take, sym
 use Rattle.schema.specs.Reading.{judged}
 use Rattle.schema.specs.declared.Judged.{Judged}
 use Rattle.schema.specs.declared.Judged.TheVariants.{Accepted, Refused}
-use Rattle.table.specs.Tables.{Built, BuiltAt, Table, schema_of}
+use Rattle.table.specs.Tables.{Built, BuiltAt, Table, TableFor, schema_of}
 use Rattle.table.proofs.Places.{says-schema, table-of}
 
 -- the table at the start of the room T is that of the schema s
@@ -36,3 +36,7 @@ none {s} {n} {T} b z = go (judged s) refl
     go : (j : Judged) → judged s ≡ j → judged s ≡ Refused
     go Refused e = e
     go Accepted e = let x = b.accepted e in absurd (omega (arith, x.some))
+
+-- what a step is handed
+pub handed : {s : List ℕ} {n : ℕ} {T : List ℕ} → Built s n T → (n ≡ 0 → ⊥) → TableFor s (take n T)
+handed b z = let g = got b z in record { table = g.table; says = g.says }

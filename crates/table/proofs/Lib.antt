@@ -2,6 +2,7 @@ pub mod Decode
 pub mod Spots
 pub mod Places
 pub mod Got
+pub mod Steps
 pub mod Filling
 pub mod Running
 pub mod Lines

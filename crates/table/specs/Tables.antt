@@ -58,6 +58,11 @@ pub record Table (t : List ℕ) : Type 0 where
   pub accepted : judged (schema_of t) ≡ Accepted
   pub given : t ≡ table_of (schema_of t)
 
+-- and that schema is s
+pub record TableFor (s t : List ℕ) : Type 0 where
+  pub table : Table t
+  pub says : schema_of t ≡ s
+
 -- What building leaves: r is 0 where the schema is refused, and nothing is said of the room; otherwise the table has r entries and stands
 -- at the room's start.
 pub record BuiltAt (s : List ℕ) (r : ℕ) (t : List ℕ) : Type 0 where

@@ -6,6 +6,8 @@ ghost use Rattle.schema.specs.Marks.{element_width, LIST};
 ghost use Rattle.table.specs.Words.{MarkAt, line_for, lines_of, held_at, behind_at, Lined, place_in, mark_in, width_in, top_in, count_in, after_in};
 ghost use Rattle.table.specs.Tables.{Built, InTable, EntryAt};
 
+pub mod rooms;
+
 // The constant table of the twelve types, a word a line: the mark in bits 0 to 15, the top bit of a fixed-width slot's contents in 16 to 21,
 // the width in 22 to 25, 0 where it varies, and the kind in 28 to 31. The mark numbered m can stand at (109 m / 1024) mod 16, which
 // differs for all twelve; 0 where none does.

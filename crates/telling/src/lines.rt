@@ -1,108 +1,96 @@
-// Text put together in a lent line. Each function answers where the text ends; what finds no room is left out, and no line is that long.
+// Text put together in a lent line; what finds no room is left out, and no line is that long.
+ghost use Rattle.std.specs.Prelude.{◌≤◌, length};
 
-pub fn put_byte(line: &mut [u8], at: usize, b: u8) -> usize {
-    if at < line.len() {
-        line[at] = b;
-        at + 1
-    } else {
-        at
+const DIGITS: &[u8; 16] = b"0123456789abcdef";
+
+#[derive(Drop)]
+pub struct Line<'a> {
+    bytes: &'a mut [u8],
+    len: usize,
+    ghost within: { len ≤ length bytes.now },
+}
+
+impl<'a> Line<'a> {
+    pub fn new(bytes: &'a mut [u8]) -> Self {
+        Line { bytes, len: 0 }
     }
-}
 
-pub fn put_text(line: &mut [u8], at: usize, text: &[u8]) -> usize {
-    let mut end = at;
-    let mut i = 0;
-    while i < text.len() {
-        end = put_byte(line, end, text[i]);
-        i += 1;
+    // What is put so far.
+    pub fn as_bytes(&self) -> &[u8] {
+        &self.bytes[..self.len]
     }
-    end
-}
 
-// A space, and the number's decimal digits.
-pub fn put_number(line: &mut [u8], at: usize, n: u64) -> usize {
-    let start = put_byte(line, at, b' ');
-    put_decimal(line, start, n)
-}
-
-// The same for a number of 32 bits.
-pub fn put_number32(line: &mut [u8], at: usize, n: u32) -> usize {
-    put_number(line, at, n as u64)
-}
-
-fn put_decimal(line: &mut [u8], at: usize, n: u64) -> usize {
-    let mut digits = [0u8; 20];
-    let k = io::decimal(n, &mut digits);
-    put_text(line, at, &digits[0..k])
-}
-
-// The same for a signed number, by its bits.
-pub fn put_signed(line: &mut [u8], at: usize, n: i64) -> usize {
-    let bits = words::signed::of_signed(n, 8);
-    if bits < 0x8000_0000_0000_0000 {
-        return put_number(line, at, bits);
+    pub fn byte(&mut self, b: u8) {
+        if self.len < self.bytes.len() {
+            self.bytes[self.len] = b;
+            self.len += 1;
+        }
     }
-    let start = put_byte(line, at, b' ');
-    let sign = put_byte(line, start, b'-');
-    put_decimal(line, sign, 0xFFFF_FFFF_FFFF_FFFF - bits + 1)
-}
 
-// At least `width` hexadecimal digits.
-fn put_hex(line: &mut [u8], at: usize, n: u64, width: usize) -> usize {
-    let mut digits = [0u8; 16];
-    let k = io::hex(n, width, &mut digits);
-    put_text(line, at, &digits[0..k])
-}
-
-// A space, and such digits.
-pub fn put_bits(line: &mut [u8], at: usize, n: u64, width: usize) -> usize {
-    let start = put_byte(line, at, b' ');
-    put_hex(line, start, n, width)
-}
-
-// The digit of the lower half.
-fn hex_digit(n: u8) -> u8 {
-    let d = n & 15;
-    if d < 10 { 48 + d } else { 87 + d }
-}
-
-// Two digits for each byte, `-` for none.
-pub fn put_bytes(line: &mut [u8], at: usize, bytes: &[u8]) -> usize {
-    if bytes.len() == 0 {
-        return put_byte(line, at, b'-');
+    pub fn text(&mut self, text: &[u8]) {
+        for b in text {
+            self.byte(*b);
+        }
     }
-    let mut end = at;
-    let mut i = 0;
-    while i < bytes.len() {
-        let b = bytes[i];
-        end = put_byte(line, end, hex_digit(b >> 4));
-        end = put_byte(line, end, hex_digit(b));
-        i += 1;
-    }
-    end
-}
 
-// Sixteen digits for each word of a table, `-` for none.
-pub fn put_words(line: &mut [u8], at: usize, table: &[u64]) -> usize {
-    if table.len() == 0 {
-        return put_byte(line, at, b'-');
+    fn decimal(&mut self, n: u64) {
+        let mut digits = [0; 20];
+        let k = io::decimal(n, &mut digits);
+        self.text(&digits[..k]);
     }
-    let mut end = at;
-    let mut i = 0;
-    while i < table.len() {
-        end = put_hex(line, end, table[i], 16);
-        i += 1;
-    }
-    end
-}
 
-// A space and the decimal digits for each number.
-pub fn put_numbers(line: &mut [u8], at: usize, numbers: &[u32]) -> usize {
-    let mut end = at;
-    let mut i = 0;
-    while i < numbers.len() {
-        end = put_number32(line, end, numbers[i]);
-        i += 1;
+    // A space, and the number's decimal digits.
+    pub fn number(&mut self, n: u64) {
+        self.byte(b' ');
+        self.decimal(n);
     }
-    end
+
+    pub fn signed(&mut self, n: i64) {
+        self.byte(b' ');
+        if n < 0 {
+            self.byte(b'-');
+        }
+        self.decimal(n.unsigned_abs());
+    }
+
+    // At least so many hexadecimal digits.
+    fn digits(&mut self, n: u64, width: usize) {
+        let mut digits = [0; 16];
+        let k = io::hex(n, width, &mut digits);
+        self.text(&digits[..k]);
+    }
+
+    // A space, and such digits.
+    pub fn hex(&mut self, n: u64, width: usize) {
+        self.byte(b' ');
+        self.digits(n, width);
+    }
+
+    // Two digits for each byte, `-` for none.
+    pub fn bytes(&mut self, bytes: &[u8]) {
+        if bytes.is_empty() {
+            self.byte(b'-');
+        }
+        for b in bytes {
+            self.byte(DIGITS[usize::from(*b >> 4)]);
+            self.byte(DIGITS[usize::from(*b & 15)]);
+        }
+    }
+
+    // Sixteen digits for each word, `-` for none.
+    pub fn words(&mut self, words: &[u64]) {
+        if words.is_empty() {
+            self.byte(b'-');
+        }
+        for w in words {
+            self.digits(*w, 16);
+        }
+    }
+
+    // A space and the decimal digits for each number.
+    pub fn numbers(&mut self, numbers: &[u32]) {
+        for n in numbers {
+            self.number(u64::from(*n));
+        }
+    }
 }

@@ -1,5 +1,4 @@
 -- The first two bytes of a character against the lines of the table, the sizes that follow, and the high bits of a word. Assumes nothing.
-use mathlib.Core.Bool.{Bool, true, false, true≢false}
 use mathlib.Core.Path.{◌≡◌, refl, sym, ap, ◌∙◌}
 use mathlib.Core.List.{List}
 use Prim.Native.Nat.{ℕ, zero, suc, ◌+◌, ◌-◌, ◌*◌, ◌/◌, ◌≤◌, ◌<◌}
@@ -7,35 +6,14 @@ use native.Mathlib.Nat.{mod-eq_of_lt}
 use native.Mathlib.Decide.{dec_lt}
 use native.Mathlib.Omega.{arith}
 use lib.Bits.{bit_and, and_block, and_high}
-use lib.Dec.{eqb, leb, lit<}
+use lib.Dec.{lit<}
 use lib.ListN.{length, get_or}
-use borrow.Author.Tests.{eq-eqb, ne_eqb, leb-true, leb-false}
+use borrow.Author.Tests.{eq-eqb, ne_eqb}
 use Rattle.words.specs.Bytes.{Bytes, empty, byte, num, part}
 use Rattle.words.specs.Text.{In, Tail, One, Two, xc2-df, Three, xe0, xe1-ec, xed, xee-ef, Four, xf0, xf1-f3, xf4}
 use Rattle.words.specs.TextTest.{one?, two?, three?, four?, first_yes, char_size, no_one, no-two, size2, size3, size4}
-use Rattle.words.specs.Chars.{Tells, right, wrong, Ascii, bare, ascii, front_size, low_behind, high_behind, Begins}
+use Rattle.words.specs.Chars.{Ascii, bare, ascii, front_size, low_behind, high_behind, Begins}
 use Rattle.words.proofs.Parts.{length_part, bytes-part, get_d_part}
-
--- ---- answers
-
-pub tells-yes : {P : Type 0} {x : Bool} → Tells P x → x ≡ true → P
-tells-yes (right p) e = p
-tells-yes (wrong n) e = absurd (true≢false (sym e))
-
-pub tells-no : {P : Type 0} {x : Bool} → Tells P x → x ≡ false → ¬ P
-tells-no (right p) e = absurd (true≢false e)
-tells-no (wrong n) e = n
-
-pub tells-in : (low high x : ℕ) → low ≤ x → Tells (In low high x) (leb x high)
-tells-in low high x h = go (leb x high) (leb-true x high) (leb-false x high)
-  where
-    go : (t : Bool) → (t ≡ true → x ≤ high) → (t ≡ false → high < x) → Tells (In low high x) t
-    go true f g = let l = f refl in right (record { from = h; to = l })
-    go false f g = let l = g refl in wrong λ i. omega arith
-
-pub tells-begins : {a x l h : ℕ} {t : Bool} → In 0xC2 0xF4 a → l ≡ low_behind a → h ≡ high_behind a → Tells (In l h x) t → Tells (Begins a x) t
-tells-begins i e f (right p) = right (record { lead = i; behind = rw (← e, ← f) p })
-tells-begins i e f (wrong n) = wrong λ s. n (rw (e, f) s.behind)
 
 -- ---- the bounds behind a first byte
 
@@ -185,39 +163,39 @@ first-is b i stop h =
     let e : i + 0 ≡ i = omega arith in
     sym (get_d_part b i (stop - i) 0 (omega arith) ∙ ap (λ (k : ℕ). get_or b k 0) e)
 
-pub size_none : (u : List ℕ) {a b : ℕ} → a ≡ get_or u 0 0 → b ≡ get_or u 1 0 → 0x80 ≤ a → ¬ Begins a b → 0 ≡ front_size u
+pub size_none : (u : List ℕ) {a b : ℕ} → a ≡ get_or u 0 0 → b ≡ get_or u 1 0 → 0x80 ≤ a → ¬ Begins a b → front_size u ≡ 0
 unfolding front_size
 size_none u {a} {b} ea eb h n =
-    rw (← ea, ← eb) (sym (size0 a b (get_or u 2 0) (get_or u 3 0) (no_one h) (λ t. n (two-begins t)) (λ t. n (three-begins t)) (λ t. n (four-begins t))))
+    rw (← ea, ← eb) (size0 a b (get_or u 2 0) (get_or u 3 0) (no_one h) (λ t. n (two-begins t)) (λ t. n (three-begins t)) (λ t. n (four-begins t)))
 
-pub size-two : {u : List ℕ} {a b : ℕ} → Starts u a b → a < 0xE0 → 2 ≡ front_size u
+pub size-two : {u : List ℕ} {a b : ℕ} → Starts u a b → a < 0xE0 → front_size u ≡ 2
 unfolding front_size
-size-two {u} {a} {b} s h = rw (← s.first, ← s.second) (sym (size2 a b (get_or u 2 0) (get_or u 3 0) (begins-two s.begins h)))
+size-two {u} {a} {b} s h = rw (← s.first, ← s.second) (size2 a b (get_or u 2 0) (get_or u 3 0) (begins-two s.begins h))
 
-pub size-no-third : {u : List ℕ} {a b c : ℕ} → Starts u a b → c ≡ get_or u 2 0 → 0xE0 ≤ a → ¬ Tail c → 0 ≡ front_size u
+pub size-no-third : {u : List ℕ} {a b c : ℕ} → Starts u a b → c ≡ get_or u 2 0 → 0xE0 ≤ a → ¬ Tail c → front_size u ≡ 0
 unfolding front_size
 size-no-third {u} {a} {b} {c} s ec h n =
     rw (← s.first, ← s.second, ← ec)
-    (sym (size0 a b c (get_or u 3 0) (no_one (omega arith)) (no-two h) (λ t. n (three-tail t)) (λ t. n (four-tails t).0)))
+    (size0 a b c (get_or u 3 0) (no_one (omega arith)) (no-two h) (λ t. n (three-tail t)) (λ t. n (four-tails t).0))
 
-pub size-three : {u : List ℕ} {a b c : ℕ} → Goes u a b c → a < 0xF0 → 3 ≡ front_size u
+pub size-three : {u : List ℕ} {a b c : ℕ} → Goes u a b c → a < 0xF0 → front_size u ≡ 3
 unfolding front_size
 size-three {u} {a} {b} {c} g h =
     let s = g.starts in
-    rw (← s.first, ← s.second, ← g.third) (sym (size3 a b c (get_or u 3 0) (begins-three s.begins g.long h g.tail)))
+    rw (← s.first, ← s.second, ← g.third) (size3 a b c (get_or u 3 0) (begins-three s.begins g.long h g.tail))
 
-pub size-no-fourth : {u : List ℕ} {a b c d : ℕ} → Goes u a b c → d ≡ get_or u 3 0 → 0xF0 ≤ a → ¬ Tail d → 0 ≡ front_size u
+pub size-no-fourth : {u : List ℕ} {a b c d : ℕ} → Goes u a b c → d ≡ get_or u 3 0 → 0xF0 ≤ a → ¬ Tail d → front_size u ≡ 0
 unfolding front_size
 size-no-fourth {u} {a} {b} {c} {d} g ed h n =
     let s = g.starts in
     rw (← s.first, ← s.second, ← g.third, ← ed)
-    (sym (size0 a b c d (no_one (omega arith)) (no-two g.long) (no-three h) (λ t. n (four-tails t).1)))
+    (size0 a b c d (no_one (omega arith)) (no-two g.long) (no-three h) (λ t. n (four-tails t).1))
 
-pub size-four : {u : List ℕ} {a b c d : ℕ} → Goes u a b c → d ≡ get_or u 3 0 → 0xF0 ≤ a → Tail d → 4 ≡ front_size u
+pub size-four : {u : List ℕ} {a b c d : ℕ} → Goes u a b c → d ≡ get_or u 3 0 → 0xF0 ≤ a → Tail d → front_size u ≡ 4
 unfolding front_size
 size-four {u} {a} {b} {c} {d} g ed h v =
     let s = g.starts in
-    rw (← s.first, ← s.second, ← g.third, ← ed) (sym (size4 a b c d (begins-four s.begins h g.tail v)))
+    rw (← s.first, ← s.second, ← g.third, ← ed) (size4 a b c d (begins-four s.begins h g.tail v))
 
 -- ---- the high bits of a word
 

@@ -52,11 +52,11 @@ found_here b at stop i h l z f =
     let e : zeros_ahead (part b i (stop - i)) ≡ 0 = ap zeros_ahead (part-first b i stop h l) ∙ ahead-other (get_or b i 0) _ z in
     omega arith
 
-pub found_none : (b : List ℕ) (at stop i : ℕ) → i ≡ stop → Found b at stop i → i ≡ at + zeros_ahead (part b at (stop - at))
+pub found_none : (b : List ℕ) (at stop : ℕ) → Found b at stop stop → stop ≡ at + zeros_ahead (part b at (stop - at))
 unfolding zeros_ahead
-found_none b at stop i h f =
-    let z : stop - i ≡ 0 = omega arith in
-    let e : zeros_ahead (part b i (stop - i)) ≡ 0 = ap (λ (n : ℕ). zeros_ahead (part b i n)) z in
+found_none b at stop f =
+    let z : stop - stop ≡ 0 = omega arith in
+    let e : zeros_ahead (part b stop (stop - stop)) ≡ 0 = ap (λ (n : ℕ). zeros_ahead (part b stop n)) z in
     omega arith
 
 -- ---- a bit past n

@@ -2,13 +2,15 @@
 -- lists side by side, and a run inside a part. Assumes nothing.
 use mathlib.Core.Path.{◌≡◌, refl, sym, ap, ◌∙◌}
 use mathlib.Core.Logic.{◌⊎◌, inl, inr, ⊎_elim}
-use mathlib.Core.List.{List, [], ◌∷◌, ◌++◌, append-nil}
+use mathlib.Core.List.{List, [], ◌∷◌, ◌++◌, append-nil, append_assoc}
 use Prim.Native.Nat.{ℕ, zero, suc, ◌+◌, ◌-◌, ◌≤◌, ◌<◌}
 use native.Mathlib.Nat.{add-zero, add-suc, suc-add, zero-add, not-suc-le-zero}
 use native.Mathlib.Omega.{arith}
 use lib.ListN.{length, take, drop, get_or, set, length-append, length-set, length-take, take-append-drop, get_or-append}
-use lib.Seq.{sets, sets-eq, length-sets, set_comm, set-set, set-append_left, drop_at, drop-length, take-add, ext_get_or, length-take-le, get_or-append-add}
+use lib.Seq.{sets, sets-eq, length-sets, set_comm, set-set, set-append_left}
+use lib.Seq.{drop_at, drop-length, take-add, ext_get_or, drop-drop, length-take-le, get_or-append-add}
 use lib.Seq.{get_or-drop, get_or-set_other}
+use borrow.Rule.Slice.PartMut.{put_mid}
 use Rattle.words.specs.Bytes.{Bytes, empty, byte, part}
 use Rattle.words.proofs.Parts.{around, length_part, get_d_part}
 
@@ -83,6 +85,12 @@ sets_behind xs ys i (v ∷ vs) = rw (set-behind, ← (add-suc (length xs) i)) (s
 pub sets-ahead : (xs ys : List ℕ) (i : ℕ) (v : List ℕ) → i + length v ≤ length xs → sets (xs ++ ys) i v ≡ sets xs i v ++ ys
 sets-ahead xs ys i [] h = refl
 sets-ahead xs ys i (v ∷ vs) h = rw (set-append_left xs ys i v (omega arith)) (sets-ahead (set xs i v) ys (suc i) vs (rw length-set (omega arith)))
+
+-- a run of k bytes that the code writes as a range of its own
+pub put_mid-sets : (b v : List ℕ) (at k : ℕ) → length v ≡ k → at + k ≤ length b → put_mid at k b v ≡ sets b at v
+put_mid-sets b v at k e h =
+    sym (append_assoc (take at b) v _) ∙ ap (λ (t : List ℕ). take at b ++ v ++ t) (drop-drop k at b ∙ ap (λ (n : ℕ). drop (at + n) b) (sym e))
+    ∙ sym (sets-eq v b at (omega arith))
 
 -- a run over the whole of u
 pub sets_over : (u v ys : List ℕ) → length v ≡ length u → sets (u ++ ys) 0 v ≡ v ++ ys

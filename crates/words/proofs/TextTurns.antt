@@ -29,15 +29,15 @@ module _ (b : List ℕ) (at stop i : ℕ) (h : i < stop) (l : stop ≤ length b)
       let e : stop - i - n ≡ stop - (i + n) = omega arith in
       drop-take n (stop - i) (drop i b) ∙ rw (drop-drop n i b, e)
 
-  pub char-fits : (n : ℕ) → n ≡ front_size (part b i (stop - i)) → i + n ≤ stop
+  pub char-fits : (n : ℕ) → front_size (part b i (stop - i)) ≡ n → i + n ≤ stop
   char-fits n e = let f = front_fits (part b i (stop - i)) (omega (arith, length-left)) in omega (arith, length-left)
 
-  pub char-none : (n : ℕ) → n ≡ front_size (part b i (stop - i)) → n ≡ 0 → Same b at stop i → false ≡ is_text (part b at (stop - at))
-  char-none n e z s = sym (front-none (part b i (stop - i)) (omega (arith, length-left)) (sym e ∙ z)) ∙ s
+  pub char-none : front_size (part b i (stop - i)) ≡ 0 → Same b at stop i → false ≡ is_text (part b at (stop - at))
+  char-none e s = sym (front-none (part b i (stop - i)) (omega (arith, length-left)) e) ∙ s
 
-  pub char-on : (n : ℕ) → n ≡ front_size (part b i (stop - i)) → (n ≡ 0 → ⊥) → Same b at stop i → Same b at stop (i + n)
+  pub char-on : (n : ℕ) → front_size (part b i (stop - i)) ≡ n → 0 < n → Same b at stop i → Same b at stop (i + n)
   char-on n e z s =
-      ap is_text (sym (left-drop n)) ∙ sym (front-some (part b i (stop - i)) n (omega (arith, length-left)) (sym e) (omega (arith, z))) ∙ s
+      ap is_text (sym (left-drop n)) ∙ sym (front-some (part b i (stop - i)) n (omega (arith, length-left)) e z) ∙ s
 
   pub one_on : get_or b i 0 < 0x80 → Same b at stop i → Same b at stop (i + 1)
   one_on a s = sym (ascii-front (get_or b i 0) (part b (i + 1) (stop - (i + 1))) a) ∙ ap is_text (sym (part-first b i stop h l)) ∙ s

@@ -3,22 +3,22 @@ use mathlib.Core.Path.{◌≡◌, refl, sym, ap, ap₂, ◌∙◌, subst}
 use mathlib.Core.Bool.{true}
 use mathlib.Core.Logic.{⊎_elim}
 use mathlib.Core.List.{List, [], ◌∷◌, ◌++◌}
-use Prim.Native.Nat.{ℕ, suc, ◌+◌, ◌-◌, ◌*◌, ◌/◌, ◌%◌, ◌^◌, ◌≤◌, ◌<◌}
-use native.Mathlib.Nat.{pow-suc, div-div-eq-div-mul, div-eq_of_lt, lt_of_lt_of_le, pow-le-pow_right, mod-lt, mul-le-mul_right}
+use Prim.Native.Nat.{ℕ, ◌+◌, ◌-◌, ◌*◌, ◌/◌, ◌%◌, ◌^◌, ◌≤◌, ◌<◌}
+use native.Mathlib.Nat.{pow-suc, div-div-eq-div-mul, div-eq_of_lt, mod-lt, mul-le-mul_right}
 use native.Mathlib.Numerals.{add-one}
 use native.Mathlib.Omega.{arith}
-use lib.Dec.{eqb, ltb, lit<, lit≤}
-use lib.ListN.{length, get_or, set, length-replicate, replicate-append-replicate}
+use lib.Dec.{eqb, ltb, lit<}
+use lib.ListN.{length, get_or, set}
 use lib.Seq.{sets}
 use lib.Arith.{digits_lt}
 use lib.Pow.{pow-add, pow_pos, shl_exact, shr-shr, split}
 use lib.Bits.{bit_and, bit_or, or_shifted, or_shifted_r}
 use borrow.Author.Tests.{lt-ltb, le-ltb, eq-eqb, ne_eqb}
 use Rattle.words.proofs.Powers.{mask_is}
-use Rattle.words.specs.Bytes.{Bytes, le, num, part, zeros, bitmap, pad}
+use Rattle.words.specs.Bytes.{Bytes, le, num, part, bitmap, pad}
 use Rattle.words.specs.Reads.{Reads}
 use Rattle.words.proofs.Numbers.{length-le, byte_at}
-use Rattle.words.proofs.Parts.{lt-or-le, length_part, part-cons, part-snoc}
+use Rattle.words.proofs.Parts.{lt-or-le, length_part, part-snoc}
 use Rattle.words.proofs.Runs.{set-sets}
 use Rattle.words.proofs.NumLaws.{pow256, part-lt, num-part, num-high, num-one, num-snoc, le-snoc}
 
@@ -33,29 +33,25 @@ reads-one {b} at x h e f =
     record { is = e ∙ sym (num-one b at f); below = rw e (byte_at h at) }
 
 pub reads-next : {b : List ℕ} (at n w x : ℕ) → Bytes b → Reads b at n w → x ≡ get_or b (at + n) 0 → n < 8 → at + n < length b
-    → Reads b at (suc n) (bit_or w (x * 2 ^ (8 * n) % 2 ^ 64))
+    → Reads b at (n + 1) (bit_or w (x * 2 ^ (8 * n) % 2 ^ 64))
 reads-next {b} at n w x h r e l f =
     let small : w < 2 ^ (8 * n) = rw pow256 at r.below in
     let one : x < 2 ^ 8 = rw e (byte_at h (at + n)) in
-    let sum : bit_or w (x * 2 ^ (8 * n) % 2 ^ 64) ≡ num (part b at (suc n)) =
-    ap (bit_or w) (shl_exact 8 (8 * n) 64 one (omega arith)) ∙ or_shifted_r x (8 * n) w small ∙ rw (num-snoc b at n f, ← e, ← r.is) in
-    record { is = sum; below = rw sum (part-lt at (suc n) h (omega arith)) }
+    let sum : bit_or w (x * 2 ^ (8 * n) % 2 ^ 64) ≡ num (part b at (n + 1)) =
+    ap (bit_or w) (shl_exact 8 (8 * n) 64 one (omega arith)) ∙ or_shifted_r x (8 * n) w small ∙ rw (add-one n, num-snoc b at n f, ← e, ← r.is) in
+    record { is = sum; below = rw sum (part-lt at (n + 1) h (omega arith)) }
 
 -- ---- a straight write, byte by byte from the lowest on
 
 pub low_byte : (x : ℕ) → bit_and x 255 ≡ x % 256
 low_byte x = mask_is x 8
 
-pub puts-next : (b l : List ℕ) (at n v x : ℕ) → l ≡ sets b at (le n v) → x ≡ v / 256 ^ n → set l (at + n) (bit_and x 255) ≡ sets b at (le (suc n) v)
+pub puts-next : (b l : List ℕ) (at n v x : ℕ) → l ≡ sets b at (le n v) → x ≡ v / 256 ^ n → set l (at + n) (bit_and x 255) ≡ sets b at (le (n + 1) v)
 puts-next b l at n v x e f =
     ap (λ (t : List ℕ). set t (at + n) (bit_and x 255)) e
     ∙ set-sets b at (at + n) (le n v) (bit_and x 255) (ap (λ (k : ℕ). at + k) (sym (length-le n v)))
     ∙ ap (λ (y : ℕ). sets b at (le n v ++ (y ∷ []))) (mask_is x 8 ∙ ap (λ (y : ℕ). y % 256) f)
-    ∙ ap (sets b at) (sym (le-snoc n v))
-
-pub puts_one : (b : List ℕ) (at v : ℕ) → set b at (bit_and v 255) ≡ sets b at (le 1 v)
-unfolding le
-puts_one b at v = ap (set b at) (mask_is v 8)
+    ∙ ap (sets b at) (sym (le-snoc n v) ∙ ap (λ (k : ℕ). le k v) (sym (add-one n)))
 
 -- ---- the turns of the loops
 
@@ -64,37 +60,17 @@ pub reads_none : (b : List ℕ) (at k : ℕ) → k ≡ 0 → Reads b at k 0
 unfolding num
 reads_none b at k e = rw e (record { is = refl; below = lit< tt })
 
--- a read from the top down
-module _ {b : List ℕ} (at i k r x : ℕ) (h : Bytes b) (p : 0 < i) (q : i ≤ k) (small : k ≤ 8) (fits : at + k ≤ length b) where
-  pub reads-turn : Reads b (at + i) (k - i) r → x ≡ get_or b (at + (i - 1)) 0 → Reads b (at + (i - 1)) (k - (i - 1)) (bit_or (r * 2 ^ 8 % 2 ^ 64) x)
-  unfolding num
-  reads-turn w e =
-      let j = at + (i - 1) in
-      let less : k - i ≤ 7 = omega arith in
-      let low : r < 2 ^ 56 = lt_of_lt_of_le w.below (pow-le-pow_right {n = 256} (lit< tt) less) in
-      let one : x < 2 ^ 8 = rw e (byte_at h j) in
-      let up : k - (i - 1) ≡ suc (k - i) = omega arith in
-      let on : suc j ≡ at + i = omega arith in
-      let sum : bit_or (r * 2 ^ 8 % 2 ^ 64) x ≡ num (part b j (k - (i - 1))) =
-      shl-or 56 8 64 low one (lit≤ tt) ∙ rw (up, part-cons b j (k - i) (omega arith), on, ← e, ← w.is) (omega arith) in
-      record { is = sum; below = rw sum (part-lt j (k - (i - 1)) h (omega arith)) }
-
 -- one byte further on in a number
 pub div-next : (v i : ℕ) → v / 256 ^ i / 256 ≡ v / 256 ^ (i + 1)
 div-next v i = div-div-eq-div-mul v (256 ^ i) 256 ∙ ap (λ (x : ℕ). v / x) (sym (pow-suc 256 i) ∙ ap (λ (x : ℕ). 256 ^ x) (sym (add-one i)))
 
--- a copy, and zeros
+-- a copy
 pub copy-turn : (x l : List ℕ) (at from i : ℕ) → from + i < length l → set (sets x at (part l from i)) (at + i) (get_or l (from + i) 0) ≡ sets x at
     (part l from (i + 1))
 copy-turn x l at from i h =
     set-sets x at (at + i) (part l from i) _ (ap (λ (k : ℕ). at + k) (sym (length_part l from i (omega arith))))
     ∙ ap (sets x at) (sym (part-snoc l from i h))
     ∙ ap (λ (k : ℕ). sets x at (part l from k)) (sym (add-one i))
-
-pub zero_turn : (x : List ℕ) (at i : ℕ) → set (sets x at (zeros i)) (at + i) 0 ≡ sets x at (zeros (i + 1))
-zero_turn x at i =
-    set-sets x at (at + i) (zeros i) 0 (ap (λ (k : ℕ). at + k) (sym (length-replicate i 0)))
-    ∙ ap (sets x at) (replicate-append-replicate i 1 0)
 
 -- ---- tests by one word
 

@@ -1,13 +1,8 @@
 -- What the steps of the test of text answer: a run of ASCII, the character at the front, its second byte. Assumes nothing: these are definitions.
-use Rattle.std.specs.Prelude.{Bool, true, false, cond, ◌≡◌, List, [], ◌∷◌, ℕ, ◌-◌, ◌<◌, eqb, get_or}
+use Rattle.std.specs.Prelude.{cond, ◌≡◌, List, [], ◌∷◌, ℕ, ◌-◌, ◌<◌, eqb, get_or}
 use Rattle.words.specs.Bytes.{part}
 use Rattle.words.specs.Text.{In}
 use Rattle.words.specs.TextTest.{char_size, is_text}
-
--- an answer to the question whether P
-pub data Tells (P : Type 0) : Bool → Type 0 where
-  right : P → Tells P true
-  wrong : ¬ P → Tells P false
 
 -- every one is below 128
 pub data Ascii : List ℕ → Type 0 where

@@ -7,20 +7,12 @@ pub fn copy(out: &mut [u8], at: usize, src: &[u8], from: usize, n: usize)
     requires { (at + n ≤ length out.old) × (from + n ≤ length src.now) }
     ensures { out.new ≡ sets out.old at (part src.now from n) }
 {
-    let mut i = 0;
-    while i < n {
-        out[at + i] = src[from + i];
-        i += 1;
-    }
+    out[at..at + n].copy_from_slice(&src[from..from + n]);
 }
 
 pub fn zero(out: &mut [u8], at: usize, n: usize)
     requires { at + n ≤ length out.old }
     ensures { out.new ≡ sets out.old at (zeros n) }
 {
-    let mut i = 0;
-    while i < n {
-        out[at + i] = 0;
-        i += 1;
-    }
+    out[at..at + n].fill(0);
 }

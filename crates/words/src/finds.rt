@@ -9,14 +9,12 @@ pub fn first_set(b: &[u8], at: usize, end: usize) -> usize
     requires { (at ≤ end) × (end ≤ length b.now) }
     ensures { result ≡ at + zeros_ahead (part b.now at (end - at)) }
 {
-    let mut i = at;
-    while i < end {
+    for i in at..end {
         if b[i] != 0 {
             return i;
         }
-        i += 1;
     }
-    i
+    end
 }
 
 // The first byte that has a bit past n, of the bitmap that ends at `end` and has such a bit.

@@ -3,7 +3,7 @@ ghost use Rattle.std.specs.Prelude.{◌≡◌, true, false, ◌+◌, ◌-◌, �
 ghost use Rattle.words.specs.Bytes.{num, part, bitmap};
 ghost use Rattle.words.specs.Bits.{bit, put_bit};
 
-use crate::nums::get8;
+use crate::nums::get;
 
 // The mask of bit i in its byte.
 fn mask(i: usize) -> u8
@@ -23,14 +23,14 @@ pub fn set_null(b: &mut [u8], at: usize, i: usize)
     requires { at + i / 8 < length b.old }
     ensures { b.new ≡ put_bit b.old at i true }
 {
-    b[at + (i >> 3)] = b[at + (i >> 3)] | mask(i);
+    b[at + (i >> 3)] |= mask(i);
 }
 
 pub fn clear_null(b: &mut [u8], at: usize, i: usize)
     requires { at + i / 8 < length b.old }
     ensures { b.new ≡ put_bit b.old at i false }
 {
-    b[at + (i >> 3)] = b[at + (i >> 3)] & !mask(i);
+    b[at + (i >> 3)] &= !mask(i);
 }
 
 // The bits past n of the bitmap that ends at `end` are zero: its last word has them all.
@@ -39,8 +39,5 @@ pub fn past_clear(b: &[u8], n: usize, end: usize) -> bool
     ensures { result ≡ ltb (num (part b.now (end - bitmap n) (bitmap n))) (2 ^ n) }
 {
     let r = n & 63;
-    if r == 0 {
-        return true;
-    }
-    get8(b, end - 8) >> r == 0
+    r == 0 || get::<8>(b, end - 8) >> r == 0
 }

@@ -2,7 +2,7 @@
 ghost use Rattle.std.specs.Prelude.{◌≡◌, ◌+◌, ◌-◌, ◌^◌, ◌≤◌, ◌<◌, eqb, length};
 ghost use Rattle.words.specs.Bytes.{num, part, bitmap, pad};
 
-use crate::nums::get8;
+use crate::nums::get;
 
 pub fn bitmap_size(n: usize) -> usize
     requires { n < 2 ^ 32 }
@@ -23,5 +23,5 @@ pub fn pad_clear(b: &[u8], end: usize, next: usize) -> bool
     requires { (8 ≤ next) × (next ≤ length b.now) × (end < 2 ^ 40) × (next ≡ pad end) }
     ensures { result ≡ eqb (num (part b.now end (next - end))) 0 }
 {
-    (get8(b, next - 8) >> (((end + 7) & 7) << 3)) >> 8 == 0
+    (get::<8>(b, next - 8) >> (((end + 7) & 7) << 3)) >> 8 == 0
 }

@@ -2,7 +2,7 @@
 ghost use Rattle.std.specs.Prelude.{◌≡◌, ◌+◌, ◌*◌, ◌/◌, ◌%◌, ◌^◌, ◌≤◌, ◌<◌, length};
 ghost use Rattle.words.specs.Slots.{Offset, Size};
 
-use crate::nums::get8;
+use crate::nums::get;
 
 pub fn slot_offset(x: u64) -> u64
     ensures { result ≡ x / 2 ^ 32 }
@@ -28,12 +28,12 @@ pub fn offset_at(b: &[u8], at: usize) -> usize
     requires { at + 8 ≤ length b.now }
     ensures { Offset b.now at result }
 {
-    slot_offset(get8(b, at)) as usize
+    slot_offset(get::<8>(b, at)) as usize
 }
 
 pub fn size_at(b: &[u8], at: usize) -> usize
     requires { at + 8 ≤ length b.now }
     ensures { Size b.now at result }
 {
-    slot_size(get8(b, at)) as usize
+    slot_size(get::<8>(b, at)) as usize
 }

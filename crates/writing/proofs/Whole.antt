@@ -16,7 +16,7 @@ use Rattle.layout.specs.Refusals.{Refusal, numbered}
 use Rattle.layout.specs.Layout.{content}
 use Rattle.layout.specs.Entries.{is_accepted, image_of, Sized, takes, refused_with, write_of, written_of}
 use Rattle.table.specs.Tables.{schema_of, Table}
-use Rattle.measuring.specs.Row.{RowGives, RowTold}
+use Rattle.measuring.specs.Row.{RowGives}
 use Rattle.putting.specs.Put.{PutRow}
 
 module _ (s l : List ℕ) (room : ℕ) (e : is_accepted (judged s) ≡ true) where
@@ -55,26 +55,24 @@ pub record Answers (s l out y : List ℕ) (a : Sized) : Type 0 where
   pub answer : a ≡ write_of s l (length out)
   pub bytes : y ≡ written_of s l out
 
--- in the words of the code: n is what measuring told
-module _ {t l : List ℕ} {n : ℕ} (h : Table t) (x : RowTold (schema_of t) l n) (out : List ℕ) where
-  accepted : is_accepted (judged (schema_of t)) ≡ true
-  accepted = rw h.accepted
+-- in the words of the code
+accepted : {t : List ℕ} → Table t → is_accepted (judged (schema_of t)) ≡ true
+accepted h = rw h.accepted
 
+module _ {t : List ℕ} (h : Table t) (l out : List ℕ) where
   alone : (r : Refusal) (k : ℕ) → refused_with r k ≡ write_of (schema_of t) l (length out) → Answers (schema_of t) l out out (refused_with r k)
   alone r k e = record { answer = e; bytes = left_alone (schema_of t) l out r k e }
 
-  pub no-listing : n ≡ 0 → Answers (schema_of t) l out out (refused_with (numbered 2) 0)
-  no-listing e = alone (numbered 2) 0 (write-listing (schema_of t) l (length out) accepted (x.refused e))
+  pub no-listing : image_of (schema_of t) l ≡ none → Answers (schema_of t) l out out (refused_with (numbered 2) 0)
+  no-listing e = alone (numbered 2) 0 (write-listing (schema_of t) l (length out) (accepted h) e)
 
-  module _ (some_bytes : n ≡ 0 → ⊥) where
-    gives : RowGives (schema_of t) l n
-    gives = x.good some_bytes
-
+  -- the row has n bytes
+  module _ {n : ℕ} (gives : RowGives (schema_of t) l n) where
     abbrev row : List ℕ
     row = content (ro (fields_of (schema_of t))) (node gives.cells)
 
     pub too_long : 16384 < n → Answers (schema_of t) l out out (refused_with (numbered 3) 0)
-    too_long g = alone (numbered 3) 0 (write-long (schema_of t) l (length out) accepted row gives.image (omega (arith, gives.is)))
+    too_long g = alone (numbered 3) 0 (write-long (schema_of t) l (length out) (accepted h) row gives.image (omega (arith, gives.is)))
 
     module _ (short : n ≤ 16384) where
       short_row : length row ≤ 16384
@@ -83,7 +81,7 @@ module _ {t l : List ℕ} {n : ℕ} (h : Table t) (x : RowTold (schema_of t) l n
       pub no_room : length out < n → Answers (schema_of t) l out out (refused_with (numbered 4) n)
       no_room g =
           subst (λ (k : ℕ). Answers (schema_of t) l out out (refused_with (numbered 4) k)) (sym gives.is)
-          (alone (numbered 4) (length row) (write-room (schema_of t) l (length out) accepted row gives.image short_row (omega (arith, gives.is))))
+          (alone (numbered 4) (length row) (write-room (schema_of t) l (length out) (accepted h) row gives.image short_row (omega (arith, gives.is))))
 
       pub row-can : {m : ℕ} → m ≡ n → PutRow t l m
       row-can e = rw e (record { table = h; gives = gives; small = short })
@@ -92,6 +90,6 @@ module _ {t l : List ℕ} {n : ℕ} (h : Table t) (x : RowTold (schema_of t) l n
       all_done g {y} f =
           let eq : y ≡ row = some-injective _ _ (f ∙ gives.image) in
           let a : takes n ≡ write_of (schema_of t) l (length out) = ap takes gives.is
-          ∙ write_done (schema_of t) l (length out) accepted row gives.image short_row (omega (arith, gives.is)) in
+          ∙ write_done (schema_of t) l (length out) (accepted h) row gives.image short_row (omega (arith, gives.is)) in
           let long : n ≡ length y = omega (arith, gives.is, ap length eq) in
           record { answer = a; bytes = left-filled (schema_of t) l out n y a (sym f) (omega (arith, long)) long }

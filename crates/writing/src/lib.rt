@@ -6,22 +6,23 @@ ghost use Rattle.layout.specs.Entries.{write_of, written_of};
 ghost use Rattle.answers.specs.Meaning.{length_means};
 ghost use Rattle.table.specs.Tables.{Table, schema_of};
 
+use answers::Refusal;
+
 // The row of a listing of the table's schema, at the start of the output. No byte is written before every refusal is past.
-pub fn write(t: &[u64], listing: &[u8], out: &mut [u8]) -> answers::Length
+pub fn write(t: &[u64], listing: &[u8], out: &mut [u8]) -> Result<usize, Refusal>
     requires { Table t.now }
     ensures answer { length_means result ≡ write_of (schema_of t.now) listing.now (length out.old) }
     ensures bytes { out.new ≡ written_of (schema_of t.now) listing.now out.old }
 {
-    let size = measuring::measure_row(t, listing);
-    if size == 0 {
-        return answers::Length::Refused(answers::Refusal::Listing);
-    }
+    let Some(size) = measuring::measure_row(t, listing) else {
+        return Err(Refusal::Listing);
+    };
     if 16384 < size {
-        return answers::Length::Refused(answers::Refusal::TooLong);
+        return Err(Refusal::TooLong);
     }
     if out.len() < size {
-        return answers::Length::Refused(answers::Refusal::Room { needed: size });
+        return Err(Refusal::Room { needed: size });
     }
     putting::put_row(t, listing, &mut out[..size]);
-    answers::Length::Done(size)
+    Ok(size)
 }

@@ -10,10 +10,10 @@ unfit-requires c = let k = read_known _ _ _ c.read_by.ensures in
 pub outcome_code-requires : goal.outcome_code-requires
 outcome_code-requires c = set_known _ _ _ _ c.set_by.ensures.answers
 
-pub returns-in-Nothing : goal.returns-in-Nothing
-returns-in-Nothing c = leaves_none _ _ c.path_of-p.ensures _ _ _ _ (asks_none _ _ c.of_kind.ensures _ c.in-Nothing.is)
+pub returns-in-None : goal.returns-in-None
+returns-in-None c = leaves_none _ _ c.path_of-p.ensures _ _ _ _ (asks_none _ _ c.of_kind.ensures _ c.in-None.is)
     c.check_by.ensures c.read_by.ensures c.unfit.ensures
 
-pub returns-in-Of : goal.returns-in-Of
-returns-in-Of c = leaves-set _ _ c.path_of-p.ensures _ _ _ _ c.set_by.result _ _ (asks-for _ _ c.of_kind.ensures _ c.in-Of.is)
+pub returns-in-Some : goal.returns-in-Some
+returns-in-Some c = leaves-set _ _ c.path_of-p.ensures _ _ _ _ c.set_by.result _ _ (asks-for _ _ c.of_kind.ensures _ c.in-Some.is)
     c.set_by.ensures c.outcome_code.ensures

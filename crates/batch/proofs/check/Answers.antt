@@ -1,7 +1,10 @@
 -- `batch::check` meets its contract. Assumes nothing.
-use Rattle.schema.proofs.Judging.{judged-long}
+use Rattle.std.proofs.lemmas.Result.{err_from_is_err_and}
+use Rattle.table.proofs.Steps.{not-taken}
 use Rattle.batch.proofs.InTurn.{check-no}
 use Rattle.batch.proofs.check.Goals as goal
 
-pub returns-then-schema-gt1024 : goal.returns-then-schema-gt1024
-returns-then-schema-gt1024 c = check-no _ _ (judged-long _ c.if-schema-gt1024.true)
+pub returns-in_err-ok_or : goal.returns-in_err-ok_or
+returns-in_err-ok_or c = let p = err_from_is_err_and c.from_residual.result c.from_residual.ensures.1 in
+    let q = not-taken _ c.in_err-ok_or.ensures.value in
+    rw (p.1, p.2, q.1) (check-no _ _ (c.with.ensures.refused q.0))

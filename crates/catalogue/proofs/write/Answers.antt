@@ -1,25 +1,17 @@
 -- `catalogue::write` meets its contract. Assumes nothing.
-use mathlib.Core.Path.{refl}
-use native.Mathlib.Omega.{arith}
+use mathlib.Core.Path.{refl, ap}
+use Rattle.std.proofs.lemmas.Result.{err_from_is_err_and}
+use Rattle.layout.specs.Entries.{refused_with}
+use Rattle.answers.specs.Meaning.{refusal_means}
 use Rattle.catalogue.specs.Kept as K
-use Rattle.catalogue.proofs.Found.{is-broken, is-past, is_at, found, writes-so}
+use Rattle.catalogue.proofs.Found.{writes-so}
 use Rattle.catalogue.proofs.write.Goals as goal
 
-pub slice_bounds-write-count : goal.slice_bounds-write-count
-slice_bounds-write-count c = let y = is_at _ _ c.in-At.is c.find.ensures in omega (arith, y.forward, y.within)
+pub returns-in_err-schema_at : goal.returns-in_err-schema_at
+returns-in_err-schema_at c =
+    let p = err_from_is_err_and c.from_residual.result c.from_residual.ensures.1 in
+    let e = c.in_err-schema_at.ensures in
+    rw (p.1, p.2) (writes-so (e.ends (K.write _ _)) (ap (refused_with (refusal_means c.in_err-schema_at.field-0.0)) e.roomless) refl)
 
-pub slice_bounds-write-start : goal.slice_bounds-write-start
-slice_bounds-write-start c = let y = is_at _ _ c.in-At.is c.find.ensures in omega (arith, y.forward, y.within)
-
-pub slice_bounds-write-end : goal.slice_bounds-write-end
-slice_bounds-write-end c = let y = is_at _ _ c.in-At.is c.find.ensures in omega (arith, y.forward, y.within)
-
-pub returns-in-Broken : goal.returns-in-Broken
-returns-in-Broken c = writes-so (is-broken _ _ c.in-Broken.is c.find.ensures (K.write _ _)) refl refl
-
-pub returns-in-Past : goal.returns-in-Past
-returns-in-Past c = writes-so (is-past _ _ c.in-Past.is c.find.ensures (K.write _ _)) refl refl
-
-pub returns-in-At : goal.returns-in-At
-returns-in-At c = let w = c.write.ensures in
-    writes-so (found (is_at _ _ c.in-At.is c.find.ensures) (K.write _ _)) w.answers w.leaves
+pub returns : goal.returns
+returns c = let w = c.write.ensures in writes-so (c.in_ok-schema_at.ensures (K.write _ _)) w.answers w.leaves

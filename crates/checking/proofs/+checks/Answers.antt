@@ -1,7 +1,6 @@
 -- The cycle of `checking` meets its contracts: remaining depth falls along the calls, and each loop leads to the end that it started with.
 -- What each place of the code asks is one law, in the order of the code, with the need's name behind it. Assumes nothing.
 use mathlib.Core.Path.{◌≡◌}
-use mathlib.Core.Logic.{⊎_elim}
 use Prim.Native.Nat.{ℕ, ◌+◌, ◌-◌}
 use Rattle.words.specs.Bytes.{part}
 use Rattle.checking.specs.Sound.{fault_of}
@@ -112,7 +111,7 @@ items-judged t c =
 -- a list's bitmap is there
 pub list-mapped : (t : ℕ) → (c : check_list-Else-b-start t)
     → MapRoom c.args.b.now
-    c.get8-n.result (8 + c.bitmap_size-slots.result)
+    c.get-n.result (8 + c.bitmap_size-slots.result)
 list-mapped t c = search list-map
 
 -- and a struct's
@@ -503,14 +502,14 @@ check_list-check_end-requires t c = search numbers-end
 pub check_list-returns-then-k-lt-STRING : goal.check_list-returns-then-k-lt-STRING
 check_list-returns-then-k-lt-STRING t c = search (list-numbers, slice-bytes)
 
-pub check_list-check_strings-requires : goal.check_list-check_strings-requires
-check_list-check_strings-requires t c = search strings-room
+pub check_list-check_texts-requires : goal.check_list-check_texts-requires
+check_list-check_texts-requires t c = search strings-room
 
 pub check_list-returns-then-k-eq-STRING : goal.check_list-returns-then-k-eq-STRING
 check_list-returns-then-k-eq-STRING t c = search list-strings
 
-pub check_list-check_binaries-requires : goal.check_list-check_binaries-requires
-check_list-check_binaries-requires t c = search texts-room
+pub check_list-check_texts-requires-then-k-lt-LIST : goal.check_list-check_texts-requires-then-k-lt-LIST
+check_list-check_texts-requires-then-k-lt-LIST t c = search texts-room
 
 pub check_list-returns-then-k-lt-LIST : goal.check_list-returns-then-k-lt-LIST
 check_list-returns-then-k-lt-LIST t c = search list-binaries
@@ -557,17 +556,17 @@ check_map-overflow_add-result t c = search map-told
 pub check_map-returns-then-b-end-lt8 : goal.check_map-returns-then-b-end-lt8
 check_map-returns-then-b-end-lt8 t c = search values-headless
 
-pub check_map-get8-requires : goal.check_map-get8-requires
-check_map-get8-requires t c = search (keys-head c.requires)
+pub check_map-get-requires-clause-room : goal.check_map-get-requires-clause-room
+check_map-get-requires-clause-room t c = search (keys-head c.requires)
 
-pub check_map-get8-requires-2 : goal.check_map-get8-requires-2
-check_map-get8-requires-2 t c = search values-head
+pub check_map-get-requires-2-clause-room : goal.check_map-get-requires-2-clause-room
+check_map-get-requires-2-clause-room t c = search values-head
 
-pub check_map-overflow_add-result-then-get8 : goal.check_map-overflow_add-result-then-get8
-check_map-overflow_add-result-then-get8 t c = search map-told
+pub check_map-overflow_add-result-then-get : goal.check_map-overflow_add-result-then-get
+check_map-overflow_add-result-then-get t c = search map-told
 
-pub check_map-returns-then-get8 : goal.check_map-returns-then-get8
-check_map-returns-then-get8 t c = search counts-differ
+pub check_map-returns-then-get : goal.check_map-returns-then-get
+check_map-returns-then-get t c = search counts-differ
 
 pub check_map-slice_bounds-check_list-count-2 : goal.check_map-slice_bounds-check_list-count-2
 check_map-slice_bounds-check_list-count-2 t c = search map-end

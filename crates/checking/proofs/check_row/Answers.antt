@@ -6,14 +6,14 @@ use Rattle.checking.proofs.check_row.Goals as goal
 pub entry_at-requires : goal.entry_at-requires
 entry_at-requires c = search root_stands
 
-pub check_struct-r-requires : goal.check_struct-r-requires
-check_struct-r-requires c = search root-fields
+pub check_struct-requires : goal.check_struct-requires
+check_struct-requires c = search root-fields
 
-pub returns-then-r-eq0 : goal.returns-then-r-eq0
-returns-then-r-eq0 c = search root_none
+pub returns-in-0 : goal.returns-in-0
+returns-in-0 c = search root_none
 
-pub returns-then-r-eq1 : goal.returns-then-r-eq1
-returns-then-r-eq1 c = search root-slot
+pub returns-in-1 : goal.returns-in-1
+returns-in-1 c = search root-slot
 
-pub returns : goal.returns
-returns c = search root-byte
+pub returns-in_default : goal.returns-in_default
+returns-in_default c = search root-byte

@@ -4,14 +4,14 @@ use borrow.Author.Rules.{rules}
 use borrow.Author.Tests.{not-false}
 use Rattle.words.proofs.Numbers.{slice-bytes}
 use Rattle.checking.proofs.Tests.{clash}
-use Rattle.checking.proofs.Loops.{loop-slot, loop-on}
+use Rattle.checking.proofs.Loops.{loop-slot}
 use Rattle.checking.proofs.Cursor.{stop-fits, stop-small}
 use Rattle.checking.proofs.StructLoops.{struct-mul, field-stands, fixed-leaf}
 use Rattle.checking.proofs.Plain.{plain-add, plain_word, plain-start, plain-whole, plain-place, plain-shift}
-use Rattle.checking.proofs.Plain.{plain-slot-mul, plain-slot, plain-less, plain-null, plain-above, plain-fixed, plain-behind, plain-within}
+use Rattle.checking.proofs.Plain.{plain-slot-mul, plain-slot, plain-null, plain-above, plain-fixed, plain-behind, plain-within}
 use Rattle.checking.proofs.Plain.{plain-padded, plain-text}
 use Rattle.checking.proofs.is_plain.Goals as goal
-use Rattle.checking.proofs.is_plain.Goals.{else-nulls-i-eq0-via-then-nulls-i-eq0+else-get8-top-ne0, else-nulls-i-eq0-via-else-nulls-i-eq0}
+use Rattle.checking.proofs.is_plain.Goals.{else-nulls-i-eq0-via-then-nulls-i-eq0+else-get-top-ne0, else-nulls-i-eq0-via-else-nulls-i-eq0}
 
 pub returns-then-b-ne0 : goal.returns-then-b-ne0
 returns-then-b-ne0 c e = absurd (clash e refl)
@@ -25,8 +25,8 @@ overflow_add-n c = search plain-add
 pub returns-then-b-n : goal.returns-then-b-n
 returns-then-b-n c e = absurd (clash e refl)
 
-pub get8-nulls-requires : goal.get8-nulls-requires
-get8-nulls-requires c = search plain_word
+pub get-nulls-requires-clause-room : goal.get-nulls-requires-clause-room
+get-nulls-requires-clause-room c = search plain_word
 
 pub returns-then-nulls-n-ne0 : goal.returns-then-nulls-n-ne0
 returns-then-nulls-n-ne0 c e = absurd (clash e refl)
@@ -55,24 +55,18 @@ overflow_add-slot c = search plain-slot
 pub overflow_shr-nulls-then-k-lt-STRING : goal.overflow_shr-nulls-then-k-lt-STRING
 overflow_shr-nulls-then-k-lt-STRING c = search plain-shift
 
-pub get8-requires : goal.get8-requires
-get8-requires c = search loop-slot
+pub get-requires-clause-room : goal.get-requires-clause-room
+get-requires-clause-room c = search loop-slot
 
-pub overflow_shr-get8-then-nulls-i-eq0 : goal.overflow_shr-get8-then-nulls-i-eq0
-overflow_shr-get8-then-nulls-i-eq0 c = search plain-above
+pub overflow_shr-get-then-nulls-i-eq0 : goal.overflow_shr-get-then-nulls-i-eq0
+overflow_shr-get-then-nulls-i-eq0 c = search plain-above
 
-pub returns-then-get8-top-ne0 : goal.returns-then-get8-top-ne0
-returns-then-get8-top-ne0 c e = absurd (clash e refl)
-
-pub overflow_add-i : goal.overflow_add-i
-overflow_add-i c = search loop-on
-
-pub loop-i-smaller-then-k-lt-STRING : goal.loop-i-smaller-then-k-lt-STRING
-loop-i-smaller-then-k-lt-STRING c = search plain-less
+pub returns-then-get-top-ne0 : goal.returns-then-get-top-ne0
+returns-then-get-top-ne0 c e = absurd (clash e refl)
 
 pub loop-i-preserved-then-k-lt-STRING : goal.loop-i-preserved-then-k-lt-STRING
 loop-i-preserved-then-k-lt-STRING c = elim c.else-nulls-i-eq0.branch [
-  | else-nulls-i-eq0-via-then-nulls-i-eq0+else-get8-top-ne0 w ↦ search plain-fixed
+  | else-nulls-i-eq0-via-then-nulls-i-eq0+else-get-top-ne0 w ↦ search plain-fixed
   | else-nulls-i-eq0-via-else-nulls-i-eq0 w ↦ search (plain-null, fixed-leaf)
 ]
 
@@ -81,12 +75,6 @@ returns-then-k-ge-LIST c e = absurd (clash e refl)
 
 pub overflow_shr-nulls-in-loop-i : goal.overflow_shr-nulls-in-loop-i
 overflow_shr-nulls-in-loop-i c = search plain-shift
-
-pub overflow_add-i-then-nulls-i-ne0 : goal.overflow_add-i-then-nulls-i-ne0
-overflow_add-i-then-nulls-i-ne0 c = search loop-on
-
-pub loop-i-smaller-then-nulls-i-ne0 : goal.loop-i-smaller-then-nulls-i-ne0
-loop-i-smaller-then-nulls-i-ne0 c = search plain-less
 
 pub loop-i-preserved-then-nulls-i-ne0 : goal.loop-i-preserved-then-nulls-i-ne0
 loop-i-preserved-then-nulls-i-ne0 c = search plain-null
@@ -122,12 +110,6 @@ pad_clear-requires c = let a = c.loop-i.invariant in
 
 pub returns-then-not-pad_clear : goal.returns-then-not-pad_clear
 returns-then-not-pad_clear c e = absurd (clash e refl)
-
-pub overflow_add-i-in-loop-i : goal.overflow_add-i-in-loop-i
-overflow_add-i-in-loop-i c = search loop-on
-
-pub loop-i-smaller : goal.loop-i-smaller
-loop-i-smaller c = search plain-less
 
 pub loop-i-preserved : goal.loop-i-preserved
 loop-i-preserved c =

@@ -5,4 +5,4 @@ use Rattle.chords.proofs.is_stroke.Goals as goal
 
 pub returns : goal.returns
 unfolding word_at
-returns c = stroke-seen _ _ c.get8.ensures.is c.get8-2.ensures.is c.get8-3.ensures.is
+returns c = stroke-seen _ _ c.get.ensures.is c.get-2.ensures.is c.get-3.ensures.is

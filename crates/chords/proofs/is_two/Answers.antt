@@ -9,5 +9,5 @@ use Rattle.chords.proofs.is_two.Goals as goal
 pub returns : goal.returns
 unfolding word_at
 returns c e = two-sound _ (slice-bytes c.type_inv.row) c.requires (omega arith)
-    c.get8-2.ensures.is c.get8-3.ensures.is (c.are_slots.ensures (not-false _ c.if-not-are_slots.false-raw))
+    c.get-2.ensures.is c.get-3.ensures.is (c.are_slots.ensures (not-false _ c.if-not-are_slots.false-raw))
     (c.is_stroke.ensures.there (not-false _ c.if-not-is_stroke.false-raw)) (c.is_stroke-2.ensures.there e)

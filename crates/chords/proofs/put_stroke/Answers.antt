@@ -5,4 +5,4 @@ use Rattle.chords.proofs.put_stroke.Goals as goal
 
 pub returns : goal.returns
 returns c = let a = c.args in
-    stroke-put _ a.at (chord a.tick a.keys) c.put8.ensures c.put8-2.ensures c.put8-3.ensures
+    stroke-put _ a.at (chord a.tick a.keys) c.put.ensures c.put-2.ensures c.put-3.ensures

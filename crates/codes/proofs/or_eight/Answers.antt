@@ -1,11 +1,13 @@
--- `codes::or_eight` meets its contract: a code that is not 0 is a refusal's. Assumes nothing.
-use Rattle.layout.specs.Setting.{refusal_in}
-use Rattle.answers.specs.Meaning.{meaning}
-use Rattle.codes.proofs.Asking.{eight-told, eight-left}
+-- `codes::or_eight` meets its contract. Assumes nothing.
+use Rattle.codes.proofs.Asking.{eight_left, eight-told}
+use Rattle.codes.proofs.Words.{low-answer}
 use Rattle.codes.proofs.or_eight.Goals as goal
 
-pub returns-then-found-ne0 : goal.returns-then-found-ne0
-returns-then-found-ne0 c = eight-told (refusal_in (meaning c.args.a)) _ c.put_answer-found.ensures.answers c.if-found-ne0.true
+pub refusal_code-requires : goal.refusal_code-requires
+refusal_code-requires c = low-answer _ c.in-Err.is c.requires.1
 
-pub returns : goal.returns
-returns c = eight-left _ _ c.requires.0 c.put_answer-found.ensures.answers c.if-found-ne0.false
+pub returns-in-Ok : goal.returns-in-Ok
+returns-in-Ok c = eight_left _ c.in-Ok.is c.requires.0
+
+pub returns-in-Err : goal.returns-in-Err
+returns-in-Err c = eight-told _ c.in-Err.is c.refusal_code.ensures

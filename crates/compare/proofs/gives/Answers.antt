@@ -1,5 +1,5 @@
 -- `compare::gives` meets its contract: what is left to compare leads to what is said of the whole. Assumes nothing.
-use Rattle.std.proofs.Common.{◌≡◌, ℕ, ◌-◌, ◌<◌, ◌≤◌, true, false, length, get_or, sym, refl, ◌∙◌, arith}
+use Rattle.std.proofs.Common.{◌≡◌, ◌≤◌, true, false, length, get_or, sym, refl, ◌∙◌, arith}
 use Rattle.words.proofs.Powers.{mask_is}
 use Rattle.compare.specs.Lent.{Own}
 use Rattle.compare.specs.Lines.{leaves_of, is_leaf}
@@ -287,14 +287,14 @@ pub returns-then-m-w : goal.returns-then-m-w
 returns-then-m-w c = λ o.
     c.if-m-w.true (own-mark (takes (goal.at.returns-then-m-w c).After-wrapping_sub_u64-w) c.mark_at-m.ensures o ∙ sym (mask_is c.wrapping_sub_u64-w.result 16))
 
-pub returns-then-c-eq0-2 : goal.returns-then-c-eq0-2
-returns-then-c-eq0-2 c = λ o.
-    other-some (holder (goal.at.returns-then-c-eq0-2 c).After-mark_at-m o) c.if-m-eq-STRUCT_MARK.false c.held_by-c.ensures c.if-c-eq0-2.true
+pub returns-in_default : goal.returns-in_default
+returns-in_default c = λ o.
+    other-some (holder (goal.at.returns-in_default c).After-mark_at-m o) c.if-m-eq-STRUCT_MARK.false c.in_default.ensures
 
 pub returns-then-left-c-2 : goal.returns-then-left-c-2
 returns-then-left-c-2 c = λ o.
     let f = c.loop-lines.invariant.follows in
-    let r = other-left (holder (goal.at.returns-then-left-c-2 c).After-mark_at-m o) c.if-m-eq-STRUCT_MARK.false c.held_by-c.ensures f.asked in
+    let r = other-left (holder (goal.at.returns-then-left-c-2 c).After-mark_at-m o) c.if-m-eq-STRUCT_MARK.false c.in-Some.ensures.0 f.asked in
     omega (arith, r, c.if-left-c-2.true)
 
 pub overflow_sub-left-in-loop-lines : goal.overflow_sub-left-in-loop-lines
@@ -328,5 +328,5 @@ pub loop-lines-smaller : goal.loop-lines-smaller
 loop-lines-smaller c = omega (arith, word_in c.loop-lines.invariant)
 
 pub loop-lines-preserved : goal.loop-lines-preserved
-loop-lines-preserved c = follow-other (takes (goal.at.loop-lines-preserved c).After-wrapping_sub_u64-w) c.mark_at-m.ensures c.if-d-eq6.false (omega (arith, c.if-left-c-2.false)) c.if-c-eq0-2.false
-    (c.if-m-w.false ∙ mask_is c.wrapping_sub_u64-w.result 16) c.held_by-c.ensures
+loop-lines-preserved c = follow-other (takes (goal.at.loop-lines-preserved c).After-wrapping_sub_u64-w) c.mark_at-m.ensures c.if-d-eq6.false
+    (omega (arith, c.if-left-c-2.false)) (λ z. omega (arith, c.in-Some.ensures.1, z)) (c.if-m-w.false ∙ mask_is c.wrapping_sub_u64-w.result 16) c.in-Some.ensures.0

@@ -1,19 +1,22 @@
 -- `compare::held_by` meets its contract. Assumes nothing.
-use Rattle.std.proofs.Common.{sym, ◌∙◌, eq-eqb, ne_eqb}
+use Rattle.std.proofs.Common.{◌≡◌, ◌%◌, sym, ◌∙◌, eq-eqb, ne_eqb, arith}
+use lib.Dec.{lit<}
 use Rattle.words.proofs.Powers.{mask_is}
 use Rattle.compare.specs.Lines.{held_by}
 use Rattle.compare.proofs.held_by.Goals as goal
 
-pub returns-then-w-eq-LIST_ENTRY : goal.returns-then-w-eq-LIST_ENTRY
+pub returns-in-71135422828 : goal.returns-in-71135422828
 unfolding held_by
-returns-then-w-eq-LIST_ENTRY c = rw (eq-eqb _ _ (sym (mask_is c.args.w 54) ∙ c.if-w-eq-LIST_ENTRY.true))
+returns-in-71135422828 c = (rw (eq-eqb _ _ (sym (mask_is c.args.w 54) ∙ c.in-71135422828.is)), lit< tt)
 
-pub returns-then-w-eq-MAP_ENTRY : goal.returns-then-w-eq-MAP_ENTRY
+pub returns-in-140123332973 : goal.returns-in-140123332973
 unfolding held_by
-returns-then-w-eq-MAP_ENTRY c = let w = c.args.w in
-    rw (ne_eqb _ _ (λ e. c.if-w-eq-LIST_ENTRY.false (mask_is w 54 ∙ e)), eq-eqb _ _ (sym (mask_is w 54) ∙ c.if-w-eq-MAP_ENTRY.true))
+returns-in-140123332973 c = let k = c.args.w % 18014398509481984 in
+    let e : k ≡ 140123332973 = sym (mask_is c.args.w 54) ∙ c.in-140123332973.is in
+    (rw (ne_eqb k 71135422828 (λ f. omega arith), eq-eqb k 140123332973 e), lit< tt)
 
-pub returns : goal.returns
+pub returns-in_default : goal.returns-in_default
 unfolding held_by
-returns c = let w = c.args.w in
-    rw (ne_eqb _ _ (λ e. c.if-w-eq-LIST_ENTRY.false (mask_is w 54 ∙ e)), ne_eqb _ _ (λ e. c.if-w-eq-MAP_ENTRY.false (mask_is w 54 ∙ e)))
+returns-in_default c = let k = c.args.w % 18014398509481984 in
+    let m = mask_is c.args.w 54 in
+    rw (ne_eqb k 71135422828 (λ e. omega arith), ne_eqb k 140123332973 (λ e. omega arith))

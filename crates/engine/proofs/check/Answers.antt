@@ -5,8 +5,8 @@ use Rattle.engine.proofs.check.Goals as goal
 pub returns-then-row-gt16384 : goal.returns-then-row-gt16384
 returns-then-row-gt16384 c = search check-long
 
-pub returns-in-Sound : goal.returns-in-Sound
-returns-in-Sound c = search check-good
+pub returns-in-None : goal.returns-in-None
+returns-in-None c = search check-good
 
-pub returns-in-Broken : goal.returns-in-Broken
-returns-in-Broken c = search check-bad
+pub returns-in-Some : goal.returns-in-Some
+returns-in-Some c = search check-bad

@@ -10,6 +10,3 @@ decreases-place g l = 16 - l.path.len
 
 abbrev pub invariant-loop-i : goal.invariant-loop-i
 invariant-loop-i g l = Children (schema_of l.t) l.row l.n l.count l.initial.child l.initial.out l.initial.next l.child l.out l.next l.i
-
-abbrev pub decreases-loop-i : goal.decreases-loop-i
-decreases-loop-i g l = l.count - l.i

@@ -1,16 +1,17 @@
 -- `lent::list_by` meets its contract. Assumes nothing.
-use Rattle.compare.proofs.Lent.{own-table, owned, not-owned}
+use Rattle.std.proofs.lemmas.Result.{err_from_is_err_and}
+use Rattle.compare.proofs.Lent.{own-table}
 use Rattle.row.proofs.Opening.{list-no}
-use Rattle.lent.proofs.By.{list-own}
+use Rattle.lent.proofs.By.{own_of, other_of, list-own}
 use Rattle.lent.proofs.list_by.Goals as goal
 
-pub returns-then-not-gives : goal.returns-then-not-gives
-returns-then-not-gives c = let g = c.gives in list-no _ (not-owned _ _ g.result g.ensures c.if-not-gives.true-raw) _ _
+pub returns-in_err-judge_by : goal.returns-in_err-judge_by
+returns-in_err-judge_by c = let p = err_from_is_err_and c.from_residual.result c.from_residual.ensures.1 in
+    let o = other_of _ _ c.in_err-judge_by.ensures in
+    rw (p.1, p.2, o.is) (list-no _ o.schema _ _)
 
 pub list-requires : goal.list-requires
-list-requires c = let g = c.gives in own-table (owned _ _ g.result g.ensures c.if-not-gives.false-raw)
+list-requires c = own-table (own_of _ _ c.in_ok-judge_by.ensures)
 
 pub returns : goal.returns
-returns c = let g = c.gives in
-    list-own (owned _ _ g.result g.ensures c.if-not-gives.false-raw)
-    c.list.ensures
+returns c = list-own (own_of _ _ c.in_ok-judge_by.ensures) c.list.ensures

@@ -1,16 +1,17 @@
 -- `lent::set_by` meets its contract. Assumes nothing.
-use Rattle.compare.proofs.Lent.{own-table, owned, not-owned}
+use Rattle.std.proofs.lemmas.Result.{err_from_is_err_and}
+use Rattle.compare.proofs.Lent.{own-table}
 use Rattle.setting.proofs.Refused.{set-schema}
-use Rattle.lent.proofs.By.{set_own}
+use Rattle.lent.proofs.By.{own_of, other_of, set_own}
 use Rattle.lent.proofs.set_by.Goals as goal
 
-pub returns-then-not-gives : goal.returns-then-not-gives
-returns-then-not-gives c = let g = c.gives in set-schema _ _ _ _ (not-owned _ _ g.result g.ensures c.if-not-gives.true-raw)
+pub returns-in_err-judge_by : goal.returns-in_err-judge_by
+returns-in_err-judge_by c = let p = err_from_is_err_and c.from_residual.result c.from_residual.ensures.1 in
+    let o = other_of _ _ c.in_err-judge_by.ensures in
+    rw (p.1, p.2, o.is) (set-schema _ _ _ _ o.schema)
 
 pub set-requires : goal.set-requires
-set-requires c = let g = c.gives in own-table (owned _ _ g.result g.ensures c.if-not-gives.false-raw)
+set-requires c = own-table (own_of _ _ c.in_ok-judge_by.ensures)
 
 pub returns : goal.returns
-returns c = let g = c.gives in
-    set_own (owned _ _ g.result g.ensures c.if-not-gives.false-raw) _ _
-    c.set.ensures
+returns c = set_own (own_of _ _ c.in_ok-judge_by.ensures) _ _ c.set.ensures

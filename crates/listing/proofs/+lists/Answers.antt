@@ -1,10 +1,10 @@
 -- The cycle of `listing` meets its contracts: what each call asks, and each return, is one law, in the order of the code, with the need's name
 -- behind it. The measure is the depth, and in it the rank of the member; the loops' invariants are `AtField` and `AtItem`. Assumes nothing.
-use Rattle.listing.proofs.Children.{items-head, item-seat, item-null-room, item-more, item_on, item-less, items-null, items_kept, items-end}
-use Rattle.listing.proofs.Items.{elements-leaves, elements-written, containers, containers-few, containers-first, containers-start}
+use Rattle.listing.proofs.Children.{items-head, item-seat, item-null-room, item-more, items-null, items-end}
+use Rattle.listing.proofs.Items.{elements-leaves, elements-written, containers, containers-few, containers-start}
 use Rattle.listing.proofs.Items.{element-elsewhere, element-container, element-value}
-use Rattle.listing.proofs.Structs.{fields-few, fields-start, fields-end, fields-kept, field-stands, field-seat}
-use Rattle.listing.proofs.Structs.{field-more, field_next, field-less, field-null-room, field-is-leaf, field-elsewhere}
+use Rattle.listing.proofs.Structs.{fields-few, fields-start, fields-end, field-stands, field-seat}
+use Rattle.listing.proofs.Structs.{field-null-room, field-is-leaf, field-elsewhere}
 use Rattle.listing.proofs.Structs.{field-container, field-null, field-leaf, field-value}
 use Rattle.listing.proofs.Containers.{child-rank, map-rank, value-deep, value-child, value-falls, value_room, list-head, list-elements}
 use Rattle.listing.proofs.Containers.{list_written, map-pair, struct_fields, struct_written, keys-stand, map-falls, map-size-in}
@@ -37,15 +37,6 @@ list_fields-own-requires m c = search field-elsewhere
 pub list_fields-list_value-p-requires : goal.list_fields-list_value-p-requires
 list_fields-list_value-p-requires m c = search (child-rank, field-container)
 
-pub list_fields-overflow_add-slot : goal.list_fields-overflow_add-slot
-list_fields-overflow_add-slot m c = search field-more
-
-pub list_fields-overflow_add-i : goal.list_fields-overflow_add-i
-list_fields-overflow_add-i m c = search field_next
-
-pub list_fields-loop-i-smaller : goal.list_fields-loop-i-smaller
-list_fields-loop-i-smaller m c = search field-less
-
 -- the branches of a turn meet: the field was null, a leaf, or a container
 pub list_fields-loop-i-preserved : goal.list_fields-loop-i-preserved
 list_fields-loop-i-preserved m c =
@@ -62,9 +53,6 @@ list_fields-loop-i-preserved m c =
           field-value a l e x w.if-is_null.false w.place.ensures w.if-place-lt-LIST.false w.own.ensures n w.out-is w.p-is w.list_value-p.ensures
     ]
 
-pub list_fields-shape_of-out : goal.list_fields-shape_of-out
-list_fields-shape_of-out m c = search fields-kept
-
 pub list_fields-returns : goal.list_fields-returns
 list_fields-returns m c = search fields-end
 
@@ -74,14 +62,11 @@ list_items-list_leaves-requires m c = search elements-leaves
 pub list_items-returns-then-place-lt-LIST : goal.list_items-returns-then-place-lt-LIST
 list_items-returns-then-place-lt-LIST m c = search elements-written
 
-pub list_items-get8-n-requires : goal.list_items-get8-n-requires
-list_items-get8-n-requires m c = search items-head
+pub list_items-get-n-requires-clause-room : goal.list_items-get-n-requires-clause-room
+list_items-get-n-requires-clause-room m c = search items-head
 
 pub list_items-bitmap_size-slot-requires : goal.list_items-bitmap_size-slot-requires
 list_items-bitmap_size-slot-requires m c = search containers-few
-
-pub list_items-overflow_add-slot : goal.list_items-overflow_add-slot
-list_items-overflow_add-slot m c = search containers-first
 
 pub list_items-loop-i-init : goal.list_items-loop-i-init
 list_items-loop-i-init m c = search (containers, containers-start)
@@ -101,12 +86,6 @@ list_items-list_value-p-requires m c = search (child-rank, element-container)
 pub list_items-overflow_add-slot-in-loop-i : goal.list_items-overflow_add-slot-in-loop-i
 list_items-overflow_add-slot-in-loop-i m c = search item-more
 
-pub list_items-overflow_add-i : goal.list_items-overflow_add-i
-list_items-overflow_add-i m c = search item_on
-
-pub list_items-loop-i-smaller : goal.list_items-loop-i-smaller
-list_items-loop-i-smaller m c = search item-less
-
 -- and here the element was null, or a container
 pub list_items-loop-i-preserved : goal.list_items-loop-i-preserved
 list_items-loop-i-preserved m c =
@@ -121,9 +100,6 @@ list_items-loop-i-preserved m c =
       ],
     )
 
-pub list_items-shape_of-out : goal.list_items-shape_of-out
-list_items-shape_of-out m c = search items_kept
-
 pub list_items-returns : goal.list_items-returns
 list_items-returns m c = search items-end
 
@@ -136,14 +112,14 @@ list_map-overflow_add-keys m c = search value-child
 pub list_map-entry_at-requires : goal.list_map-entry_at-requires
 list_map-entry_at-requires m c = search keys-stand
 
-pub list_map-get8-size-requires : goal.list_map-get8-size-requires
-list_map-get8-size-requires m c = search map-size-in
+pub list_map-get-size-requires-clause-room : goal.list_map-get-size-requires-clause-room
+list_map-get-size-requires-clause-room m c = search map-size-in
 
 pub list_map-overflow_add-end : goal.list_map-overflow_add-end
 list_map-overflow_add-end m c = search map-end
 
-pub list_map-get8-requires : goal.list_map-get8-requires
-list_map-get8-requires m c = search map-count-in
+pub list_map-get-requires-clause-room : goal.list_map-get-requires-clause-room
+list_map-get-requires-clause-room m c = search map-count-in
 
 pub list_map-put_count-p-requires : goal.list_map-put_count-p-requires
 list_map-put_count-p-requires m c = search value_room
@@ -163,20 +139,20 @@ list_map-slice_bounds-list_items-start-2 m c = search map-fits
 pub list_map-list_items-requires : goal.list_map-list_items-requires
 list_map-list_items-requires m c = (
   map-falls c.requires.container c.decreases,
-  map-values c.requires c.entry_at-w.ensures c.entry_at.ensures c.after-values.ensures c.get8-size.ensures c.get8.ensures
+  map-values c.requires c.entry_at-w.ensures c.entry_at.ensures c.after-values.ensures c.get-size.ensures c.get.ensures
       c.put_count-p.ensures c.list_items-q.ensures,
 )
 
 pub list_map-returns : goal.list_map-returns
 list_map-returns m c =
     map-written c.requires c.entry_at-w.ensures c.entry_at.ensures c.after-values.ensures
-    c.get8-size.ensures c.get8.ensures c.put_count-p.ensures c.list_items-q.ensures c.list_items.ensures
+    c.get-size.ensures c.get.ensures c.put_count-p.ensures c.list_items-q.ensures c.list_items.ensures
 
 pub list_value-overflow_sub-d : goal.list_value-overflow_sub-d
 list_value-overflow_sub-d m c = search value-deep
 
-pub list_value-get8-requires : goal.list_value-get8-requires
-list_value-get8-requires m c = search list-head
+pub list_value-get-requires-clause-room : goal.list_value-get-requires-clause-room
+list_value-get-requires-clause-room m c = search list-head
 
 pub list_value-put_count-p-requires : goal.list_value-put_count-p-requires
 list_value-put_count-p-requires m c = search value_room
@@ -187,8 +163,8 @@ list_value-overflow_add-at m c = search value-child
 pub list_value-list_items-requires : goal.list_value-list_items-requires
 list_value-list_items-requires m c = search (value-falls, list-elements)
 
-pub list_value-returns-then-k-eq-LIST : goal.list_value-returns-then-k-eq-LIST
-list_value-returns-then-k-eq-LIST m c = search list_written
+pub list_value-returns-in-9 : goal.list_value-returns-in-9
+list_value-returns-in-9 m c = search list_written
 
 pub list_value-list_map-requires : goal.list_value-list_map-requires
 list_value-list_map-requires m c = search (map-rank, map-pair)
@@ -196,11 +172,11 @@ list_value-list_map-requires m c = search (map-rank, map-pair)
 pub list_value-put_mark-p-requires : goal.list_value-put_mark-p-requires
 list_value-put_mark-p-requires m c = search value_room
 
-pub list_value-overflow_add-at-2 : goal.list_value-overflow_add-at-2
-list_value-overflow_add-at-2 m c = search value-child
+pub list_value-overflow_add-at-in_default : goal.list_value-overflow_add-at-in_default
+list_value-overflow_add-at-in_default m c = search value-child
 
 pub list_value-list_fields-requires : goal.list_value-list_fields-requires
 list_value-list_fields-requires m c = search (value-falls, struct_fields)
 
-pub list_value-returns : goal.list_value-returns
-list_value-returns m c = search struct_written
+pub list_value-returns-in_default : goal.list_value-returns-in_default
+list_value-returns-in_default m c = search struct_written

@@ -1,18 +1,15 @@
 -- `listing::list_leaves` meets its contract: `AtItem` is its invariant. Assumes nothing.
-use Rattle.listing.proofs.Children.{items-head, item-seat, item-null-room, item-more, item_on, item-less}
-use Rattle.listing.proofs.Children.{items-null, items-own, items_kept, items-end}
-use Rattle.listing.proofs.Items.{leaves-few, leaves-first, leaves-start, leaves-leaf}
+use Rattle.listing.proofs.Children.{items-head, item-seat, item-null-room, item-more}
+use Rattle.listing.proofs.Children.{items-null, items-own, items-end}
+use Rattle.listing.proofs.Items.{leaves-few, leaves-start, leaves-leaf}
 use Rattle.listing.proofs.list_leaves.Goals as goal
 use Rattle.listing.proofs.list_leaves.Goals.{then-is_null, else-is_null}
 
-pub get8-n-requires : goal.get8-n-requires
-get8-n-requires c = search items-head
+pub get-n-requires-clause-room : goal.get-n-requires-clause-room
+get-n-requires-clause-room c = search items-head
 
 pub bitmap_size-slot-requires : goal.bitmap_size-slot-requires
 bitmap_size-slot-requires c = search leaves-few
-
-pub overflow_add-slot : goal.overflow_add-slot
-overflow_add-slot c = search leaves-first
 
 pub loop-i-init : goal.loop-i-init
 loop-i-init c = search leaves-start
@@ -29,12 +26,6 @@ put_leaf-p-requires c = search leaves-leaf
 pub overflow_add-slot-in-loop-i : goal.overflow_add-slot-in-loop-i
 overflow_add-slot-in-loop-i c = search item-more
 
-pub overflow_add-i : goal.overflow_add-i
-overflow_add-i c = search item_on
-
-pub loop-i-smaller : goal.loop-i-smaller
-loop-i-smaller c = search item-less
-
 pub loop-i-preserved : goal.loop-i-preserved
 loop-i-preserved c =
     let i = c.loop-i.invariant in
@@ -44,9 +35,6 @@ loop-i-preserved c =
       | then-is_null w ↦ (i.0, items-null i.1 l e w.out-is w.p-is w.if-is_null.true w.put_null-p.ensures)
       | else-is_null w ↦ (i.0, items-own i.1 l e w.out-is w.p-is w.if-is_null.false w.put_leaf-p.ensures)
     ]
-
-pub shape_of-out : goal.shape_of-out
-shape_of-out c = search items_kept
 
 pub returns : goal.returns
 returns c = search items-end

@@ -14,4 +14,4 @@ pub returns-then-out-end : goal.returns-then-out-end
 returns-then-out-end c = and_then c.put_mark-at.ensures (wrote_none _ _ _ _ _ (length-le 4 c.args.n) refl c.if-out-end.true)
 
 pub returns : goal.returns
-returns c = and_then c.put_mark-at.ensures (wrote-run _ _ _ _ _ _ (length-le 4 c.args.n) refl c.put4.ensures)
+returns c = and_then c.put_mark-at.ensures (wrote-run _ _ _ _ _ _ (length-le 4 c.args.n) refl c.put.ensures)

@@ -15,5 +15,5 @@ own-requires c = leaf-elsewhere c.requires c.place.ensures c.if-place-lt-STRING.
 pub put_text-requires : goal.put_text-requires
 put_text-requires c = leaf-text-room c.requires c.place.ensures c.if-place-lt-STRING.false c.own.ensures
 
-pub returns : goal.returns
-returns c = same_bytes (leaf-text c.requires c.place.ensures c.if-place-lt-STRING.false c.own.ensures) c.put_text.ensures
+pub returns-else-place-lt-STRING : goal.returns-else-place-lt-STRING
+returns-else-place-lt-STRING c = same_bytes (leaf-text c.requires c.place.ensures c.if-place-lt-STRING.false c.own.ensures) c.put_text.ensures

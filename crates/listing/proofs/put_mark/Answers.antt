@@ -11,4 +11,4 @@ returns-then-out-end c = wrote_none _ _ _ 2 _ (mark-two (place_in c.args.w)) ref
 
 pub returns : goal.returns
 returns c = wrote-run _ _ _ _ 2 _ (mark-two (place_in c.args.w)) refl
-    (c.put2.ensures ∙ ap (sets c.args.out.now c.args.pos) (entry-mark c.requires.0 c.mark.ensures))
+    (c.put.ensures ∙ ap (sets c.args.out.now c.args.pos) (entry-mark c.requires.0 c.mark.ensures))

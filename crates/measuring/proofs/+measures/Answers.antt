@@ -3,12 +3,12 @@
 use Prim.Native.Nat.{ℕ}
 use Rattle.measuring.specs.Measure.{ChildTold}
 use Rattle.measuring.proofs.Bodies.{child-short}
-use Rattle.measuring.proofs.Loops.{is-fixed, is-text, is-child, leaf-came, child-came, goes-low, some_left, less-left}
+use Rattle.measuring.proofs.Loops.{is-fixed, is-text, is-child, leaf-came, child-came, goes-low}
 use Rattle.measuring.proofs.Loops.{array-start, array-bad, array-add, array-next, array-high, array-end}
 use Rattle.measuring.proofs.Loops.{fields-start, field-stands, fields-bad, fields-add, fields-next, fields-high, fields-end}
 use Rattle.measuring.proofs.Chosen.{child-rank, lists-rank, child-deep, fields-fall, array-falls, child-first}
 use Rattle.measuring.proofs.Chosen.{child-other, child-told, struct-can, struct-body, lists-can, keys-stand, lists-short, keys-can, list-is}
-use Rattle.measuring.proofs.Chosen.{keys-bad, keys-fit, values-can, values-bad, map-low, map-high, map-fits, map_is}
+use Rattle.measuring.proofs.Chosen.{keys-bad, values-can, values-bad, map-low, map-high, map_is}
 use Rattle.words.proofs.Numbers.{slice-bytes}
 use Rattle.table.specs.Tables.{type_of}
 use Rattle.measuring.proofs.+measures.Goals as goal
@@ -18,7 +18,7 @@ use Rattle.measuring.proofs.+measures.Goals.{measure_array-then-place-lt-STRING,
 -- the branches of a turn meet: the child was a number, a text, or a container
 array_told : (m : ℕ) → (c : measure_array-Joined-place-lt-STRING m)
     → let a = c.args in
-    ChildTold (type_of a.t.now a.c a.depth) a.l.now c.loop-left.pos c.if-place-lt-STRING.r
+    ChildTold (type_of a.t.now a.c a.depth) a.l.now c.loop.pos c.if-place-lt-STRING.r
 array_told m c = elim c.if-place-lt-STRING.branch [
   | measure_array-then-place-lt-STRING w ↦ search leaf-came
   | measure_array-else-place-lt-STRING+then-place-lt-LIST w ↦ search leaf-came
@@ -27,7 +27,7 @@ array_told m c = elim c.if-place-lt-STRING.branch [
 
 fields_told : (m : ℕ) → (c : measure_fields-Joined-place-lt-STRING m)
     → let a = c.args in
-    let b = c.loop-left in
+    let b = c.loop in
     ChildTold (type_of a.t.now b.c a.depth) a.l.now b.pos c.if-place-lt-STRING.r
 fields_told m c = elim c.if-place-lt-STRING.branch [
   | measure_fields-then-place-lt-STRING w ↦ search (leaf-came, field-stands)
@@ -35,8 +35,8 @@ fields_told m c = elim c.if-place-lt-STRING.branch [
   | measure_fields-else-place-lt-STRING+else-place-lt-LIST w ↦ search child-came
 ]
 
-pub measure_array-loop-left-init : goal.measure_array-loop-left-init
-measure_array-loop-left-init m c = search (array-start, slice-bytes)
+pub measure_array-loop-init : goal.measure_array-loop-init
+measure_array-loop-init m c = search (array-start, slice-bytes)
 
 pub measure_array-measure_fixed-r-requires : goal.measure_array-measure_fixed-r-requires
 measure_array-measure_fixed-r-requires m c = search (is-fixed c.place.ensures)
@@ -53,14 +53,8 @@ measure_array-returns-then-r-eq0 m c = search (array-bad, array_told m (goal.at.
 pub measure_array-overflow_add-sum : goal.measure_array-overflow_add-sum
 measure_array-overflow_add-sum m c = search (array-add, array_told m (goal.at.measure_array-overflow_add-sum m c).Joined-place-lt-STRING)
 
-pub measure_array-overflow_sub-left : goal.measure_array-overflow_sub-left
-measure_array-overflow_sub-left m c = search some_left
-
-pub measure_array-loop-left-smaller : goal.measure_array-loop-left-smaller
-measure_array-loop-left-smaller m c = search less-left
-
-pub measure_array-loop-left-preserved : goal.measure_array-loop-left-preserved
-measure_array-loop-left-preserved m c = search (array-next, array_told m (goal.at.measure_array-loop-left-preserved m c).Joined-place-lt-STRING)
+pub measure_array-loop-preserved : goal.measure_array-loop-preserved
+measure_array-loop-preserved m c = search (array-next, array_told m (goal.at.measure_array-loop-preserved m c).Joined-place-lt-STRING)
 
 pub measure_array-pair-requires : goal.measure_array-pair-requires
 measure_array-pair-requires m c = search (goes-low, array-high)
@@ -89,11 +83,11 @@ measure_child-returns-then-place-eq-STRUCT m c = search (child-told, struct-body
 pub measure_child-measure_lists-requires : goal.measure_child-measure_lists-requires
 measure_child-measure_lists-requires m c = search (lists-rank, lists-can)
 
-pub measure_child-returns : goal.measure_child-returns
-measure_child-returns m c = search (child-told, slice-bytes)
+pub measure_child-returns-else-place-eq-STRUCT : goal.measure_child-returns-else-place-eq-STRUCT
+measure_child-returns-else-place-eq-STRUCT m c = search (child-told, slice-bytes)
 
-pub measure_fields-loop-left-init : goal.measure_fields-loop-left-init
-measure_fields-loop-left-init m c = search (fields-start, slice-bytes)
+pub measure_fields-loop-init : goal.measure_fields-loop-init
+measure_fields-loop-init m c = search (fields-start, slice-bytes)
 
 pub measure_fields-entry_at-w-requires : goal.measure_fields-entry_at-w-requires
 measure_fields-entry_at-w-requires m c = search field-stands
@@ -113,14 +107,8 @@ measure_fields-returns-then-r-eq0 m c = search (fields-bad, fields_told m (goal.
 pub measure_fields-overflow_add-sum : goal.measure_fields-overflow_add-sum
 measure_fields-overflow_add-sum m c = search (fields-add, fields_told m (goal.at.measure_fields-overflow_add-sum m c).Joined-place-lt-STRING)
 
-pub measure_fields-overflow_sub-left : goal.measure_fields-overflow_sub-left
-measure_fields-overflow_sub-left m c = search some_left
-
-pub measure_fields-loop-left-smaller : goal.measure_fields-loop-left-smaller
-measure_fields-loop-left-smaller m c = search less-left
-
-pub measure_fields-loop-left-preserved : goal.measure_fields-loop-left-preserved
-measure_fields-loop-left-preserved m c = search (fields-next, fields_told m (goal.at.measure_fields-loop-left-preserved m c).Joined-place-lt-STRING)
+pub measure_fields-loop-preserved : goal.measure_fields-loop-preserved
+measure_fields-loop-preserved m c = search (fields-next, fields_told m (goal.at.measure_fields-loop-preserved m c).Joined-place-lt-STRING)
 
 pub measure_fields-pair-requires : goal.measure_fields-pair-requires
 measure_fields-pair-requires m c = search (goes-low, fields-high)
@@ -157,12 +145,6 @@ measure_lists-measure_array-values-requires m c = search (array-falls, values-ca
 
 pub measure_lists-returns-then-values-eq0 : goal.measure_lists-returns-then-values-eq0
 measure_lists-returns-then-values-eq0 m c = search values-bad
-
-pub measure_lists-overflow_add-high : goal.measure_lists-overflow_add-high
-measure_lists-overflow_add-high m c = search keys-fit
-
-pub measure_lists-overflow_add-high-2 : goal.measure_lists-overflow_add-high-2
-measure_lists-overflow_add-high-2 m c = search map-fits
 
 pub measure_lists-pair-requires : goal.measure_lists-pair-requires
 measure_lists-pair-requires m c = search (map-low, map-high)

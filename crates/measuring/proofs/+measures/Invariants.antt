@@ -17,14 +17,8 @@ decreases-measure_fields l = 3 * l.depth + 2
 abbrev pub decreases-measure_lists : goal.decreases-measure_lists
 decreases-measure_lists l = 3 * l.depth
 
-abbrev pub invariant-measure_array-loop-left : goal.invariant-measure_array-loop-left
-invariant-measure_array-loop-left l = ArrayGoing l.t l.c l.depth l.l l.from l.n l.w l.left l.pos l.sum
+abbrev pub invariant-measure_array-loop : goal.invariant-measure_array-loop
+invariant-measure_array-loop l = ArrayGoing l.t l.c l.depth l.l l.from l.n l.w l.counter l.pos l.sum
 
-abbrev pub decreases-measure_array-loop-left : goal.decreases-measure_array-loop-left
-decreases-measure_array-loop-left l = l.left
-
-abbrev pub invariant-measure_fields-loop-left : goal.invariant-measure_fields-loop-left
-invariant-measure_fields-loop-left l = FieldsGoing l.t l.first l.n l.depth l.l l.from l.c l.left l.pos l.sum
-
-abbrev pub decreases-measure_fields-loop-left : goal.decreases-measure_fields-loop-left
-decreases-measure_fields-loop-left l = l.left
+abbrev pub invariant-measure_fields-loop : goal.invariant-measure_fields-loop
+invariant-measure_fields-loop l = FieldsGoing l.t l.first l.n l.depth l.l l.from l.c l.counter l.pos l.sum

@@ -1,5 +1,5 @@
 -- `measuring::array_size` meets its contract. Assumes nothing.
-use Rattle.measuring.proofs.Sizes.{elements-fit, elements-small, front_fits, front-is}
+use Rattle.measuring.proofs.Sizes.{elements-fit, elements-small, front_fits}
 use Rattle.measuring.proofs.array_size.Goals as goal
 
 pub overflow_mul-n : goal.overflow_mul-n
@@ -10,6 +10,3 @@ pad_size-requires c = search elements-small
 
 pub overflow_add-result-2 : goal.overflow_add-result-2
 overflow_add-result-2 c = search front_fits
-
-pub returns : goal.returns
-returns c = search front-is

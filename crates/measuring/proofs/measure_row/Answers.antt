@@ -9,8 +9,8 @@ returns-then-l-gt65536 c = search row-long
 pub returns-then-l-lt2 : goal.returns-then-l-lt2
 returns-then-l-lt2 c = search row-short
 
-pub returns-then-get2-ne-STRUCT_MARK : goal.returns-then-get2-ne-STRUCT_MARK
-returns-then-get2-ne-STRUCT_MARK c = search row_other
+pub returns-then-get-ne-STRUCT_MARK : goal.returns-then-get-ne-STRUCT_MARK
+returns-then-get-ne-STRUCT_MARK c = search row_other
 
 pub measure_child-m-requires : goal.measure_child-m-requires
 measure_child-m-requires c = search row-can

@@ -1,15 +1,12 @@
 -- `picture::behind` meets its contract. Assumes nothing.
-use Rattle.picture.proofs.Drawing.{behind-sound, behind-inside, behind-last}
+use Rattle.picture.proofs.Drawing.{behind-none, behind-inside, behind-last}
 use Rattle.picture.proofs.behind.Goals as goal
 
-pub returns-then-sound : goal.returns-then-sound
-returns-then-sound c = behind-sound _ _ _ _ _ c.if-sound.true
+pub returns-in-Some : goal.returns-in-Some
+returns-in-Some c = behind-last _ _ _ c.in-Some.is c.if-n-place.true c.mark.ensures
 
-pub returns-then-place-n : goal.returns-then-place-n
-returns-then-place-n c = behind-inside _ _ _ _ _ c.if-sound.false c.if-place-n.true
+pub returns-in_default : goal.returns-in_default
+returns-in_default c = behind-inside _ _ _ c.in-Some.is _ _ c.if-n-place.false
 
-pub returns : goal.returns
-returns c = let if1 = c.if-sound in
-    let if2 = c.if-place-n in
-    let mark = c.mark in
-    behind-last _ _ _ if1.false if2.false mark.ensures
+pub returns-in_default-2 : goal.returns-in_default-2
+returns-in_default-2 c = behind-none _ _ _ _ c.in_default.is

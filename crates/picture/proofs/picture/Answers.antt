@@ -26,12 +26,6 @@ under-used-requires g c =
     let few = line-most c.args.row.now c.args.chart.now c.loop-u.u (omega (arith, c.loop-u-test.true)) in
     omega (arith, d.room, d.long, c.in_ok-at.ensures.spilt.few, line.ensures.next, line.auto.out, few)
 
-pub overflow_add-u : goal.overflow_add-u
-overflow_add-u g c = omega (arith, c.loop-u-test.true, c.requires.1)
-
-pub loop-u-smaller : goal.loop-u-smaller
-loop-u-smaller g c = omega (arith, c.loop-u-test.true)
-
 pub loop-u-preserved : goal.loop-u-preserved
 loop-u-preserved g c =
     let line = c.line-next in

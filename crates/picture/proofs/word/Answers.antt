@@ -1,38 +1,36 @@
 -- `picture::word` meets its contract. Assumes nothing.
+use native.Mathlib.Omega.{arith}
 use Rattle.picture.specs.Picture.{word}
-use Rattle.picture.proofs.Drawing.{word_none, word-is, word-left}
+use Rattle.picture.proofs.Drawing.{word_none, word-is}
 use Rattle.picture.proofs.word.Goals as goal
 
-pub returns-then-w-eq0 : goal.returns-then-w-eq0
-returns-then-w-eq0 c = word_none _ _ _ c.if-w-eq0.true
+pub returns-in-0 : goal.returns-in-0
+returns-in-0 c = word_none _ _ _ c.in-0.is
 
-pub returns-then-w-eq1 : goal.returns-then-w-eq1
+pub returns-in-1 : goal.returns-in-1
 unfolding word
-returns-then-w-eq1 c = word-is 1 _ c.if-w-eq1.true c.put.ensures
+returns-in-1 c = word-is 1 _ c.in-1.is c.put.ensures
 
-pub returns-then-w-eq2 : goal.returns-then-w-eq2
+pub returns-in-2 : goal.returns-in-2
 unfolding word
-returns-then-w-eq2 c = word-is 2 _ c.if-w-eq2.true c.put-then-w-eq2.ensures
+returns-in-2 c = word-is 2 _ c.in-2.is c.put-in-2.ensures
 
-pub returns-then-w-eq3 : goal.returns-then-w-eq3
+pub returns-in-3 : goal.returns-in-3
 unfolding word
-returns-then-w-eq3 c = word-is 3 _ c.if-w-eq3.true c.put-then-w-eq3.ensures
+returns-in-3 c = word-is 3 _ c.in-3.is c.put-in-3.ensures
 
-pub returns-then-w-eq4 : goal.returns-then-w-eq4
+pub returns-in-4 : goal.returns-in-4
 unfolding word
-returns-then-w-eq4 c = word-is 4 _ c.if-w-eq4.true c.put-then-w-eq4.ensures
+returns-in-4 c = word-is 4 _ c.in-4.is c.put-in-4.ensures
 
-pub returns-then-w-eq5 : goal.returns-then-w-eq5
+pub returns-in-5 : goal.returns-in-5
 unfolding word
-returns-then-w-eq5 c = word-is 5 _ c.if-w-eq5.true c.put-then-w-eq5.ensures
+returns-in-5 c = word-is 5 _ c.in-5.is c.put-in-5.ensures
 
-pub returns-then-w-eq6 : goal.returns-then-w-eq6
+pub returns-in-6 : goal.returns-in-6
 unfolding word
-returns-then-w-eq6 c = word-is 6 _ c.if-w-eq6.true c.put-then-w-eq6.ensures
+returns-in-6 c = word-is 6 _ c.in-6.is c.put-in-6.ensures
 
-pub returns : goal.returns
+pub returns-in_default : goal.returns-in_default
 unfolding word
-returns c =
-    let seven = word-left
-    c.args.w c.requires.0 c.if-w-eq0.false c.if-w-eq1.false c.if-w-eq2.false c.if-w-eq3.false c.if-w-eq4.false c.if-w-eq5.false c.if-w-eq6.false in
-    word-is 7 _ seven c.put-2.ensures
+returns-in_default c = word-is 7 _ (omega (arith, c.requires.0)) c.put-in_default.ensures

@@ -1,7 +1,6 @@
 -- `row::judge` meets its contract. Assumes nothing.
-use Rattle.row.proofs.Opening.{judge-no}
-use Rattle.schema.proofs.Judging.{judged-long}
+use Rattle.row.proofs.Opening.{judge-with}
 use Rattle.row.proofs.judge.Goals as goal
 
-pub returns-then-schema-gt1024 : goal.returns-then-schema-gt1024
-returns-then-schema-gt1024 c = search (judge-no, judged-long)
+pub returns : goal.returns
+returns c = rw c.ok_or.ensures.value (judge-with c.args.schema.now _ c.with.result c.with.ensures.made c.with.ensures.refused)

@@ -1,7 +1,11 @@
 -- `row::look` meets its contract. Assumes nothing.
+use Rattle.std.proofs.lemmas.Result.{err_from_is_err_and}
 use Rattle.row.proofs.Opening.{read_no}
-use Rattle.schema.proofs.Judging.{judged-long}
+use Rattle.table.proofs.Steps.{not-taken}
 use Rattle.row.proofs.look.Goals as goal
 
-pub returns-then-schema-gt1024 : goal.returns-then-schema-gt1024
-returns-then-schema-gt1024 c = search (read_no, judged-long)
+pub returns-in_err-ok_or : goal.returns-in_err-ok_or
+returns-in_err-ok_or c =
+    let p = err_from_is_err_and c.from_residual.result c.from_residual.ensures.1 in
+    let q = not-taken _ c.in_err-ok_or.ensures.value in
+    rw (p.1, p.2, q.1) (read_no _ (c.with.ensures.refused q.0) _ _)

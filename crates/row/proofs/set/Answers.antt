@@ -1,7 +1,11 @@
 -- `row::set` meets its contract. Assumes nothing.
-use Rattle.schema.proofs.Judging.{judged-long}
+use Rattle.std.proofs.lemmas.Result.{err_from_is_err_and}
 use Rattle.setting.proofs.Refused.{set-schema}
+use Rattle.table.proofs.Steps.{not-taken}
 use Rattle.row.proofs.set.Goals as goal
 
-pub returns-then-schema-gt1024 : goal.returns-then-schema-gt1024
-returns-then-schema-gt1024 c = search (set-schema, judged-long)
+pub returns-in_err-ok_or : goal.returns-in_err-ok_or
+returns-in_err-ok_or c =
+    let p = err_from_is_err_and c.from_residual.result c.from_residual.ensures.1 in
+    let q = not-taken _ c.in_err-ok_or.ensures.value in
+    rw (p.1, p.2, q.1) (let n = c.with_out.ensures.refused q.0 in rw n.1 (set-schema _ _ _ _ n.0))

@@ -1,15 +1,8 @@
 -- `row::text_or` meets its contract. Assumes nothing.
-use mathlib.Core.Path.{refl}
-use native.Mathlib.Omega.{arith}
-use Rattle.reading.proofs.Shown.{part_end, text-room, text-is}
+use Rattle.std.proofs.Common.{refl, ap, ◌∙◌, Ok}
+use Rattle.reading.proofs.Shown.{part_end, text-is}
 use Rattle.row.proofs.text_or.Goals as goal
 
-pub overflow_add-end : goal.overflow_add-end
-overflow_add-end c = omega (arith, text-room c.look.ensures c.in-Bytes.is)
-
-pub slice_bounds-result-end : goal.slice_bounds-result-end
-slice_bounds-result-end c = text-room c.look.ensures c.in-Bytes.is
-
-pub returns-in-Bytes : goal.returns-in-Bytes
-returns-in-Bytes c = text-is c.args.row c.args.stand_in _ c.look.ensures c.in-Bytes.is
-    (record { block = refl; place = refl; bytes = part_end c.args.row.now c.in-Bytes.start c.in-Bytes.len })
+pub returns-in-Ok-Bytes : goal.returns-in-Ok-Bytes
+returns-in-Ok-Bytes c = text-is c.args.row c.args.stand_in _ c.look.ensures (c.in-Ok-Bytes.is ∙ ap Ok c.in-Ok-Bytes.field-0-is)
+    (record { block = refl; place = refl; bytes = part_end c.args.row.now c.in-Ok-Bytes.start c.in-Ok-Bytes.len })

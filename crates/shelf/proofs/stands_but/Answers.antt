@@ -1,15 +1,16 @@
 -- `shelf::stands_but` meets its contract. Assumes nothing.
-use Rattle.shelf.proofs.Judging.{but-old, but-own, but-kept, but-broken}
+use mathlib.Core.Path.{refl, sym, ◌∙◌}
+use borrow.Author.Tests.{eq-eqb, ne_eqb}
+use Rattle.shelf.proofs.Judging.{but-old, but-new, keeps-rules}
 use Rattle.shelf.proofs.stands_but.Goals as goal
 
-pub returns-then-number-i : goal.returns-then-number-i
-returns-then-number-i c = but-old _ _ _ _ c.number.ensures c.if-number-i.true
-
 pub returns-then-i-k : goal.returns-then-i-k
-returns-then-i-k c = but-own _ _ _ _ c.number.ensures c.if-number-i.false c.if-i-k.true
+returns-then-i-k c = rw (but-new _ _ _ _ _ c.number.ensures c.if-is_none.ensures, eq-eqb _ _ c.if-i-k.true) refl
 
-pub returns-in-Done : goal.returns-in-Done
-returns-in-Done c = but-kept _ _ _ _ c.number.ensures c.if-number-i.false c.if-i-k.false c.judge.ensures c.in-Done.is
+pub returns-else-i-k : goal.returns-else-i-k
+returns-else-i-k c =
+    rw (but-new _ _ _ _ _ c.number.ensures c.if-is_none.ensures, ne_eqb _ _ c.if-i-k.false)
+    (c.is_ok.ensures.value ∙ keeps-rules _ _ c.judge.ensures)
 
-pub returns-in-Refused : goal.returns-in-Refused
-returns-in-Refused c = but-broken _ _ _ _ c.number.ensures c.if-number-i.false c.if-i-k.false c.judge.ensures c.in-Refused.is
+pub returns-else-is_none : goal.returns-else-is_none
+returns-else-is_none c = c.if-is_none.false ∙ sym (but-old _ _ _ _ _ c.number.ensures c.if-is_none.ensures)

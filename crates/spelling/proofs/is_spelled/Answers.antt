@@ -1,18 +1,9 @@
--- `spelling::is_spelled` meets its contract: a word of b tells, or the walk. Assumes nothing.
-use native.Mathlib.Omega.{arith}
-use borrow.Author.Tests.{leb-true}
-use Rattle.spelling.proofs.ByKind.{of-binary, of-string, of-text, by_word}
+-- `spelling::is_spelled` meets its contract. Assumes nothing.
+use Rattle.spelling.proofs.ByKind.{no-string, of-string}
 use Rattle.spelling.proofs.is_spelled.Goals as goal
 
 pub returns-then-k-ne-STRING : goal.returns-then-k-ne-STRING
-returns-then-k-ne-STRING c = search of-binary
+returns-then-k-ne-STRING c = no-string c.requires.0 c.if-k-ne-STRING.true _
 
-pub ascii8-requires : goal.ascii8-requires
-ascii8-requires c = omega (arith, leb-true)
-
-pub returns-then-ascii8 : goal.returns-then-ascii8
-returns-then-ascii8 c = of-string c.if-k-ne-STRING.false
-    (by_word _ _ _ c.requires.1 c.if-end-at-le8.true (c.ascii8.ensures c.if-ascii8.true))
-
-pub returns : goal.returns
-returns c = search (of-string, of-text)
+pub returns-else-k-ne-STRING : goal.returns-else-k-ne-STRING
+returns-else-k-ne-STRING c = of-string c.if-k-ne-STRING.false c.is_text_at.ensures

@@ -1,9 +1,9 @@
 -- `spelling::is_spelled_in` meets its contract. Assumes nothing.
-use Rattle.spelling.proofs.ByKind.{of-binary, of-string}
+use Rattle.spelling.proofs.ByKind.{no-string, of-string}
 use Rattle.spelling.proofs.is_spelled_in.Goals as goal
 
-pub returns-then-k-eq-STRING : goal.returns-then-k-eq-STRING
-returns-then-k-eq-STRING c = of-string c.if-k-eq-STRING.true c.is_text_in.ensures
+pub returns-then-k-ne-STRING : goal.returns-then-k-ne-STRING
+returns-then-k-ne-STRING c = no-string c.requires.0 c.if-k-ne-STRING.true _
 
-pub returns : goal.returns
-returns c = search of-binary
+pub returns-else-k-ne-STRING : goal.returns-else-k-ne-STRING
+returns-else-k-ne-STRING c = of-string c.if-k-ne-STRING.false c.is_text_in.ensures

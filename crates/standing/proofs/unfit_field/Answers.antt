@@ -1,8 +1,7 @@
 -- `standing::unfit_field` meets its contract: before field i all stand, and the maps show them. Assumes nothing.
 use mathlib.Core.Path.{refl}
-use Prim.Native.Nat.{◌-◌}
 use Rattle.standing.proofs.Passing.{slots-few, slots-long, slots-first, start_fits}
-use Rattle.standing.proofs.Tabled.{FieldsPassed, FieldIs, fields-start, fields-all, field-stands, field-map, field-by, field-slot, field-asks, field-on, field-less, fields-fixed, fields-unfit, fields-next}
+use Rattle.standing.proofs.Tabled.{FieldIs, fields-start, fields-all, field-stands, field-map, field-by, field-slot, field-asks, fields-fixed, fields-unfit, fields-next}
 use Rattle.standing.proofs.unfit_field.Goals as goal
 use Rattle.standing.proofs.unfit_field.Goals.{After-place}
 
@@ -31,12 +30,6 @@ loop-i-init c = fields-start c.requires c.bitmap_size-slots.ensures
 pub entry_at-w-requires : goal.entry_at-w-requires
 entry_at-w-requires c = field-stands c.loop-i.invariant c.loop-i-test.true
 
-pub overflow_add-i : goal.overflow_add-i
-overflow_add-i c = field-on (here (goal.at.overflow_add-i c).After-place)
-
-pub loop-i-smaller-then-place-lt-STRING : goal.loop-i-smaller-then-place-lt-STRING
-loop-i-smaller-then-place-lt-STRING c = field-less (here (goal.at.loop-i-smaller-then-place-lt-STRING c).After-place)
-
 pub loop-i-preserved-then-place-lt-STRING : goal.loop-i-preserved-then-place-lt-STRING
 loop-i-preserved-then-place-lt-STRING c = fields-fixed (here (goal.at.loop-i-preserved-then-place-lt-STRING c).After-place) c.if-place-lt-STRING.true
 
@@ -55,12 +48,6 @@ place_child-requires c = field-asks (here (goal.at.place_child-requires c).After
 pub returns-then-not-place_child : goal.returns-then-not-place_child
 returns-then-not-place_child c = fields-unfit (here (goal.at.returns-then-not-place_child c).After-place) c.if-place-lt-STRING.false c.place_child.ensures
     c.if-not-place_child.true-raw
-
-pub overflow_add-i-in-loop-i : goal.overflow_add-i-in-loop-i
-overflow_add-i-in-loop-i c = field-on (here (goal.at.overflow_add-i-in-loop-i c).After-place)
-
-pub loop-i-smaller : goal.loop-i-smaller
-loop-i-smaller c = field-less (here (goal.at.loop-i-smaller c).After-place)
 
 pub loop-i-preserved : goal.loop-i-preserved
 loop-i-preserved c = fields-next (here (goal.at.loop-i-preserved c).After-place) c.if-place-lt-STRING.false c.place_child.ensures

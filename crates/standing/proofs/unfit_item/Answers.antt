@@ -1,8 +1,7 @@
 -- `standing::unfit_item` meets its contract: before element i all stand, and the maps show them. Assumes nothing.
 use mathlib.Core.Path.{refl}
 use mathlib.Core.Bool.{true}
-use Prim.Native.Nat.{◌-◌}
-use Rattle.standing.proofs.Passing.{Passed, slots-few, slots-behind, slots-fit, slots-long, start_fits, passed_start, passed-all, passed-map, passed-by, passed-slot, passed_on, passed-less, passed-asks, passed-unfit, passed-next}
+use Rattle.standing.proofs.Passing.{slots-few, slots-behind, slots-fit, slots-long, start_fits, passed_start, passed-all, passed-map, passed-by, passed-slot, passed-asks, passed-unfit, passed-next}
 use Rattle.standing.proofs.unfit_item.Goals as goal
 
 pub bitmap_size-slots-requires : goal.bitmap_size-slots-requires
@@ -35,12 +34,6 @@ place_child-requires c = passed-asks c.loop-i.invariant c.loop-i-test.true
 pub returns-then-not-place_child : goal.returns-then-not-place_child
 returns-then-not-place_child c = passed-unfit c.loop-i.invariant c.loop-i-test.true refl
     c.place_child.ensures c.if-not-place_child.true-raw
-
-pub overflow_add-i : goal.overflow_add-i
-overflow_add-i c = passed_on c.loop-i.invariant c.loop-i-test.true
-
-pub loop-i-smaller : goal.loop-i-smaller
-loop-i-smaller c = passed-less c.loop-i.invariant c.loop-i-test.true
 
 pub loop-i-preserved : goal.loop-i-preserved
 loop-i-preserved c = passed-next c.loop-i.invariant c.loop-i-test.true refl

@@ -1,10 +1,6 @@
--- `batch::frames::find` meets its contract: n frames are passed, at most k. Assumes nothing.
-use Prim.Native.Nat.{◌-◌, ◌≤◌}
+-- `batch::frames::find` meets its contract: as many frames are passed as turns were made. Assumes nothing.
 use Rattle.batch.specs.Places.{Passed}
 use Rattle.batch.proofs.frames.find.Given as goal
 
-abbrev pub invariant-loop-n : goal.invariant-loop-n
-invariant-loop-n l = Passed l.b l.at l.n × (l.n ≤ l.k)
-
-abbrev pub decreases-loop-n : goal.decreases-loop-n
-decreases-loop-n l = l.k - l.n
+abbrev pub invariant-loop : goal.invariant-loop
+invariant-loop l = Passed l.b l.at l.counter

@@ -7,8 +7,8 @@ use Rattle.batch.specs.Places.{Passed}
 use Rattle.card.proofs.Turns.{Written}
 use Rattle.card.proofs.batches.rows_text.Given as goal
 
-abbrev pub invariant-loop-at : goal.invariant-loop-at
-invariant-loop-at g l = Passed l.b l.at l.n × Written (schema_of l.t) l.b l.initial.out l.n l.used l.out
+abbrev pub invariant-loop-end : goal.invariant-loop-end
+invariant-loop-end g l = Passed l.b l.at l.n × Written (schema_of l.t) l.b l.initial.out l.n l.used l.out
 
-abbrev pub decreases-loop-at : goal.decreases-loop-at
-decreases-loop-at g l = length l.b - l.at
+abbrev pub decreases-loop-end : goal.decreases-loop-end
+decreases-loop-end g l = length l.b - l.at

@@ -6,7 +6,7 @@ pub returns-then-input-lt2 : goal.returns-then-input-lt2
 returns-then-input-lt2 c = no_length _ c.if-input-lt2.true
 
 pub returns-then-input-n : goal.returns-then-input-n
-returns-then-input-n c = too_short _ _ c.get2-n.ensures c.if-input-lt2.false c.if-input-n.true
+returns-then-input-n c = too_short _ _ c.get-n.ensures c.if-input-lt2.false c.if-input-n.true
 
 pub returns : goal.returns
-returns c = long-enough _ _ c.get2-n.ensures c.if-input-lt2.false c.if-input-n.false
+returns c = long-enough _ _ c.get-n.ensures c.if-input-lt2.false c.if-input-n.false

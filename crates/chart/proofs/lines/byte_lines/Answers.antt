@@ -1,6 +1,5 @@
 -- `chart::lines::byte_lines` meets its contract: in the loop the lines passed are claimed. Assumes nothing.
 use mathlib.Core.Path.{sym, ◌∙◌}
-use Prim.Native.Nat.{◌-◌}
 use native.Mathlib.Omega.{arith}
 use Rattle.chart.specs.Claims.{byte_lines}
 use Rattle.chart.proofs.Claiming.{turn-none, turn, turn-all, padding-few, byte-turn}
@@ -10,7 +9,7 @@ pub overflow_add-lines : goal.overflow_add-lines
 overflow_add-lines c = omega (arith, c.requires.within)
 
 pub loop-j-init : goal.loop-j-init
-loop-j-init c = (omega arith, c.requires.long, turn-none _ _)
+loop-j-init c = (c.requires.long, turn-none _ _)
 
 pub overflow_add-line : goal.overflow_add-line
 overflow_add-line c = omega (arith, c.requires.within)
@@ -27,20 +26,17 @@ overflow_add-what c = let g = c.requires in
 pub claim-requires : goal.claim-requires
 claim-requires c = let l = c.loop-j in
     let g = c.requires in
-    record { long = l.invariant.1; within = omega (arith, g.within); neat = g.neat }
-
-pub overflow_add-j : goal.overflow_add-j
-overflow_add-j c = omega (arith, c.requires.within)
+    record { long = l.invariant.0; within = omega (arith, g.within); neat = g.neat }
 
 pub loop-j-preserved : goal.loop-j-preserved
 loop-j-preserved c = let claim = c.claim in
     let l = c.loop-j in
     let padding = c.padding in
-    (omega arith, claim.auto.chart ∙ l.invariant.1, turn _ _ _ l.invariant.2 (byte-turn _ _ _ _ _ padding.ensures _ _ claim.ensures))
+    (claim.auto.chart ∙ l.invariant.0, turn _ _ _ l.invariant.1 (byte-turn _ _ _ _ _ padding.ensures _ _ claim.ensures))
 
 pub shape_of-chart : goal.shape_of-chart
-shape_of-chart c = c.loop-j.invariant.1 ∙ sym c.requires.long
+shape_of-chart c = c.loop-j.invariant.0 ∙ sym c.requires.long
 
 pub returns : goal.returns
 unfolding byte_lines
-returns c = turn-all _ _ c.loop-j.j _ c.loop-j.invariant.2 (omega arith) (omega arith)
+returns c = turn-all _ _ c.loop-j.j _ c.loop-j.invariant.1 (omega arith) (omega arith)

@@ -1,7 +1,7 @@
 -- `chart::lines::slot_lines` meets its contract: in the loop the lines passed are claimed. Assumes nothing.
 use mathlib.Core.Path.{refl, sym, ap, ◌∙◌}
 use mathlib.Core.List.{List, [], ◌∷◌, ◌++◌}
-use Prim.Native.Nat.{ℕ, ◌*◌, ◌-◌}
+use Prim.Native.Nat.{ℕ, ◌*◌}
 use native.Mathlib.Omega.{arith}
 use lib.ListN.{take}
 use lib.Seq.{set-set}
@@ -19,7 +19,7 @@ pub overflow_add-child : goal.overflow_add-child
 overflow_add-child c = omega (arith, c.requires.more)
 
 pub loop-j-init : goal.loop-j-init
-loop-j-init c = (omega arith, c.requires.long, refl, λ i. refl, turn-none _ _)
+loop-j-init c = (c.requires.long, refl, λ i. refl, turn-none _ _)
 
 pub overflow_mul-child : goal.overflow_mul-child
 overflow_mul-child c = let a = c.args in
@@ -52,10 +52,7 @@ pub claim-requires : goal.claim-requires
 claim-requires c = let l = c.loop-j in
     let g = c.requires in
     let a = c.args in
-    record { long = l.invariant.1; within = omega (arith, g.within); neat = child-neat a.path g.neat g.more l.child _ l.invariant.2 (l.invariant.3 _) }
-
-pub overflow_add-j : goal.overflow_add-j
-overflow_add-j c = omega (arith, c.requires.within)
+    record { long = l.invariant.0; within = omega (arith, g.within); neat = child-neat a.path g.neat g.more l.child _ l.invariant.1 (l.invariant.2 _) }
 
 pub loop-j-preserved : goal.loop-j-preserved
 loop-j-preserved c = let a = c.args in
@@ -65,24 +62,23 @@ loop-j-preserved c = let a = c.args in
     let padding = c.padding in
     let slot-word = c.slot_word-word in
     let p = a.path in
-    let q = child-path p g.neat g.more l.child _ l.invariant.2 (l.invariant.3 _) in
+    let q = child-path p g.neat g.more l.child _ l.invariant.1 (l.invariant.2 _) in
     let front = neat-front p g.neat in
     let each = c.slots_on_line-each in
     let path = q ∙ ap (λ (u : List ℕ). u ++ (each.result * l.j ∷ [])) (sym front) in (
-      omega arith,
-      claim.auto.chart ∙ l.invariant.1,
-      l.invariant.2,
-      λ i. set-set l.child.steps p.len _ i ∙ l.invariant.3 i,
-      turn _ _ _ l.invariant.4
+      claim.auto.chart ∙ l.invariant.0,
+      l.invariant.1,
+      λ i. set-set l.child.steps p.len _ i ∙ l.invariant.2 i,
+      turn _ _ _ l.invariant.3
           (slot_turn _ _ _ _ _ padding.ensures a.w _ _ (take p.len p.steps) _ each.ensures slot-word.ensures path claim.ensures),
     )
 
 pub shape_of-chart : goal.shape_of-chart
-shape_of-chart c = c.loop-j.invariant.1 ∙ sym c.requires.long
+shape_of-chart c = c.loop-j.invariant.0 ∙ sym c.requires.long
 
 pub returns : goal.returns
 unfolding slot_lines
 returns c = let a = c.args in
     let g = c.requires in
     let l = c.loop-j in
-    rw (← (neat-front a.path g.neat)) (turn-all _ _ l.j _ l.invariant.4 (omega arith) (omega arith))
+    rw (← (neat-front a.path g.neat)) (turn-all _ _ l.j _ l.invariant.3 (omega arith) (omega arith))

@@ -7,7 +7,7 @@ use lib.ListN.{take}
 use lib.Seq.{set-set}
 use Rattle.chart.proofs.Claiming.{neat-front, child-path, child-neat}
 use Rattle.chart.proofs.Walking.{walk-last, walk_none, walk_turn, walk-all}
-use Prim.Native.Nat.{ℕ, ◌-◌}
+use Prim.Native.Nat.{ℕ}
 use Rattle.chart.proofs.walk.+place.Goals as goal
 
 pub returns-then-n-ge16 : goal.returns-then-n-ge16
@@ -23,7 +23,7 @@ pub loop-i-init : goal.loop-i-init
 loop-i-init t c =
     let label = c.label-count in
     let g = c.requires in
-    (omega arith, label.auto.chart ∙ g.long, refl, λ j. refl, walk_none _ _)
+    (label.auto.chart ∙ g.long, refl, λ j. refl, walk_none _ _)
 
 pub overflow_cast-child : goal.overflow_cast-child
 overflow_cast-child t c = record { fits = omega (arith, c.label-count.ensures.few) }
@@ -38,12 +38,9 @@ place-requires t c =
     let g = c.requires in
     let if1 = c.if-n-ge16 in
     let p = a.path in (
-      omega (arith, if1.false, l.invariant.2),
-      record { long = l.invariant.1; opened = g.opened; neat = child-neat p g.neat if1.false l.child _ l.invariant.2 (l.invariant.3 _) },
+      omega (arith, if1.false, l.invariant.1),
+      record { long = l.invariant.0; opened = g.opened; neat = child-neat p g.neat if1.false l.child _ l.invariant.1 (l.invariant.2 _) },
     )
-
-pub overflow_add-i : goal.overflow_add-i
-overflow_add-i t c = omega (arith, c.label-count.ensures.few)
 
 pub loop-i-preserved : goal.loop-i-preserved
 loop-i-preserved t c =
@@ -53,19 +50,18 @@ loop-i-preserved t c =
     let if1 = c.if-n-ge16 in
     let place = c.place in
     let p = a.path in
-    let q = child-path p g.neat if1.false l.child l.i l.invariant.2 (l.invariant.3 _) in
+    let q = child-path p g.neat if1.false l.child l.i l.invariant.1 (l.invariant.2 _) in
     let path = q ∙ ap (λ (u : List ℕ). u ++ (l.i ∷ [])) (sym (neat-front p g.neat)) in (
-      omega arith,
-      place.auto.chart ∙ l.invariant.1,
-      l.invariant.2,
-      λ j. set-set l.child.steps p.len _ j ∙ l.invariant.3 j,
-      walk_turn _ _ p.len l.i (take p.len p.steps) _ _ l.invariant.2 path l.invariant.4 place.ensures,
+      place.auto.chart ∙ l.invariant.0,
+      l.invariant.1,
+      λ j. set-set l.child.steps p.len _ j ∙ l.invariant.2 j,
+      walk_turn _ _ p.len l.i (take p.len p.steps) _ _ l.invariant.1 path l.invariant.3 place.ensures,
     )
 
 pub shape_of-chart : goal.shape_of-chart
 shape_of-chart t c =
     let pre = c.requires in
-    c.loop-i.invariant.1 ∙ sym pre.long
+    c.loop-i.invariant.0 ∙ sym pre.long
 
 pub returns : goal.returns
 returns t c =
@@ -74,4 +70,4 @@ returns t c =
     let g = c.requires in
     let if1 = c.if-n-ge16 in
     let label = c.label-count in
-    walk-all _ _ a.path l.i _ _ g.neat if1.false label.ensures (omega arith) (omega arith) l.invariant.4
+    walk-all _ _ a.path l.i _ _ g.neat if1.false label.ensures (omega arith) (omega arith) l.invariant.3

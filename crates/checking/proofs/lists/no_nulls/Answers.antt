@@ -1,15 +1,13 @@
--- `checking::lists::no_nulls` meets its contract: the elements before i are not null. Assumes nothing.
-use mathlib.Core.Path.{refl}
-use borrow.Author.Rules.{rules}
+-- `checking::lists::no_nulls` meets its contract: the elements of the words before word k are not null. Assumes nothing.
 use Rattle.words.proofs.Numbers.{slice-bytes}
 use Rattle.checking.proofs.Leaves.{clear-start, clear-word, clear-end}
 use Rattle.checking.proofs.lists.no_nulls.Goals as goal
 
-pub loop-i-init : goal.loop-i-init
-loop-i-init c = (refl, search clear-start)
+pub loop-k-init : goal.loop-k-init
+loop-k-init c = search clear-start
 
-pub loop-i-preserved : goal.loop-i-preserved
-loop-i-preserved c = (search rules, search (clear-word, slice-bytes))
+pub loop-k-preserved : goal.loop-k-preserved
+loop-k-preserved c = search (clear-word, slice-bytes)
 
 pub returns : goal.returns
 returns c = search clear-end

@@ -1,11 +1,7 @@
--- `checking::lists::no_nulls` meets its contract: the elements before i are not null. Assumes nothing.
-use mathlib.Core.Path.{◌≡◌}
-use Prim.Native.Nat.{◌+◌, ◌-◌, ◌%◌}
+-- `checking::lists::no_nulls` meets its contract: the elements of the words before word k are not null. Assumes nothing.
+use Prim.Native.Nat.{◌*◌}
 use Rattle.checking.specs.Room.{NoNulls}
 use Rattle.checking.proofs.lists.no_nulls.Given as goal
 
-abbrev pub invariant-loop-i : goal.invariant-loop-i
-invariant-loop-i l = (l.i % 64 ≡ 0) × NoNulls l.b l.i
-
-abbrev pub decreases-loop-i : goal.decreases-loop-i
-decreases-loop-i l = l.n + 64 - l.i
+abbrev pub invariant-loop-k : goal.invariant-loop-k
+invariant-loop-k l = NoNulls l.b (64 * l.k)

@@ -5,7 +5,7 @@ use mir.Syntax.{w64}
 use mir.ValLaws.{to_z-of_z}
 use borrow.Author.Rules.{rules}
 use Rattle.leaves.proofs.Told.{bool-byte, bytes-room, told-null, told-bool, told-number, told-float32, told-nan32, told-float64, told-nan64}
-use Rattle.leaves.proofs.Told.{told-bytes, told-container, told-refused}
+use Rattle.leaves.proofs.Told.{told-bytes, told-container}
 use Rattle.leaves.proofs.lines.contents.Goals as goal
 
 pub overflow_add-v : goal.overflow_add-v
@@ -40,6 +40,3 @@ returns-in-Bytes c = told-bytes _ c.args.x _ _ c.in-Bytes.is c.bytes.ensures
 
 pub returns-in-Container : goal.returns-in-Container
 returns-in-Container c = told-container _ _ _ c.args.x _ _ _ c.in-Container.is
-
-pub returns-in-Refused : goal.returns-in-Refused
-returns-in-Refused c = told-refused _ _ _ c.args.x _ c.in-Refused.is

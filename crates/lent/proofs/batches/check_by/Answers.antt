@@ -1,14 +1,18 @@
 -- `lent::batches::check_by` meets its contract. Assumes nothing.
-use Rattle.compare.proofs.Lent.{own-table, owned, not-owned}
+use Rattle.std.proofs.lemmas.Result.{err_from_is_err_and}
+use Rattle.compare.proofs.Lent.{own-table}
 use Rattle.batch.proofs.InTurn.{check-no}
+use Rattle.lent.proofs.By.{own_of, other_of}
 use Rattle.lent.proofs.InBatch.{rows-by}
 use Rattle.lent.proofs.batches.check_by.Goals as goal
 
-pub returns-then-not-gives : goal.returns-then-not-gives
-returns-then-not-gives c = check-no _ _ (not-owned _ _ c.gives.result c.gives.ensures c.if-not-gives.true-raw)
+pub returns-in_err-judge_by : goal.returns-in_err-judge_by
+returns-in_err-judge_by c = let p = err_from_is_err_and c.from_residual.result c.from_residual.ensures.1 in
+    let o = other_of _ _ c.in_err-judge_by.ensures in
+    rw (p.1, p.2, o.is) (check-no _ _ o.schema)
 
 pub check_rows-requires : goal.check_rows-requires
-check_rows-requires c = own-table (owned _ _ c.gives.result c.gives.ensures c.if-not-gives.false-raw)
+check_rows-requires c = own-table (own_of _ _ c.in_ok-judge_by.ensures)
 
 pub returns : goal.returns
-returns c = rows-by (owned _ _ c.gives.result c.gives.ensures c.if-not-gives.false-raw) _ c.check_rows.ensures
+returns c = rows-by (own_of _ _ c.in_ok-judge_by.ensures) _ c.check_rows.ensures

@@ -1,36 +1,25 @@
 -- `lent::batches::set_by` meets its contract. Assumes nothing.
-use native.Mathlib.Omega.{arith}
-use Rattle.compare.proofs.Lent.{own-table, owned, not-owned}
-use Rattle.batch.proofs.Passing.{found-broken, found-past, found_at}
-use Rattle.batch.proofs.Orders.{no-row-broken, no-row-past, set-none, set-mid}
-use Rattle.lent.proofs.By.{set_own}
-use Rattle.lent.proofs.InBatch.{no_row, not-one}
+use Rattle.std.proofs.Common.{refl}
+use Rattle.std.proofs.lemmas.Result.{err_from_is_err_and}
+use Rattle.compare.proofs.Lent.{own-table}
+use Rattle.batch.proofs.Passing.{found_at}
+use Rattle.batch.proofs.Orders.{set-none, set-mid}
+use Rattle.lent.proofs.By.{own_of, other_of, set_own}
+use Rattle.lent.proofs.InBatch.{no_row, missing}
 use Rattle.lent.proofs.batches.set_by.Goals as goal
 
-pub returns-then-not-gives : goal.returns-then-not-gives
-returns-then-not-gives c = set-none _ _ (no_row (not-owned _ _ c.gives.result c.gives.ensures c.if-not-gives.true-raw) _ _)
+pub returns-in_err-judge_by : goal.returns-in_err-judge_by
+returns-in_err-judge_by c = let p = err_from_is_err_and c.from_residual.result c.from_residual.ensures.1 in
+    let o = other_of _ _ c.in_err-judge_by.ensures in
+    rw (p.1, p.2, o.is) (set-none _ _ (no_row o.schema _ _))
 
-pub slice_bounds-set-count : goal.slice_bounds-set-count
-slice_bounds-set-count c = let r = found_at c.in-At.is c.find.ensures in omega (arith, r.low)
-
-pub slice_bounds-set-start : goal.slice_bounds-set-start
-slice_bounds-set-start c = let r = found_at c.in-At.is c.find.ensures in omega (arith, r.low, r.high)
-
-pub slice_bounds-set-end : goal.slice_bounds-set-end
-slice_bounds-set-end c = let r = found_at c.in-At.is c.find.ensures in omega (arith, r.low, r.high)
+pub returns-in_err-row : goal.returns-in_err-row
+returns-in_err-row c = let x = c.from_residual-in_err-row in
+    let p = err_from_is_err_and x.result x.ensures.1 in
+    rw (p.1, p.2) (set-none _ _ (missing (own_of _ _ c.in_ok-judge_by.ensures) _ c.in_err-row.ensures))
 
 pub set-requires : goal.set-requires
-set-requires c = own-table (owned _ _ c.gives.result c.gives.ensures c.if-not-gives.false-raw)
+set-requires c = own-table (own_of _ _ c.in_ok-judge_by.ensures)
 
-pub returns-in-Broken : goal.returns-in-Broken
-returns-in-Broken c = let o = owned _ _ c.gives.result c.gives.ensures c.if-not-gives.false-raw in
-    set-none _ _ (no-row-broken (found-broken c.in-Broken.is c.find.ensures) (not-one o _))
-
-pub returns-in-Past : goal.returns-in-Past
-returns-in-Past c = let o = owned _ _ c.gives.result c.gives.ensures c.if-not-gives.false-raw in
-    set-none _ _ (no-row-past (found-past c.in-Past.is c.find.ensures) (not-one o _))
-
-pub returns-in-At : goal.returns-in-At
-returns-in-At c = let r = found_at c.in-At.is c.find.ensures in
-    let o = owned _ _ c.gives.result c.gives.ensures c.if-not-gives.false-raw in
-    set-mid _ r _ _ (set_own o _ _ c.set.ensures)
+pub returns : goal.returns
+returns c = set-mid _ (found_at refl c.in_ok-row.ensures) _ _ (set_own (own_of _ _ c.in_ok-judge_by.ensures) _ _ c.set.ensures)

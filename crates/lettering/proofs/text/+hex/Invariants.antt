@@ -1,5 +1,4 @@
 -- `lettering::text::hex` meets its contract: the digits but the last, and the last behind them. The measure is their number. Assumes nothing.
-use Prim.Native.Nat.{◌-◌}
 use Rattle.lettering.proofs.text.+hex.Given as goal
 
 abbrev pub decreases-hex : goal.decreases-hex

@@ -1,10 +1,8 @@
 -- `lettering::text::path` meets its contract: the steps behind the first are put as far as the k-th. Assumes nothing.
 use mathlib.Core.Path.{refl, ◌∙◌}
-use Prim.Native.Nat.{◌-◌}
 use native.Mathlib.Omega.{arith}
 use Rattle.answers.specs.Paths.{path_of}
 use Rattle.answers.proofs.PathLaws.{length-path}
-use Rattle.lettering.specs.Text.{dotted}
 use Rattle.lettering.proofs.Putting.{path-none, steps-none, steps-more, path-all}
 use Rattle.lettering.proofs.Lengths.{decimal-twenty}
 use Rattle.lettering.proofs.text.path.Goals as goal
@@ -20,7 +18,7 @@ decimal-next-requires c = omega (arith, c.requires.room)
 
 pub loop-k-init : goal.loop-k-init
 loop-k-init c = let if1 = c.if-n-eq0 in
-    (omega arith, omega (arith, if1.false), refl, omega arith, steps-none _ _ (path_of c.args.path))
+    (refl, omega arith, steps-none _ _ (path_of c.args.path))
 
 pub step_at-requires-in-loop-k : goal.step_at-requires-in-loop-k
 step_at-requires-in-loop-k c = record { held = omega (arith, c.requires.few); counts = omega arith }
@@ -30,28 +28,23 @@ dotted-next-requires c = let step-at = c.step_at in
     let decimal = c.decimal-next in
     omega (arith, c.requires.room, c.requires.few, decimal.ensures.next, decimal.auto.out, decimal-twenty step-at.result)
 
-pub overflow_add-k : goal.overflow_add-k
-overflow_add-k c = omega (arith, c.requires.few)
-
 pub loop-k-preserved : goal.loop-k-preserved
 loop-k-preserved c = let loop = c.loop-k in
     let step-at2 = c.step_at-in-loop-k in
     let dotted = c.dotted-next in (
-      omega arith,
-      omega arith,
-      dotted.auto.out ∙ loop.invariant.2,
+      dotted.auto.out ∙ loop.invariant.0,
       omega (arith, dotted.ensures.next, decimal-twenty step-at2.result),
       steps-more
-          (path_of c.args.path) loop.k _ loop.invariant.0 (rw (length-path c.args.path) (omega arith)) step-at2.ensures loop.invariant.4
+          (path_of c.args.path) loop.k _ loop.auto.k (rw (length-path c.args.path) (omega arith)) step-at2.ensures loop.invariant.2
           dotted.ensures,
     )
 
 pub shape_of-out : goal.shape_of-out
-shape_of-out c = c.loop-k.invariant.2 ∙ c.decimal-next.auto.out
+shape_of-out c = c.loop-k.invariant.0 ∙ c.decimal-next.auto.out
 
 pub returns : goal.returns
 returns c = let if1 = c.if-n-eq0 in
     let step-at = c.step_at in
     let decimal = c.decimal-next in
     path-all (path_of c.args.path) c.loop-k.k _ (rw (length-path c.args.path) (omega (arith, if1.false)))
-    (rw (length-path c.args.path) (omega arith)) step-at.ensures decimal.ensures c.loop-k.invariant.4
+    (rw (length-path c.args.path) (omega arith)) step-at.ensures decimal.ensures c.loop-k.invariant.2

@@ -8,7 +8,7 @@ returns-then-size-lt8 c = short-list c.requires.0 c.args.w c.if-size-lt8.true
 pub returns-then-size-n : goal.returns-then-size-n
 returns-then-size-n c = let pre = c.requires in
     let if1 = c.if-size-lt8 in
-    long-list pre.0 if1.false c.get8-n.ensures.is pre.1 c.if-size-n.true
+    long-list pre.0 if1.false c.get-n.ensures.is pre.1 c.if-size-n.true
 
 pub overflow_mul-n : goal.overflow_mul-n
 overflow_mul-n c = slots-fit c.requires c.if-size-n.false
@@ -24,6 +24,6 @@ overflow_add-result-2 c = let pre = c.requires in
 pub returns : goal.returns
 returns c = let pre = c.requires in
     let if1 = c.if-size-lt8 in
-    let get8 = c.get8-n in
+    let get = c.get-n in
     let a = c.args in
-    list-test pre.0 if1.false get8.ensures.is a.w c.bitmap_size.ensures c.pad_size.ensures
+    list-test pre.0 if1.false get.ensures.is a.w c.bitmap_size.ensures c.pad_size.ensures

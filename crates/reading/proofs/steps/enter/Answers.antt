@@ -1,10 +1,6 @@
 -- `reading::steps::enter` meets its contract. Assumes nothing.
-use Rattle.reading.proofs.Moving.{enter-broken, enter-null, enter-at}
+use Rattle.reading.proofs.Moving.{enter-null, enter-at}
 use Rattle.reading.proofs.steps.enter.Goals as goal
-
-pub returns-in-Broken : goal.returns-in-Broken
-returns-in-Broken c = let a = c.args in
-    enter-broken a.y a.c _ c.in-Broken.is
 
 pub returns-in-Null : goal.returns-in-Null
 returns-in-Null c = let a = c.args in

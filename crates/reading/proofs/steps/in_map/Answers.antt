@@ -10,32 +10,32 @@ returns-then-i-ge2 c = let pre = c.requires in
 pub array-y-requires : goal.array-y-requires
 array-y-requires c = map_of c.requires c.if-i-ge2.false
 
-pub get8-size-requires : goal.get8-size-requires
-get8-size-requires c = map-room c.requires
+pub get-size-requires-clause-room : goal.get-size-requires-clause-room
+get-size-requires-clause-room c = map-room c.requires
 
 pub returns-then-i-eq0 : goal.returns-then-i-eq0
 returns-then-i-eq0 c = let pre = c.requires in
-    let get8 = c.get8-size in
+    let get = c.get-size in
     let array = c.array-y in
     let if2 = c.if-i-eq0 in
-    keys_step pre get8.ensures.is array.ensures if2.true c.array_at.ensures
+    keys_step pre get.ensures.is array.ensures if2.true c.array_at.ensures
 
 pub overflow_add-before : goal.overflow_add-before
-overflow_add-before c = before-fits c.requires c.get8-size.ensures.is
+overflow_add-before c = before-fits c.requires c.get-size.ensures.is
 
 pub overflow_add-p-2 : goal.overflow_add-p-2
 overflow_add-p-2 c = let pre = c.requires in
-    let get8 = c.get8-size in
-    values-fits pre get8.ensures.is
+    let get = c.get-size in
+    values-fits pre get.ensures.is
 
 pub overflow_sub-p : goal.overflow_sub-p
 overflow_sub-p c = let pre = c.requires in
-    let get8 = c.get8-size in
-    keys-room pre get8.ensures.is
+    let get = c.get-size in
+    keys-room pre get.ensures.is
 
 pub returns : goal.returns
 returns c = let pre = c.requires in
-    let get8 = c.get8-size in
+    let get = c.get-size in
     let array = c.array-y in
     let if2 = c.if-i-eq0 in
-    values-step pre get8.ensures.is array.ensures if2.false c.array_at-2.ensures
+    values-step pre get.ensures.is array.ensures if2.false c.array_at-2.ensures

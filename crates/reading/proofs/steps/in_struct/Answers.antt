@@ -1,5 +1,6 @@
 -- `reading::steps::in_struct` meets its contract. Assumes nothing.
-use Rattle.reading.proofs.Moving.{struct-stop, struct-of, struct-child, struct-step}
+use Rattle.std.proofs.Common.{rules}
+use Rattle.reading.proofs.Moving.{struct-stop, struct-of, struct-child, struct-step, struct-refused}
 use Rattle.reading.proofs.steps.in_struct.Goals as goal
 
 pub returns-then-n-i : goal.returns-then-n-i
@@ -17,10 +18,10 @@ child-requires c = let pre = c.requires in
     let if1 = c.if-n-i in
     struct-child pre count.ensures if1.false c.field-y.ensures c.width.ensures
 
+pub returns-in_err-child : goal.returns-in_err-child
+returns-in_err-child c =
+    let k = struct-refused c.requires c.count-n.ensures c.if-n-i.false c.field-y.ensures c.width.ensures c.in_err-child.ensures in
+    search rules
+
 pub returns : goal.returns
-returns c = let pre = c.requires in
-    let count = c.count-n in
-    let if1 = c.if-n-i in
-    let field = c.field-y in
-    let width = c.width in
-    struct-step pre count.ensures if1.false field.ensures width.ensures c.child.ensures c.enter.ensures
+returns c = struct-step c.requires c.count-n.ensures c.if-n-i.false c.field-y.ensures c.width.ensures c.in_ok-child.ensures c.enter.ensures

@@ -22,19 +22,19 @@ returns-then-k-lt-FLOAT32 c = let pre = c.requires in
     signed-value _ pre if1.false if2.true
     (signed-passed _ pre if1.false if2.true (bytes_of _ (λ j. (shared-slice-known.given j).fits)) c.get_signed.ensures)
 
-pub get4-requires : goal.get4-requires
-get4-requires c = float32-room c.requires c.if-k-eq-FLOAT32.true
+pub get-requires-clause-room : goal.get-requires-clause-room
+get-requires-clause-room c = float32-room c.requires c.if-k-eq-FLOAT32.true
 
 pub returns-then-k-eq-FLOAT32 : goal.returns-then-k-eq-FLOAT32
 returns-then-k-eq-FLOAT32 c = let pre = c.requires in
     let if3 = c.if-k-eq-FLOAT32 in
-    float32-value pre if3.true c.get4.ensures.is c.float32_of.result c.float32_of.ensures
+    float32-value pre if3.true c.get.ensures.is c.float32_of.result c.float32_of.ensures
 
-pub get8-requires : goal.get8-requires
-get8-requires c = float64-room c.requires c.if-k-lt-FLOAT32.false c.if-k-eq-FLOAT32.false
+pub get-requires-2-clause-room : goal.get-requires-2-clause-room
+get-requires-2-clause-room c = float64-room c.requires c.if-k-lt-FLOAT32.false c.if-k-eq-FLOAT32.false
 
 pub returns : goal.returns
 returns c = let pre = c.requires in
     let if2 = c.if-k-lt-FLOAT32 in
     let if3 = c.if-k-eq-FLOAT32 in
-    float64-value pre if2.false if3.false c.get8.ensures.is c.float64_of.result c.float64_of.ensures
+    float64-value pre if2.false if3.false c.get-2.ensures.is c.float64_of.result c.float64_of.ensures

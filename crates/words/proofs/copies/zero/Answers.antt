@@ -1,23 +1,16 @@
--- `words::copies::zero` meets its contract: i zeros are written. Assumes nothing.
-use mathlib.Core.Path.{◌≡◌, refl}
-use Prim.Native.Nat.{◌-◌}
+-- `words::copies::zero` meets its contract. Assumes nothing.
+use mathlib.Core.Path.{◌≡◌, ap, ◌∙◌}
+use Prim.Native.Nat.{◌+◌, ◌-◌}
 use native.Mathlib.Omega.{arith}
-use lib.ListN.{length-set}
-use Rattle.words.proofs.Turns.{zero_turn}
+use Rattle.words.specs.Bytes.{part, zeros}
+use Rattle.words.proofs.Runs.{put_mid-sets}
+use lib.ListN.{length, length-replicate}
+use Rattle.words.proofs.Parts.{length_part}
 use Rattle.words.proofs.copies.zero.Goals as goal
 
-pub loop-i-init : goal.loop-i-init
-loop-i-init c = (omega arith, refl, refl)
-
-pub loop-i-preserved : goal.loop-i-preserved
-loop-i-preserved c = let p = c.loop-i.invariant in
-    let a = c.args in
-    (omega arith, simp length-set p.1, rw p.2 (zero_turn a.out.now a.at c.loop-i.i))
-
-pub shape_of-out : goal.shape_of-out
-shape_of-out c = c.loop-i.invariant.1
-
 pub returns : goal.returns
-returns c = let p = c.loop-i.invariant in
-    let e : c.loop-i.i ≡ c.args.n = omega arith in
-    rw e at p.2
+returns c = let a = c.args in
+    let e : a.at + a.n - a.at ≡ a.n = omega arith in
+    let long : length (part a.out.now a.at (a.at + a.n - a.at)) ≡ a.n = length_part a.out.now a.at (a.at + a.n - a.at) (omega arith) ∙ e in
+    let all : c.fill.new.self ≡ zeros a.n = c.fill.ensures.after (λ y h. h) ∙ ap zeros long in
+    rw (all, e) (put_mid-sets a.out.now (zeros a.n) a.at a.n (length-replicate a.n 0) (omega arith))

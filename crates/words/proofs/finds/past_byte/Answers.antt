@@ -1,5 +1,4 @@
 -- `words::finds::past_byte` meets its contract. Assumes nothing.
-use Prim.Native.Nat.{◌-◌}
 use native.Mathlib.Omega.{arith}
 use lib.Bits.{mask_lt}
 use Rattle.words.proofs.Powers.{mask_is}

@@ -3,8 +3,9 @@ use mathlib.Core.Path.{◌≡◌, sym, ◌∙◌}
 use Prim.Native.Nat.{◌%◌}
 use native.Mathlib.Omega.{arith}
 use lib.Bits.{mask_lt}
+use borrow.Author.Tests.{eq-eqb}
 use Rattle.words.proofs.Powers.{mask_is}
-use Rattle.words.proofs.Numbers.{bytes_of}
+use Rattle.words.proofs.Numbers.{slice-bytes}
 use Rattle.words.proofs.Turns.{past-none, past_word}
 use Rattle.words.proofs.nulls.past_clear.Goals as goal
 use Rattle.words.proofs.nulls.past_clear.Goals.{Else-r-eq0}
@@ -15,20 +16,20 @@ some c z = c.if-r-eq0.false (mask_is c.args.n 6 ∙ z)
 pub returns-then-r-eq0 : goal.returns-then-r-eq0
 returns-then-r-eq0 c = let a = c.args in
     let pre = c.requires in
-    let h = bytes_of a.b.now (λ i. (c.shared_slice_known-1.given i).fits) in
-    past-none a.n a.end h pre.0 pre.1 (sym (mask_is a.n 6) ∙ c.if-r-eq0.true)
+    let h = slice-bytes c.type_inv.b in
+    eq-eqb _ 0 c.if-r-eq0.true ∙ past-none a.n a.end h pre.0 pre.1 (sym (mask_is a.n 6) ∙ c.if-r-eq0.true)
 
 pub overflow_sub-end : goal.overflow_sub-end
 overflow_sub-end c = omega (arith, some (goal.at.overflow_sub-end c).Else-r-eq0)
 
-pub get8-requires : goal.get8-requires
-get8-requires c = omega (arith, some (goal.at.get8-requires c).Else-r-eq0)
+pub get-requires-clause-room : goal.get-requires-clause-room
+get-requires-clause-room c = omega (arith, some (goal.at.get-requires-clause-room c).Else-r-eq0)
 
 pub overflow_shr-result : goal.overflow_shr-result
 overflow_shr-result c = mask_lt c.args.n 6
 
-pub returns : goal.returns
-returns c = let a = c.args in
+pub returns-else-r-eq0 : goal.returns-else-r-eq0
+returns-else-r-eq0 c = let a = c.args in
     let pre = c.requires in
-    let h = bytes_of a.b.now (λ i. (c.shared_slice_known-1.given i).fits) in
-    rw (mask_is a.n 6) (past_word a.n a.end h pre.0 pre.1 (some (goal.at.returns c).Else-r-eq0) c.get8.result c.get8.ensures.is)
+    let h = slice-bytes c.type_inv.b in
+    rw (mask_is a.n 6) (past_word a.n a.end h pre.0 pre.1 (some (goal.at.returns-else-r-eq0 c).Else-r-eq0) c.get.result c.get.ensures.is)

@@ -4,7 +4,7 @@ use Prim.Native.Nat.{ℕ, ◌+◌, ◌*◌, ◌%◌, ◌^◌}
 use native.Mathlib.Omega.{arith}
 use lib.Bits.{bit_and}
 use Rattle.words.proofs.Powers.{mask_is}
-use Rattle.words.proofs.Numbers.{bytes_of}
+use Rattle.words.proofs.Numbers.{slice-bytes}
 use Rattle.words.proofs.Turns.{pad-word}
 use Rattle.words.proofs.sizes.pad_clear.Goals as goal
 
@@ -17,5 +17,5 @@ overflow_shr-result c = rw (shift c.args.end) (omega arith)
 pub returns : goal.returns
 returns c = let a = c.args in
     let pre = c.requires in
-    let h = bytes_of a.b.now (λ i. (c.shared_slice_known-1.given i).fits) in
-    pad-word a.end a.next c.get8.result _ h pre.3 pre.0 pre.1 c.get8.ensures.is (shift a.end)
+    let h = slice-bytes c.type_inv.b in
+    pad-word a.end a.next c.get.result _ h pre.3 pre.0 pre.1 c.get.ensures.is (shift a.end)

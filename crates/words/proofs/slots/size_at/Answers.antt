@@ -3,4 +3,4 @@ use native.Mathlib.Omega.{arith}
 use Rattle.words.proofs.slots.size_at.Goals as goal
 
 pub returns : goal.returns
-returns c = record { is = rw (← c.get8.ensures.is) c.slot_size.ensures; below = omega (arith, c.get8.ensures.below) }
+returns c = record { is = rw (← c.get.ensures.is) c.slot_size.ensures; below = omega (arith, c.get.ensures.below) }

@@ -7,4 +7,4 @@ use Rattle.words.proofs.texts.ascii8.Goals as goal
 pub returns : goal.returns
 returns c e =
     let a = c.args in
-    word-ascii a.at c.get8.result (slice-bytes c.shared_slice_known-1.given) c.requires c.get8.ensures.is (eqb-true _ 0 e)
+    word-ascii a.at c.get.result (slice-bytes c.type_inv.b) c.requires c.get.ensures.is (eqb-true _ 0 e)

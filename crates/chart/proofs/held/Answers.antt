@@ -1,9 +1,0 @@
--- `chart::held` meets its contract. Assumes nothing.
-use borrow.Author.Tests.{lt-ltb, le-ltb}
-use Rattle.chart.proofs.held.Goals as goal
-
-pub returns-then-n-lt16 : goal.returns-then-n-lt16
-returns-then-n-lt16 c = rw (lt-ltb _ _ c.if-n-lt16.true)
-
-pub returns-else-n-lt16 : goal.returns-else-n-lt16
-returns-else-n-lt16 c = rw (le-ltb _ _ c.if-n-lt16.false)
