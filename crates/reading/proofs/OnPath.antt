@@ -232,6 +232,12 @@ module _ {t row : List ℕ} {path : Path} {from at : Place} {k : ℕ} (S : OnSte
     goes : walked t row from (path_of path) ≡ onward (drop (suc k) (path_of path)) (next_as t row r)
     goes = S.walk.same ∙ rw (step-on path k S.more i q, m.means) (walk-on i _ _ _ _ _ S.stands.holds)
 
+    pub walk-nowhere : r ≡ Err F.NoPlace → Goes t row from (path_of path) (Err F.NoPlace)
+    unfolding found_as next_as
+    walk-nowhere u =
+        let w : walked t row from (path_of path) ≡ bad (numbered 5) = goes ∙ rw u (on-stop _ (numbered 5)) in
+        record { means = rw w (five-seen (type_on (path_of path) (place_ty t from))); tells = tt; lands = tt }
+
     pub walk-stops : {j : Answered} → r ≡ Err j → {f : Answered} → f ≡ or_no_place (is_on t at.opened path k) j → Goes t row from (path_of path) (Err f)
     unfolding found_as next_as
     walk-stops {j} u e = refused S.walk _ e (sym (goes ∙ rw u (on-stop _ (refusal_means j))))

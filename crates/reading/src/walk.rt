@@ -51,6 +51,9 @@ pub fn along(t: &[u64], row: &[u8], from: Place, path: Path) -> Result<Found, Re
         }
         let i = path.steps[k] as usize;
         match steps::step(t, row, at, i) {
+            Err(Refusal::NoPlace) => {
+                return Err(Refusal::NoPlace);
+            }
             Err(r) => {
                 return Err(refused(t, at.opened, path, k, r));
             }

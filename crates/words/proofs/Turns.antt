@@ -3,11 +3,11 @@ use mathlib.Core.Path.{◌≡◌, refl, sym, ap, ap₂, ◌∙◌, subst}
 use mathlib.Core.Bool.{true}
 use mathlib.Core.Logic.{⊎_elim}
 use mathlib.Core.List.{List, [], ◌∷◌, ◌++◌}
-use Prim.Native.Nat.{ℕ, ◌+◌, ◌-◌, ◌*◌, ◌/◌, ◌%◌, ◌^◌, ◌≤◌, ◌<◌}
-use native.Mathlib.Nat.{pow-suc, div-div-eq-div-mul, div-eq_of_lt, mod-lt, mul-le-mul_right}
+use Prim.Native.Nat.{ℕ, suc, ◌+◌, ◌-◌, ◌*◌, ◌/◌, ◌%◌, ◌^◌, ◌≤◌, ◌<◌}
+use native.Mathlib.Nat.{pow-suc, div-div-eq-div-mul, div-eq_of_lt, lt_of_lt_of_le, pow-le-pow_right, mod-lt, mul-le-mul_right}
 use native.Mathlib.Numerals.{add-one}
 use native.Mathlib.Omega.{arith}
-use lib.Dec.{eqb, ltb, lit<}
+use lib.Dec.{eqb, ltb, lit<, lit≤}
 use lib.ListN.{length, get_or, set}
 use lib.Seq.{sets}
 use lib.Arith.{digits_lt}
@@ -18,7 +18,7 @@ use Rattle.words.proofs.Powers.{mask_is}
 use Rattle.words.specs.Bytes.{Bytes, le, num, part, bitmap, pad}
 use Rattle.words.specs.Reads.{Reads}
 use Rattle.words.proofs.Numbers.{length-le, byte_at}
-use Rattle.words.proofs.Parts.{lt-or-le, length_part, part-snoc}
+use Rattle.words.proofs.Parts.{lt-or-le, length_part, part-cons, part-snoc}
 use Rattle.words.proofs.Runs.{set-sets}
 use Rattle.words.proofs.NumLaws.{pow256, part-lt, num-part, num-high, num-one, num-snoc, le-snoc}
 
@@ -59,6 +59,21 @@ puts-next b l at n v x e f =
 pub reads_none : (b : List ℕ) (at k : ℕ) → k ≡ 0 → Reads b at k 0
 unfolding num
 reads_none b at k e = rw e (record { is = refl; below = lit< tt })
+
+-- a read from the top down
+module _ {b : List ℕ} (at i k r x : ℕ) (h : Bytes b) (p : 0 < i) (q : i ≤ k) (small : k ≤ 8) (fits : at + k ≤ length b) where
+  pub reads-turn : Reads b (at + i) (k - i) r → x ≡ get_or b (at + (i - 1)) 0 → Reads b (at + (i - 1)) (k - (i - 1)) (bit_or (r * 2 ^ 8 % 2 ^ 64) x)
+  unfolding num
+  reads-turn w e =
+      let j = at + (i - 1) in
+      let less : k - i ≤ 7 = omega arith in
+      let low : r < 2 ^ 56 = lt_of_lt_of_le w.below (pow-le-pow_right {n = 256} (lit< tt) less) in
+      let one : x < 2 ^ 8 = rw e (byte_at h j) in
+      let up : k - (i - 1) ≡ suc (k - i) = omega arith in
+      let on : suc j ≡ at + i = omega arith in
+      let sum : bit_or (r * 2 ^ 8 % 2 ^ 64) x ≡ num (part b j (k - (i - 1))) =
+      shl-or 56 8 64 low one (lit≤ tt) ∙ rw (up, part-cons b j (k - i) (omega arith), on, ← e, ← w.is) (omega arith) in
+      record { is = sum; below = rw sum (part-lt j (k - (i - 1)) h (omega arith)) }
 
 -- one byte further on in a number
 pub div-next : (v i : ℕ) → v / 256 ^ i / 256 ≡ v / 256 ^ (i + 1)

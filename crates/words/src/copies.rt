@@ -7,7 +7,9 @@ pub fn copy(out: &mut [u8], at: usize, src: &[u8], from: usize, n: usize)
     requires { (at + n ≤ length out.old) × (from + n ≤ length src.now) }
     ensures { out.new ≡ sets out.old at (part src.now from n) }
 {
-    out[at..at + n].copy_from_slice(&src[from..from + n]);
+    for i in 0..n {
+        out[at + i] = src[from + i];
+    }
 }
 
 pub fn zero(out: &mut [u8], at: usize, n: usize)

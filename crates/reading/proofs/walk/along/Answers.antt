@@ -1,7 +1,7 @@
 -- `reading::walk::along` meets its contract. Assumes nothing.
-use Rattle.std.proofs.Common.{refl, ap, ◌∙◌, Ok}
+use Rattle.std.proofs.Common.{refl, ap, ◌∙◌, Ok, Err}
 use Rattle.reading.proofs.OnPath.{walk_start, walk-asked, walk-fails, walk-done, at-step, step_fits}
-use Rattle.reading.proofs.OnPath.{walk-stops, walk-null, walk-under, walk-to}
+use Rattle.reading.proofs.OnPath.{walk-nowhere, walk-stops, walk-null, walk-under, walk-to}
 use Rattle.reading.proofs.walk.along.Goals as goal
 
 pub loop-place-init : goal.loop-place-init
@@ -25,6 +25,11 @@ returns-then-n-k c = let loop = c.loop-place in
 
 pub step-requires : goal.step-requires
 step-requires c = (at-step c.loop-place.invariant c.holds.ensures c.if-not-holds.false-raw c.if-n-k.false).stands
+
+pub returns-in-Err-NoPlace : goal.returns-in-Err-NoPlace
+returns-in-Err-NoPlace c =
+    walk-nowhere (at-step c.loop-place.invariant c.holds.ensures c.if-not-holds.false-raw c.if-n-k.false) refl c.step.ensures
+    (c.in-Err-NoPlace.is ∙ ap Err c.in-Err-NoPlace.field-0-is)
 
 pub refused-requires-in-Err : goal.refused-requires-in-Err
 refused-requires-in-Err c = walk-asked c.loop-place.invariant
